@@ -1,0 +1,4 @@
+-- The laws of the definitions in specs/, each stated once: `Tests` of Bools, `Choices` of `any` and `keep`, `NodeLaws` of how two nodes lie,
+-- `WordLaws` of nodes in words.
+pub mod Tests
+pub mod WordLaws

@@ -1,0 +1,69 @@
+-- Four words more are one node more, so an index of the nodes is four times that index of the words.
+-- A node read one word off, or written over its neighbour, falls here.
+use mathlib.Core.Path.{_≡_, refl, ap, sym, _∙_}
+use mathlib.Core.Bool.{cond}
+use mathlib.Core.List.{List, [], _∷_}
+use Prim.Native.Nat.{ℕ, zero, suc, _+_, _*_, _/_, _≤_, _<_}
+use native.Mathlib.Omega.{arith}
+use native.Mathlib.Nat.{not-suc-le-zero, le-of-suc-le-suc}
+use lib.ListN.{length, getD, set}
+use lib.Seq.{sets, length-sets}
+use mathlib.Core.Logic.{inl, inr}
+use lib.Dec.{ltb}
+use borrow.Author.Tests.{lt-ltb}
+use Rattle.nodes.specs.declared.node.Node.{Node}
+use Rattle.nodes.specs.Words.{node, nodes, count, nodeAt, wordsOf, putNode}
+use Rattle.nodes.proofs.Tests.{either}
+
+pub length-nodes : (ws : List ℕ) → length (nodes ws) ≡ count ws
+unfolding nodes
+length-nodes [] = refl
+length-nodes (d ∷ []) = refl
+length-nodes (d ∷ s ∷ []) = refl
+length-nodes (d ∷ s ∷ e ∷ []) = refl
+length-nodes (d ∷ s ∷ e ∷ l ∷ ws) = let h = length-nodes ws in omega arith
+
+beyond : (d s e l : ℕ) (ws : List ℕ) {k m : ℕ} → m ≡ suc (suc (suc (suc k))) → getD (d ∷ s ∷ e ∷ l ∷ ws) m 0 ≡ getD ws k 0
+beyond d s e l ws q = rw q
+
+-- a node's words are those at four times its index
+pub node-words : (ws : List ℕ) (i : ℕ) → i < count ws
+    → nodeAt ws i ≡ node (getD ws (4 * i) 0) (getD ws (4 * i + 1) 0) (getD ws (4 * i + 2) 0) (getD ws (4 * i + 3) 0)
+unfolding nodes nodeAt
+node-words [] i h = absurd (not-suc-le-zero h)
+node-words (d ∷ []) i h = absurd (not-suc-le-zero h)
+node-words (d ∷ s ∷ []) i h = absurd (not-suc-le-zero h)
+node-words (d ∷ s ∷ e ∷ []) i h = absurd (not-suc-le-zero h)
+node-words (d ∷ s ∷ e ∷ l ∷ ws) zero h = refl
+node-words (d ∷ s ∷ e ∷ l ∷ ws) (suc i) h =
+    node-words ws i (omega arith)
+    ∙ λ k. node
+    (sym (beyond d s e l ws {k = 4 * i} {m = 4 * suc i} (omega arith)) k)
+    (sym (beyond d s e l ws {k = 4 * i + 1} {m = 4 * suc i + 1} (omega arith)) k)
+    (sym (beyond d s e l ws {k = 4 * i + 2} {m = 4 * suc i + 2} (omega arith)) k)
+    (sym (beyond d s e l ws {k = 4 * i + 3} {m = 4 * suc i + 3} (omega arith)) k)
+
+-- four stores past the first node are stores into the rest
+past : (d s e l : ℕ) (ws : List ℕ) {k m : ℕ} (vs : List ℕ) → m ≡ suc (suc (suc (suc k))) → sets (d ∷ s ∷ e ∷ l ∷ ws) m vs ≡ d ∷ s ∷ e ∷ l ∷ sets ws k vs
+past d s e l ws [] q = refl
+past d s e l ws {k} (v ∷ vs) q = rw q (past d s e l (set ws k v) vs refl)
+
+-- storing a node's four words at four times its index stores the node there
+stored : (ws : List ℕ) (i : ℕ) (n : Node) → i < count ws → nodes (sets ws (4 * i) (wordsOf n)) ≡ set (nodes ws) i n
+unfolding nodes wordsOf
+stored [] i n h = absurd (not-suc-le-zero h)
+stored (d ∷ []) i n h = absurd (not-suc-le-zero h)
+stored (d ∷ s ∷ []) i n h = absurd (not-suc-le-zero h)
+stored (d ∷ s ∷ e ∷ []) i n h = absurd (not-suc-le-zero h)
+stored (d ∷ s ∷ e ∷ l ∷ ws) zero n h = refl
+stored (d ∷ s ∷ e ∷ l ∷ ws) (suc i) n h =
+    ap nodes (past d s e l ws {k = 4 * i} {m = 4 * suc i} (wordsOf n) (omega arith)) ∙ ap (λ ns. node d s e l ∷ ns) (stored ws i n (omega arith))
+
+pub nodes-put : (ws : List ℕ) (i : ℕ) (n : Node) → i < count ws → nodes (putNode ws i n) ≡ set (nodes ws) i n
+unfolding putNode
+nodes-put ws i n h = rw (lt-ltb i (count ws) h) (stored ws i n h)
+
+-- writing a node leaves the number of words
+pub length-put : (ws : List ℕ) (i : ℕ) (n : Node) → length (putNode ws i n) ≡ length ws
+unfolding putNode
+length-put ws i n = elim (either (ltb i (count ws))) [ inl h ↦ rw h (length-sets ws (4 * i) (wordsOf n)) | inr h ↦ rw h refl ]

@@ -1,0 +1,96 @@
+-- Below the number of nodes the four stores are `putNode`'s, and from there on neither writes anything.
+-- A word stored one off falls at the last return, an index too large at a store.
+use Prim.Native.Nat.{ℕ, _+_, _*_, _≤_, _<_}
+use native.Mathlib.Omega.{arith}
+use native.Mathlib.Numerals.{towards-suc}
+use lib.ListN.{set, length-set}
+use mathlib.Core.Path.{_≡_}
+use mathlib.Core.List.{List}
+use borrow.Author.Tests.{lt-ltb, le-ltb}
+use Rattle.nodes.specs.declared.node.Node.{Node}
+use Rattle.nodes.specs.Words.{count, wordsOf, putNode}
+use borrow.Author.Needs.{needs}
+use Rattle.nodes.proofs.node.put_node.Statement.{statement}
+use Rattle.nodes.proofs.node.put_node.Tie as tie
+
+none : (ws : List ℕ) (i : ℕ) (n : Node) → count ws ≤ i → ws ≡ putNode ws i n
+unfolding putNode
+none ws i n h = rw (le-ltb _ _ h)
+
+four : (ws : List ℕ) (i : ℕ) (n : Node) → i < count ws
+    → set (set (set (set ws (4 * i) (n .document)) (4 * i + 1) (n .start)) (4 * i + 2) (n .end)) (4 * i + 3) (n .level) ≡ putNode ws i n
+unfolding putNode wordsOf
+four ws i n h = rw (lt-ltb _ _ h) (simp towards-suc)
+
+node-count-requires : tie.Need-node-count-requires
+node-count-requires c κs = search needs
+
+same-length : tie.Need-same-length
+same-length c = search needs
+
+returns : tie.Need-returns
+returns c = none _ _ _ (omega arith)
+
+mul-at : tie.Need-mul-at
+mul-at c = search needs
+
+mul-words : tie.Need-mul-words
+mul-words c = search needs
+
+slice-write-words : tie.Need-slice-write-words
+slice-write-words c = search needs
+
+add-words : tie.Need-add-words
+add-words c = search needs
+
+mul-words-2 : tie.Need-mul-words-2
+mul-words-2 c = search needs
+
+slice-write-words-2 : tie.Need-slice-write-words-2
+slice-write-words-2 c = simp length-set (omega arith)
+
+add-words-2 : tie.Need-add-words-2
+add-words-2 c = search needs
+
+mul-words-3 : tie.Need-mul-words-3
+mul-words-3 c = search needs
+
+slice-write-words-3 : tie.Need-slice-write-words-3
+slice-write-words-3 c = simp length-set (omega arith)
+
+add-words-3 : tie.Need-add-words-3
+add-words-3 c = search needs
+
+mul-words-4 : tie.Need-mul-words-4
+mul-words-4 c = search needs
+
+slice-write-words-4 : tie.Need-slice-write-words-4
+slice-write-words-4 c = simp length-set (omega arith)
+
+same-length-2 : tie.Need-same-length-2
+same-length-2 c = simp length-set
+
+returns-2 : tie.Need-returns-2
+returns-2 c = four _ _ _ (omega arith)
+
+pub put-node-spec : {M : Type 1} → statement M
+put-node-spec =
+    tie.close
+    (tie.spec
+    node-count-requires
+    same-length
+    returns
+    mul-at
+    mul-words
+    slice-write-words
+    add-words
+    mul-words-2
+    slice-write-words-2
+    add-words-2
+    mul-words-3
+    slice-write-words-3
+    add-words-3
+    mul-words-4
+    slice-write-words-4
+    same-length-2
+    returns-2)

@@ -1,0 +1,29 @@
+-- Document 01, "Nodes and lists": how two nodes lie to one another.
+use mathlib.Core.Bool.{Bool, _&&_, _||_}
+use Prim.Native.Nat.{_+_}
+use lib.Dec.{ltb, leb, eqb}
+use Rattle.nodes.specs.declared.node.Node.{Node}
+
+-- y is inside x
+unfoldable pub insideb : Node → Node → Bool
+insideb y x = eqb (y .document) (x .document) && (ltb (x .start) (y .start) && ltb (y .end) (x .end))
+
+-- y is directly inside x
+unfoldable pub directlyb : Node → Node → Bool
+directlyb y x = insideb y x && eqb (y .level) (x .level + 1)
+
+-- x and y, of one document, are apart: one ends before the other starts
+unfoldable pub apartb : Node → Node → Bool
+apartb x y = ltb (x .end) (y .start) || ltb (y .end) (x .start)
+
+-- y stands after x: (document, start) of y is strictly after that of x
+unfoldable pub afterb : Node → Node → Bool
+afterb y x = ltb (x .document) (y .document) || (eqb (y .document) (x .document) && ltb (x .start) (y .start))
+
+-- e is open at n: it is of n's document, and has e.end ≥ n.start
+unfoldable pub openb : Node → Node → Bool
+openb n e = eqb (e .document) (n .document) && leb (n .start) (e .end)
+
+-- x and y are identical in all four words
+unfoldable pub sameb : Node → Node → Bool
+sameb x y = eqb (x .document) (y .document) && (eqb (x .start) (y .start) && (eqb (x .end) (y .end) && eqb (x .level) (y .level)))

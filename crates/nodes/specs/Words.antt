@@ -1,0 +1,39 @@
+-- Document 01, "Nodes and lists": a list of nodes is a list of words, four a node, node after node.
+use Prim.Native.Nat.{ℕ, _+_, _*_, _/_}
+use mathlib.Core.Bool.{cond}
+use mathlib.Core.List.{List, [], _∷_}
+use lib.Dec.{ltb}
+use lib.ListN.{length, getD}
+use lib.Seq.{sets}
+use Rattle.nodes.specs.declared.node.Node.{Node}
+
+abbrev pub node : ℕ → ℕ → ℕ → ℕ → Node
+node document start end level = record { document = document; start = start; end = end; level = level }
+
+-- how many words a node takes
+abbrev pub NODE-WORDS : ℕ
+NODE-WORDS = 4
+
+-- the whole nodes of the words; words that make no whole node are left over
+unfoldable pub nodes : List ℕ → List Node
+nodes [] = []
+nodes (d ∷ []) = []
+nodes (d ∷ s ∷ []) = []
+nodes (d ∷ s ∷ e ∷ []) = []
+nodes (d ∷ s ∷ e ∷ l ∷ words) = node d s e l ∷ nodes words
+
+-- how many whole nodes the words make
+abbrev pub count : List ℕ → ℕ
+count words = length words / NODE-WORDS
+
+-- the node at an index, or zeros where there is none
+unfoldable pub nodeAt : List ℕ → ℕ → Node
+nodeAt words index = getD (nodes words) index (node 0 0 0 0)
+
+-- the words of a node
+unfoldable pub wordsOf : Node → List ℕ
+wordsOf n = n .document ∷ n .start ∷ n .end ∷ n .level ∷ []
+
+-- the words with the node at an index replaced; unaltered where there is none
+unfoldable pub putNode : List ℕ → ℕ → Node → List ℕ
+putNode words index n = cond (ltb index (count words)) (sets words (NODE-WORDS * index) (wordsOf n)) words

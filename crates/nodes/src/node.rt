@@ -1,0 +1,112 @@
+// A node of a document, how it is read out of a list of words, and how two nodes lie to one another.
+ghost use mathlib.Core.Path.{_≡_};
+ghost use Rattle.nodes.specs.Node.{insideb, afterb, openb, sameb};
+ghost use Rattle.nodes.specs.Words.{nodeAt, putNode, count};
+
+// How many words a node takes in a list.
+pub const NODE_WORDS: usize = 4;
+
+// The greatest level; so no more than this many nodes lie one inside the other.
+pub const MOST_LEVELS: usize = 64;
+
+// The most nodes, rows or marks that one list may have.
+pub const MOST_NODES: usize = 4096;
+
+// An element or a text of a document: where it starts and ends there, and how deep it stands.
+pub struct Node {
+    pub document: u32,
+    pub start: u32,
+    pub end: u32,
+    pub level: u32,
+}
+
+// The caller learns whether y is inside x: of its document, starting after it and ending before it.
+pub fn is_inside(y: Node, x: Node) -> bool
+    ensures { λ r. ⌜ r ≡ insideb y x ⌝ }
+{
+    if y.document != x.document {
+        return false;
+    }
+    if y.start <= x.start {
+        return false;
+    }
+    y.end < x.end
+}
+
+// The caller learns whether y stands after x: in a later document, or later in the same one.
+pub fn is_after(y: Node, x: Node) -> bool
+    ensures { λ r. ⌜ r ≡ afterb y x ⌝ }
+{
+    if y.document != x.document {
+        return x.document < y.document;
+    }
+    x.start < y.start
+}
+
+// The caller learns whether e is still open at n: it is of n's document and does not end before n starts.
+pub fn is_open(n: Node, e: Node) -> bool
+    ensures { λ r. ⌜ r ≡ openb n e ⌝ }
+{
+    if e.document != n.document {
+        return false;
+    }
+    n.start <= e.end
+}
+
+// The caller learns whether x and y are identical in all four words.
+pub fn is_same(x: Node, y: Node) -> bool
+    ensures { λ r. ⌜ r ≡ sameb x y ⌝ }
+{
+    if x.document != y.document {
+        return false;
+    }
+    if x.start != y.start {
+        return false;
+    }
+    if x.end != y.end {
+        return false;
+    }
+    x.level == y.level
+}
+
+// The caller gets the number of whole nodes in the words.
+pub fn node_count(words: &[u32]) -> usize
+    ensures { λ r. ⌜ r ≡ count (now (words .entry)) ⌝ }
+{
+    words.len() / NODE_WORDS
+}
+
+// The caller gets the node at an index of the list, or a node of zeros where the list has none there.
+pub fn node_at(words: &[u32], index: usize) -> Node
+    ensures { λ r. ⌜ r ≡ nodeAt (now (words .entry)) index ⌝ }
+{
+    if node_count(words) <= index {
+        return Node {
+            document: 0,
+            start: 0,
+            end: 0,
+            level: 0,
+        };
+    }
+    let at = NODE_WORDS * index;
+    Node {
+        document: words[at],
+        start: words[at + 1],
+        end: words[at + 2],
+        level: words[at + 3],
+    }
+}
+
+// The list's node at an index becomes the given one; where the list has none there, no word changes.
+pub fn put_node(words: &mut [u32], index: usize, node: Node)
+    ensures { λ r. ⌜ now (words .exit) ≡ putNode (now (words .entry)) index node ⌝ }
+{
+    if node_count(words) <= index {
+        return;
+    }
+    let at = NODE_WORDS * index;
+    words[at] = node.document;
+    words[at + 1] = node.start;
+    words[at + 2] = node.end;
+    words[at + 3] = node.level;
+}
