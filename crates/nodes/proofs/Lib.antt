@@ -1,4 +1,6 @@
 -- The laws of the definitions in specs/, each stated once: `Tests` of Bools, `Choices` of `any` and `keep`, `NodeLaws` of how two nodes lie,
 -- `WordLaws` of nodes in words.
+pub mod Choices
+pub mod NodeLaws
 pub mod Tests
 pub mod WordLaws

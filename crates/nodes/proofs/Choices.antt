@@ -1,0 +1,51 @@
+-- `any` and `keep` go along a list once, so each fact is one short recursion.
+-- Nothing here knows a node; a test that passed over an element would fall here.
+use mathlib.Core.Path.{_≡_, refl, ap, _∙_, sym}
+use mathlib.Core.Logic.{_⊎_, inl, inr}
+use mathlib.Core.Bool.{Bool, true, false, cond, _||_}
+use mathlib.Core.List.{List, [], _∷_}
+use Rattle.nodes.specs.Choose.{any, keep}
+use Rattle.nodes.proofs.Tests.{either, never, not-so, or-left, or-right, or-read, or-none}
+
+-- P holds of every element
+abbrev pub All : {A : Type 0} → (A → Type 0) → List A → Type 0
+All P [] = Unit {0}
+All P (x ∷ xs) = P x × All P xs
+
+module _ {A : Type 0} where
+  pub all-map : {P Q : A → Type 0} → ((x : A) → P x → Q x) → (xs : List A) → All P xs → All Q xs
+  all-map f [] h = tt
+  all-map f (x ∷ xs) h = (f x (h .0), all-map f xs (h .1))
+
+  -- no element passes a test that fails of the list
+  pub any-none : (test : A → Bool) (xs : List A) → any test xs ≡ false → All (λ x. test x ≡ false) xs
+  unfolding any
+  any-none test [] h = tt
+  any-none test (x ∷ xs) h = let p = or-none (test x) h in (p .0, any-none test xs (p .1))
+
+  pub none-any : (test : A → Bool) (xs : List A) → All (λ x. test x ≡ false) xs → any test xs ≡ false
+  unfolding any
+  none-any test [] h = refl
+  none-any test (x ∷ xs) h = rw (h .0) (none-any test xs (h .1))
+
+  -- a test on lists that asks whether anything is left of the elements that pass
+  some : List A → Bool
+  some [] = false
+  some (x ∷ xs) = true
+
+  any-kept : (test : A → Bool) (xs : List A) → any test xs ≡ some (keep test xs)
+  unfolding any keep some
+  any-kept test [] = refl
+  any-kept test (x ∷ xs) = elim (either (test x)) [ inl h ↦ rw h refl | inr h ↦ rw h (any-kept test xs) ]
+
+  -- lists of which the same elements pass have the same answer
+  pub any-same : (test : A → Bool) (xs ys : List A) → keep test xs ≡ keep test ys → any test xs ≡ any test ys
+  any-same test xs ys h = any-kept test xs ∙ ap some h ∙ sym (any-kept test ys)
+
+  pub keep-passed : (test : A → Bool) (x : A) (xs : List A) → test x ≡ true → keep test (x ∷ xs) ≡ x ∷ keep test xs
+  unfolding keep
+  keep-passed test x xs h = rw h
+
+  pub keep-failed : (test : A → Bool) (x : A) (xs : List A) → test x ≡ false → keep test (x ∷ xs) ≡ keep test xs
+  unfolding keep
+  keep-failed test x xs h = rw h

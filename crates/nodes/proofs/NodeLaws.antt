@@ -1,0 +1,143 @@
+-- Each test of two nodes is a test of their numbers; here it becomes the facts about those numbers, and only here is `insideb` opened.
+-- A changed test of document 01 is proved again here and nowhere else.
+use mathlib.Core.Path.{_≡_, refl, sym, _∙_}
+use mathlib.Core.Logic.{_⊎_, inl, inr, ⊎-elim}
+use mathlib.Core.Bool.{Bool, true, false, not, _&&_, _||_}
+use Prim.Native.Nat.{ℕ, suc, _+_, _≤_, _<_}
+use native.Mathlib.Omega.{arith}
+use native.Mathlib.Nat.{lt-trans, lt-irrefl}
+use lib.Dec.{ltb, leb, eqb}
+use borrow.Author.Tests.{ltb-true, ltb-false, leb-true, leb-false, eqb-true, eqb-false, lt-ltb, le-ltb, le-leb, lt-leb, eq-eqb, ne-eqb}
+use Rattle.nodes.specs.declared.node.Node.{Node}
+use Rattle.nodes.specs.Node.{insideb, directlyb, apartb, afterb, openb, sameb}
+use Rattle.nodes.proofs.Tests.{either, never, not-so, and-read, and-make, or-read, or-left, or-right, or-none}
+
+-- what every layer above knows of a node inside another
+pub record Within (y x : Node) : Type 0 where
+  pub document : y .document ≡ x .document
+  pub start : x .start < y .start
+  pub end : y .end ≤ x .end
+
+pub within : (y x : Node) → insideb y x ≡ true → Within y x
+unfolding insideb
+within y x h =
+    let p = and-read (eqb (y .document) (x .document)) h in
+    let q = and-read (ltb (x .start) (y .start)) (p .1) in
+    let s : x .start < y .start = ltb-true _ _ (q .0) in
+    let e : y .end < x .end = ltb-true _ _ (q .1) in
+    record { document = eqb-true _ _ (p .0); start = s; end = omega arith }
+
+-- the facts that make a node inside another
+inside-make : (y x : Node) → y .document ≡ x .document → x .start < y .start → y .end < x .end → insideb y x ≡ true
+unfolding insideb
+inside-make y x d s e = rw (eq-eqb _ _ d, lt-ltb _ _ s, lt-ltb _ _ e)
+
+ends-before : (y x : Node) → insideb y x ≡ true → y .end < x .end
+unfolding insideb
+ends-before y x h = ltb-true _ _ (and-read (ltb (x .start) (y .start)) (and-read (eqb (y .document) (x .document)) h .1) .1)
+
+pub inside-trans : (z y x : Node) → insideb z y ≡ true → insideb y x ≡ true → insideb z x ≡ true
+inside-trans z y x h k =
+    let p = within z y h in
+    let q = within y x k in
+    let e = ends-before z y h in
+    let f = ends-before y x k in
+    inside-make z x (omega arith) (omega arith) (omega arith)
+
+-- a node isn't inside itself
+pub inside-self : (x : Node) → insideb x x ≡ false
+inside-self x = not-so (λ h. lt-irrefl _ (within x x h .start))
+
+pub directly-inside : (y x : Node) → directlyb y x ≡ true → (insideb y x ≡ true) × (y .level ≡ x .level + 1)
+unfolding directlyb
+directly-inside y x h = let p = and-read (insideb y x) h in (p .0, eqb-true _ _ (p .1))
+
+pub apart-read : (x y : Node) → apartb x y ≡ true → (x .end < y .start) ⊎ (y .end < x .start)
+unfolding apartb
+apart-read x y h = ⊎-elim (λ p. inl (ltb-true _ _ p)) (λ p. inr (ltb-true _ _ p)) (or-read (ltb (x .end) (y .start)) h)
+
+pub apart-ahead : (x y : Node) → x .end < y .start → apartb x y ≡ true
+unfolding apartb
+apart-ahead x y h = or-left _ (lt-ltb _ _ h)
+
+pub apart-behind : (x y : Node) → y .end < x .start → apartb x y ≡ true
+unfolding apartb
+apart-behind x y h = or-right (ltb (x .end) (y .start)) (lt-ltb _ _ h)
+
+pub after-read : (y x : Node) → afterb y x ≡ true → (x .document < y .document) ⊎ ((y .document ≡ x .document) × (x .start < y .start))
+unfolding afterb
+after-read y x h =
+    ⊎-elim (λ p. inl (ltb-true _ _ p))
+    (λ p. let q = and-read (eqb (y .document) (x .document)) p in inr (eqb-true _ _ (q .0), ltb-true _ _ (q .1)))
+    (or-read (ltb (x .document) (y .document)) h)
+
+pub after-document : (y x : Node) → x .document < y .document → afterb y x ≡ true
+unfolding afterb
+after-document y x h = or-left _ (lt-ltb _ _ h)
+
+pub after-start : (y x : Node) → y .document ≡ x .document → x .start < y .start → afterb y x ≡ true
+unfolding afterb
+after-start y x d h = or-right (ltb (x .document) (y .document)) (rw (eq-eqb _ _ d, lt-ltb _ _ h))
+
+pub after-trans : (z y x : Node) → afterb z y ≡ true → afterb y x ≡ true → afterb z x ≡ true
+after-trans z y x h k =
+    ⊎-elim (λ p. ⊎-elim (λ q. after-document z x (omega arith)) (λ q. after-document z x (omega arith)) (after-read y x k))
+    (λ p. ⊎-elim (λ q. after-document z x (omega arith)) (λ q. after-start z x (omega arith) (omega arith)) (after-read y x k))
+    (after-read z y h)
+
+pub after-self : (x : Node) → afterb x x ≡ false
+after-self x = not-so (λ h. ⊎-elim (λ p. omega arith) (λ p. omega arith) (after-read x x h))
+
+-- of two nodes one stands after the other, or both have one document and start
+pub after-none : (y x : Node) → afterb y x ≡ false → afterb x y ≡ false → (y .document ≡ x .document) × (y .start ≡ x .start)
+unfolding afterb
+after-none y x h k =
+    let p = or-none (ltb (x .document) (y .document)) h in
+    let q = or-none (ltb (y .document) (x .document)) k in
+    let below : y .document ≤ x .document = ltb-false _ _ (p .0) in
+    let above : x .document ≤ y .document = ltb-false _ _ (q .0) in
+    let d : y .document ≡ x .document = omega arith in
+    let u : y .start ≤ x .start = ltb-false _ _ (rw (eq-eqb _ _ d) at (p .1)) in
+    let v : x .start ≤ y .start = ltb-false _ _ (rw (eq-eqb _ _ (sym d)) at (q .1)) in
+    (d, omega arith)
+
+-- a node inside another stands after it
+pub inside-after : (y x : Node) → insideb y x ≡ true → afterb y x ≡ true
+inside-after y x h = after-start y x (within y x h .document) (within y x h .start)
+
+pub record Open (n e : Node) : Type 0 where
+  pub document : e .document ≡ n .document
+  pub reaches : n .start ≤ e .end
+
+pub open-read : (n e : Node) → openb n e ≡ true → Open n e
+unfolding openb
+open-read n e h = let p = and-read (eqb (e .document) (n .document)) h in record { document = eqb-true _ _ (p .0); reaches = leb-true _ _ (p .1) }
+
+pub open-make : (n e : Node) → e .document ≡ n .document → n .start ≤ e .end → openb n e ≡ true
+unfolding openb
+open-make n e d h = and-make (eq-eqb _ _ d) (le-leb _ _ h)
+
+-- a node of n's document that isn't open at n has ended before n
+pub shut-read : (n e : Node) → openb n e ≡ false → e .document ≡ n .document → e .end < n .start
+unfolding openb
+shut-read n e h d = leb-false _ _ (rw (eq-eqb _ _ d) at h)
+
+-- what contains a node of good span is open at it
+pub inside-open : (n e : Node) → n .start ≤ n .end → insideb n e ≡ true → openb n e ≡ true
+inside-open n e s h = let w = within n e h in open-make n e (omega arith) (omega arith)
+
+pub same-read : (x y : Node) → sameb x y ≡ true → x ≡ y
+unfolding sameb
+same-read x y h =
+    let p = and-read (eqb (x .document) (y .document)) h in
+    let q = and-read (eqb (x .start) (y .start)) (p .1) in
+    let r = and-read (eqb (x .end) (y .end)) (q .1) in
+    let d : x .document ≡ y .document = eqb-true _ _ (p .0) in
+    let t : x .start ≡ y .start = eqb-true _ _ (q .0) in
+    let e : x .end ≡ y .end = eqb-true _ _ (r .0) in
+    let l : x .level ≡ y .level = eqb-true _ _ (r .1) in
+    λ i. record { document = d i; start = t i; end = e i; level = l i }
+
+pub same-self : (x : Node) → sameb x x ≡ true
+unfolding sameb
+same-self x = and-make (eq-eqb (x .document) (x .document) refl) (and-make (eq-eqb (x .start) (x .start) refl) (and-make (eq-eqb (x .end) (x .end) refl) (eq-eqb (x .level) (x .level) refl)))
