@@ -13,9 +13,17 @@ All P [] = Unit {0}
 All P (x ∷ xs) = P x × All P xs
 
 module _ {A : Type 0} where
+  pub all-of : {P : A → Type 0} → ((x : A) → P x) → (xs : List A) → All P xs
+  all-of f [] = tt
+  all-of f (x ∷ xs) = (f x, all-of f xs)
+
   pub all-map : {P Q : A → Type 0} → ((x : A) → P x → Q x) → (xs : List A) → All P xs → All Q xs
   all-map f [] h = tt
   all-map f (x ∷ xs) h = (f x (h .0), all-map f xs (h .1))
+
+  pub all-both : {P Q R : A → Type 0} → ((x : A) → P x → Q x → R x) → (xs : List A) → All P xs → All Q xs → All R xs
+  all-both f [] h k = tt
+  all-both f (x ∷ xs) h k = (f x (h .0) (k .0), all-both f xs (h .1) (k .1))
 
   -- no element passes a test that fails of the list
   pub any-none : (test : A → Bool) (xs : List A) → any test xs ≡ false → All (λ x. test x ≡ false) xs

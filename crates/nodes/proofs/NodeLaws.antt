@@ -64,12 +64,19 @@ pub apart-behind : (x y : Node) → y .end < x .start → apartb x y ≡ true
 unfolding apartb
 apart-behind x y h = or-right (ltb (x .end) (y .start)) (lt-ltb _ _ h)
 
+pub apart-turned : (x y : Node) → apartb x y ≡ true → apartb y x ≡ true
+apart-turned x y h = ⊎-elim (apart-behind y x) (apart-ahead y x) (apart-read x y h)
+
 pub after-read : (y x : Node) → afterb y x ≡ true → (x .document < y .document) ⊎ ((y .document ≡ x .document) × (x .start < y .start))
 unfolding afterb
 after-read y x h =
     ⊎-elim (λ p. inl (ltb-true _ _ p))
     (λ p. let q = and-read (eqb (y .document) (x .document)) p in inr (eqb-true _ _ (q .0), ltb-true _ _ (q .1)))
     (or-read (ltb (x .document) (y .document)) h)
+
+-- within one document, what stands after starts after
+pub after-starts : (y x : Node) → afterb y x ≡ true → x .document ≡ y .document → x .start < y .start
+after-starts y x h d = ⊎-elim (λ p. omega arith) (λ p. p .1) (after-read y x h)
 
 pub after-document : (y x : Node) → x .document < y .document → afterb y x ≡ true
 unfolding afterb
@@ -141,3 +148,14 @@ same-read x y h =
 pub same-self : (x : Node) → sameb x x ≡ true
 unfolding sameb
 same-self x = and-make (eq-eqb (x .document) (x .document) refl) (and-make (eq-eqb (x .start) (x .start) refl) (and-make (eq-eqb (x .end) (x .end) refl) (eq-eqb (x .level) (x .level) refl)))
+
+-- a node that isn't open at n, which stands after it, isn't open at any later node either
+pub shut-later : (m n e : Node) → openb n e ≡ false → afterb n e ≡ true → afterb m n ≡ true → openb m e ≡ false
+shut-later m n e h k l = not-so (λ o. let p = open-read m e o in clash p (after-read n e k) (after-read m n l))
+  where
+    clash : Open m e → (e .document < n .document) ⊎ ((n .document ≡ e .document) × (e .start < n .start))
+        → (n .document < m .document) ⊎ ((m .document ≡ n .document) × (n .start < m .start)) → ⊥
+    clash p (inl a) (inl b) = omega arith
+    clash p (inl a) (inr b) = omega arith
+    clash p (inr a) (inl b) = omega arith
+    clash p (inr a) (inr b) = let s = shut-read n e h (omega arith) in omega arith

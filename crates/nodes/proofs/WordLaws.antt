@@ -6,8 +6,9 @@ use mathlib.Core.List.{List, [], _∷_}
 use Prim.Native.Nat.{ℕ, zero, suc, _+_, _*_, _/_, _≤_, _<_}
 use native.Mathlib.Omega.{arith}
 use native.Mathlib.Nat.{not-suc-le-zero, le-of-suc-le-suc}
-use lib.ListN.{length, getD, set}
-use lib.Seq.{sets, length-sets}
+use lib.ListN.{length, getD, set, drop, drop-of-length-le}
+use lib.Seq.{sets, length-sets, drop-cons}
+use native.Mathlib.Numerals.{add-one}
 use mathlib.Core.Logic.{inl, inr}
 use lib.Dec.{ltb}
 use borrow.Author.Tests.{lt-ltb}
@@ -67,3 +68,11 @@ nodes-put ws i n h = rw (lt-ltb i (count ws) h) (stored ws i n h)
 pub length-put : (ws : List ℕ) (i : ℕ) (n : Node) → length (putNode ws i n) ≡ length ws
 unfolding putNode
 length-put ws i n = elim (either (ltb i (count ws))) [ inl h ↦ rw h (length-sets ws (4 * i) (wordsOf n)) | inr h ↦ rw h refl ]
+
+-- the nodes from an index on begin with the one there, and behind the last there is none
+pub nodes-from : (ws : List ℕ) (i : ℕ) → i < count ws → drop i (nodes ws) ≡ nodeAt ws i ∷ drop (i + 1) (nodes ws)
+unfolding nodeAt
+nodes-from ws i h = rw (add-one i) (drop-cons (nodes ws) i (node 0 0 0 0) (omega (arith, length-nodes ws)))
+
+pub nodes-behind : (ws : List ℕ) (i : ℕ) → count ws ≤ i → drop i (nodes ws) ≡ []
+nodes-behind ws i h = drop-of-length-le (nodes ws) {i = i} (omega (arith, length-nodes ws))

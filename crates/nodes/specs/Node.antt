@@ -1,8 +1,12 @@
 -- Document 01, "Nodes and lists": how two nodes lie to one another.
 use mathlib.Core.Bool.{Bool, _&&_, _||_}
-use Prim.Native.Nat.{_+_}
+use Prim.Native.Nat.{ℕ, _+_}
 use lib.Dec.{ltb, leb, eqb}
 use Rattle.nodes.specs.declared.node.Node.{Node}
+
+-- the greatest level
+abbrev pub MOST-LEVELS : ℕ
+MOST-LEVELS = 64
 
 -- y is inside x
 unfoldable pub insideb : Node → Node → Bool

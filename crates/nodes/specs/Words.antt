@@ -14,6 +14,10 @@ node document start end level = record { document = document; start = start; end
 abbrev pub NODE-WORDS : ℕ
 NODE-WORDS = 4
 
+-- the most nodes, rows or marks that one list may have
+abbrev pub MOST-NODES : ℕ
+MOST-NODES = 4096
+
 -- the whole nodes of the words; words that make no whole node are left over
 unfoldable pub nodes : List ℕ → List Node
 nodes [] = []

@@ -1,0 +1,60 @@
+-- Two nodes that contain one node aren't apart, so in a taken list the later is nested in the earlier, and their levels rise from 1 to below its own.
+-- If levels could stay or fall on the way in, no bound on the stack of open nodes would hold.
+use mathlib.Core.Path.{_≡_}
+use mathlib.Core.Logic.{inl, inr, ⊎-elim}
+use mathlib.Core.Bool.{true}
+use mathlib.Core.List.{List, [], _∷_}
+use Prim.Native.Nat.{ℕ, suc, _+_, _≤_, _<_}
+use native.Mathlib.Omega.{arith}
+use lib.ListN.{length}
+use Rattle.nodes.specs.declared.node.Node.{Node}
+use Rattle.nodes.specs.Answer.{TAKEN}
+use Rattle.nodes.specs.Choose.{keep}
+use Rattle.nodes.specs.Node.{insideb, MOST-LEVELS}
+use Rattle.nodes.proofs.Choices.{All, all-map, all-both}
+use Rattle.nodes.proofs.Tests.{either, never}
+use Rattle.nodes.proofs.NodeLaws.{within, inside-self, after-starts}
+use Rattle.lists.specs.Check.{checkNodes}
+use Rattle.lists.proofs.Taken.{Sound, Fine, Pairs, nested-read, fine-settles, taken-iff}
+
+-- if e contains n, its level lies from b to below n's
+abbrev Between : ℕ → Node → Node → Type 0
+Between b n e = insideb n e ≡ true → (b ≤ e .level) × (e .level < n .level)
+
+-- no earlier node lies inside a later one
+none-later : (e n : Node) → Fine e n → insideb e n ≡ true → ⊥
+none-later e n f h = let w = within e n h in omega (arith, after-starts n e (f .after) (w .document))
+
+-- a later node that starts before an earlier one has ended has a higher level
+climbs : (e f : Node) → Fine e f → f .start ≤ f .end → e .document ≡ f .document → f .start ≤ e .end → e .level < f .level
+climbs e f g span d s = ⊎-elim (λ q. omega arith) (λ q. nested-read f e q .1) (fine-settles f e span g d)
+
+-- each pair of a taken list lies so, whichever of the two comes first
+all-between : (ns : List Node) → All Sound ns → Pairs Fine ns → All (λ n. All (Between 1 n) ns) ns
+all-between [] s p = tt
+all-between (m ∷ ns) s p =
+    let outer : All (λ n. Between 1 n m) ns =
+    all-both (λ n t f h. let w = within n m h in (s .0 .lowest, climbs m n f (t .span) (omega arith) (omega arith))) ns (s .1) (p .0) in (
+      (λ h. absurd (never h (inside-self m)), all-map (λ e f h. absurd (none-later m e f h)) ns (p .0)),
+      all-both (λ n b r. (b, r)) ns outer (all-between ns (s .1) (p .1)),
+    )
+
+module _ (n : Node) (span : n .start ≤ n .end) where
+  -- each node that contains n takes a level of its own
+  levels : (b : ℕ) (ns : List Node) → b ≤ n .level → Pairs Fine ns → All (Between b n) ns → length (keep (insideb n) ns) + b ≤ n .level
+  unfolding keep
+  levels b [] l p h = omega arith
+  levels b (e ∷ ns) l p h =
+      elim (either (insideb n e)) [
+        | inl k ↦ let v = within n e k in
+            let higher : All (Between (suc (e .level)) n) ns =
+            all-both (λ f g u i. let w = within n f i in (climbs e f g (omega arith) (omega arith) (omega arith), u i .1)) ns (p .0) (h .1) in
+            let r = levels (suc (e .level)) ns (h .0 k .1) (p .1) higher in
+            rw k (omega (arith, h .0 k))
+        | inr k ↦ rw k (levels b ns l (p .1) (h .1))
+      ]
+
+pub containers : (ns : List Node) → checkNodes ns .answer ≡ TAKEN → All (λ n. length (keep (insideb n) ns) < MOST-LEVELS) ns
+containers ns h =
+    let t = taken-iff ns .0 h in
+    all-both (λ n s b. omega (arith, levels n (s .span) 1 ns (s .lowest) (t .1) b)) ns (t .0) (all-between ns (t .0) (t .1))

@@ -1,0 +1,67 @@
+-- The next node of a merge stands at the head of one list or of both, and each return takes that one off.
+-- A head taken from the wrong list, or left there, falls at its case.
+use mathlib.Core.Path.{_≡_, refl, sym, ap, _∙_}
+use mathlib.Core.Bool.{true, false}
+use mathlib.Core.List.{List, [], _∷_}
+use Prim.Native.Nat.{ℕ, _+_, _≤_, _<_}
+use native.Mathlib.Omega.{arith}
+use lib.ListN.{length, drop}
+use Rattle.nodes.specs.declared.node.Node.{Node}
+use Rattle.nodes.specs.Node.{afterb, sameb}
+use Rattle.nodes.specs.Words.{nodes, count, nodeAt}
+use Rattle.nodes.proofs.WordLaws.{length-nodes, nodes-from, nodes-behind}
+use Rattle.lists.specs.Merge.{merge, Drawn}
+use Rattle.lists.proofs.MergeSteps.{merge-nil, merge-left, merge-both, merge-right}
+
+module _ (xs ys : List ℕ) (i j : ℕ) (iₙ : i ≤ count xs) (jₙ : j ≤ count ys) where
+  pub only-first : i < count xs → count ys ≤ j → (n : Node) → n ≡ nodeAt xs i → Drawn (nodes xs) (nodes ys) i j n (i + 1) j
+  only-first h k n q = record {
+    next = rw (nodes-behind ys j k, merge-nil (drop i (nodes xs)), merge-nil (drop (i + 1) (nodes xs)), q) (nodes-from xs i h);
+    on = omega arith;
+    first-in = omega (arith, length-nodes xs);
+    second-in = omega (arith, length-nodes ys);
+  }
+
+  pub only-second : j < count ys → count xs ≤ i → (n : Node) → n ≡ nodeAt ys j → Drawn (nodes xs) (nodes ys) i j n i (j + 1)
+  unfolding merge
+  only-second h k n q = record {
+    next = rw (nodes-behind xs i k, q) (nodes-from ys j h);
+    on = omega arith;
+    first-in = omega (arith, length-nodes xs);
+    second-in = omega (arith, length-nodes ys);
+  }
+
+  -- both lists have a head, x and y, and n is the one that is taken
+  module _ (h : i < count xs) (k : j < count ys) (n x y : Node) (qx : x ≡ nodeAt xs i) (qy : y ≡ nodeAt ys j) where
+    heads : merge (drop i (nodes xs)) (drop j (nodes ys)) ≡ merge (x ∷ drop (i + 1) (nodes xs)) (y ∷ drop (j + 1) (nodes ys))
+    heads = rw (nodes-from xs i h, nodes-from ys j k, qx, qy) refl
+
+    pub take-first : n ≡ nodeAt xs i → afterb y x ≡ true → Drawn (nodes xs) (nodes ys) i j n (i + 1) j
+    take-first q t = record {
+      next = heads ∙ merge-left x y _ _ t ∙ rw (nodes-from ys j k, q, qx, qy) refl;
+      on = omega arith;
+      first-in = omega (arith, length-nodes xs);
+      second-in = omega (arith, length-nodes ys);
+    }
+
+    module _ (t : afterb y x ≡ false) where
+      pub take-both : n ≡ nodeAt xs i → sameb x y ≡ true → Drawn (nodes xs) (nodes ys) i j n (i + 1) (j + 1)
+      take-both q u = record {
+        next = heads ∙ merge-both x y _ _ t u ∙ rw (q, qx) refl;
+        on = omega arith;
+        first-in = omega (arith, length-nodes xs);
+        second-in = omega (arith, length-nodes ys);
+      }
+
+      pub take-second : n ≡ nodeAt ys j → sameb x y ≡ false → Drawn (nodes xs) (nodes ys) i j n i (j + 1)
+      take-second q u = record {
+        next = heads ∙ merge-right x y _ _ t u ∙ rw (nodes-from xs i h, q, qx, qy) refl;
+        on = omega arith;
+        first-in = omega (arith, length-nodes xs);
+        second-in = omega (arith, length-nodes ys);
+      }
+
+-- at the end of both lists nothing is left of the merge
+pub none-left : (xs ys : List ℕ) (i j : ℕ) → count xs ≤ i → count ys ≤ j → merge (drop i (nodes xs)) (drop j (nodes ys)) ≡ []
+unfolding merge
+none-left xs ys i j h k = rw (nodes-behind xs i h, nodes-behind ys j k) refl

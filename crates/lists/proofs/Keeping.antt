@@ -1,0 +1,223 @@
+-- The open nodes lie one inside the other, so what the head of the row tells holds of all, and a node that ended is open at no later one.
+-- Were one open node lost or one ended node kept in its place, `stands-pop` or `top-tells` would fall.
+use mathlib.Core.Path.{_≡_, refl, sym, ap, _∙_}
+use mathlib.Core.Logic.{_⊎_, inl, inr}
+use mathlib.Core.Bool.{Bool, true, false, cond, not, _&&_, _||_}
+use mathlib.Core.List.{List, [], _∷_}
+use Prim.Native.Nat.{ℕ, _≤_, _<_}
+use native.Mathlib.Omega.{arith}
+use lib.Dec.{ltb, eqb}
+use borrow.Author.Tests.{lt-ltb, ltb-true, ltb-false, eqb-false}
+use Rattle.nodes.specs.declared.node.Node.{Node}
+use Rattle.nodes.specs.Answer.{TAKEN, LEVEL, SPAN, ORDER, CROSS, DEPTH}
+use Rattle.nodes.specs.Choose.{any, keep}
+use Rattle.nodes.specs.Node.{insideb, openb, afterb}
+use Rattle.nodes.proofs.Choices.{All, all-map, none-any, any-same, keep-passed, keep-failed}
+use Rattle.nodes.proofs.NodeLaws.{within, inside-trans, inside-open, inside-after, after-trans, shut-later}
+use Rattle.nodes.proofs.Tests.{either, never, not-so, and-read, or-none, not-read, not-none}
+use Rattle.lists.specs.Fault.{levelb, spanb, orderb, crossb, depthb, fault}
+use Rattle.lists.specs.Walk.{unended, Upon, Chain, headFault, topFault}
+use Rattle.lists.proofs.Steps.{chain-left}
+
+-- a row s stands for the nodes before at every node that P lets come next: a test that only open nodes pass keeps the same of both
+pub record Stands (P : Node → Type 0) (before s : List Node) : Type 0 where
+  pub chain : Chain s
+  pub keeps : (n : Node) → P n → (test : Node → Bool) → ((e : Node) → test e ≡ true → openb n e ≡ true) → keep test before ≡ keep test s
+
+module _ {P : Node → Type 0} {before s : List Node} where
+  -- it stands wherever fewer nodes may come next
+  pub stands-later : {Q : Node → Type 0} → ((n : Node) → Q n → P n) → Stands P before s → Stands Q before s
+  stands-later f k = record { chain = k .chain; keeps = λ n q. k .keeps n (f n q) }
+
+  -- a new node that lies inside the head lies at the head of the new row
+  pub stands-push : (e : Node) → 1 ≤ e .level → Upon e s → Stands P before s → Stands P (e ∷ before) (e ∷ s)
+  unfolding keep
+  stands-push e l u k = record {
+    chain = (l, u, k .chain);
+    keeps = λ n p test only. ap (λ ns. cond (test e) (e ∷ ns) ns) (k .keeps n p test only);
+  }
+
+-- a head that is open at no node that may come is taken off
+pub stands-pop : {P : Node → Type 0} {before s : List Node} (e : Node) → ((n : Node) → P n → openb n e ≡ false) → Stands P before (e ∷ s)
+    → Stands P before s
+stands-pop e shut k = record {
+  chain = k .chain .2;
+  keeps = λ n p test only. k .keeps n p test only ∙ keep-failed test e _ (not-so (λ h. never (only e h) (shut n p)));
+}
+
+-- every node of a row stands before the node that comes next
+chain-after : (n : Node) (s : List Node) → Chain s → orderb s n ≡ false → All (λ e. afterb n e ≡ true) s
+unfolding orderb
+chain-after n [] ch o = tt
+chain-after n (e ∷ []) ch o = (not-none _ o, tt)
+chain-after n (e ∷ f ∷ s) ch o =
+    let a : afterb n e ≡ true = not-none _ o in
+    let b : afterb n f ≡ true = after-trans n e f a (inside-after e f (ch .1 .0)) in
+    (a, chain-after n (f ∷ s) (ch .2) (ap not b))
+
+-- all that ended before n are taken off
+stands-left : (n : Node) {before : List Node} (s : List Node) → All (λ e. afterb n e ≡ true) s → Stands (λ m. afterb m n ≡ true) before s
+    → Stands (λ m. afterb m n ≡ true) before (unended n s)
+unfolding unended
+stands-left n [] a k = k
+stands-left n (e ∷ s) a k =
+    elim (either (openb n e))
+    [ inl o ↦ rw o k | inr o ↦ rw o (stands-left n s (a .1) (stands-pop e (λ m p. shut-later m n e o (a .0) p) k)) ]
+
+-- everything under a head that contains n contains n, and everything under it has a lower level
+chain-contains : (n e : Node) (s : List Node) → Chain (e ∷ s) → insideb n e ≡ true → All (λ f. insideb n f ≡ true) s
+chain-contains n e [] ch h = tt
+chain-contains n e (f ∷ s) ch h = let p = inside-trans n e f h (ch .1 .0) in (p, chain-contains n f s (ch .2) p)
+
+chain-levels : (l : ℕ) (e : Node) (s : List Node) → Chain (e ∷ s) → e .level < l → All (λ f. f .level < l) s
+chain-levels l e [] ch h = tt
+chain-levels l e (f ∷ s) ch h = let u = ch .1 .1 in let p : f .level < l = omega arith in (p, chain-levels l f s (ch .2) p)
+
+-- whether a node e is crossed by n, and whether n isn't deeper than e though inside it
+crossed : Node → Node → Bool
+crossed n e = openb n e && not (insideb n e)
+
+shallow : Node → Node → Bool
+shallow n e = insideb n e && not (ltb (e .level) (n .level))
+
+uncrossed : (n e : Node) → insideb n e ≡ true → crossed n e ≡ false
+unfolding crossed
+uncrossed n e h = not-so (λ c. never h (not-read _ (and-read (openb n e) c .1)))
+
+deeper : (n e : Node) → e .level < n .level → shallow n e ≡ false
+unfolding shallow
+deeper n e h = not-so (λ c. never (lt-ltb _ _ h) (not-read _ (and-read (insideb n e) c .1)))
+
+-- the head of what is left tells what is wrong over the whole row
+top-tells : (n : Node) → n .start ≤ n .end → (s : List Node) → Chain s
+    → cond (crossb s n) CROSS (cond (depthb s n) DEPTH TAKEN) ≡ headFault (unended n s) n
+unfolding crossb depthb any unended headFault crossed shallow
+top-tells n span [] ch = refl
+top-tells n span (e ∷ s) ch = elim (either (openb n e)) [ inl o ↦ opened o (either (insideb n e)) | inr o ↦ ended o (top-tells n span s (ch .2)) ]
+  where
+    opened : openb n e ≡ true → (insideb n e ≡ true) ⊎ (insideb n e ≡ false)
+        → cond (crossb (e ∷ s) n) CROSS (cond (depthb (e ∷ s) n) DEPTH TAKEN) ≡ headFault (unended n (e ∷ s)) n
+    opened o (inr h) = rw (o, h) refl
+    opened o (inl h) = rw (o, h, none-any (crossed n) s (all-map (λ f. uncrossed n f) s (chain-contains n e s ch h))) (levels (either (ltb (e .level) (n .level))))
+      where
+        levels : (ltb (e .level) (n .level) ≡ true) ⊎ (ltb (e .level) (n .level) ≡ false)
+            → cond (not (ltb (e .level) (n .level)) || any (shallow n) s) DEPTH TAKEN ≡ cond (not (ltb (e .level) (n .level))) DEPTH TAKEN
+        levels (inl l) = rw (l, none-any (shallow n) s (all-map (λ f. deeper n f) s (chain-levels (n .level) e s ch (ltb-true _ _ l)))) refl
+        levels (inr l) = rw l refl
+
+    ended : openb n e ≡ false → cond (crossb s n) CROSS (cond (depthb s n) DEPTH TAKEN) ≡ headFault (unended n s) n
+        → cond (crossb (e ∷ s) n) CROSS (cond (depthb (e ∷ s) n) DEPTH TAKEN) ≡ headFault (unended n (e ∷ s)) n
+    ended o h = rw (o, not-so (λ i. never (inside-open n e span i) o)) h
+
+-- the row of open nodes, as a walk along a list keeps it: it stands for all nodes before, and its head is the node before
+pub record Kept (before s : List Node) : Type 0 where
+  pub stands : Stands (λ n. orderb before n ≡ false) before s
+  pub last : (n : Node) → orderb before n ≡ orderb s n
+
+spans : (n : Node) → spanb n ≡ false → n .start ≤ n .end
+unfolding spanb
+spans n h = ltb-false _ _ h
+
+-- CROSS and DEPTH are tests that only open nodes pass
+crosses : (before s : List Node) (n : Node)
+    → ((test : Node → Bool) → ((e : Node) → test e ≡ true → openb n e ≡ true) → keep test before ≡ keep test s) → crossb before n ≡ crossb s n
+unfolding crossb crossed
+crosses before s n keeps = any-same (crossed n) before s (keeps (crossed n) (λ e h. and-read (openb n e) h .0))
+
+depths : (before s : List Node) (n : Node) → n .start ≤ n .end
+    → ((test : Node → Bool) → ((e : Node) → test e ≡ true → openb n e ≡ true) → keep test before ≡ keep test s) → depthb before n ≡ depthb s n
+unfolding depthb shallow
+depths before s n span keeps = any-same (shallow n) before s (keeps (shallow n) (λ e h. inside-open n e span (and-read (insideb n e) h .0)))
+
+-- what is wrong at a node over all nodes before is what the row tells
+pub fault-told : (before s : List Node) (n : Node) → Kept before s → fault before n ≡ topFault s n
+unfolding fault topFault
+fault-told before s n k =
+    elim (either (levelb n)) [
+      | inl l ↦ rw l refl
+      | inr l ↦ rw l (elim (either (spanb n)) [ inl p ↦ rw p refl | inr p ↦ rw (p, k .last n) (ordered p (either (orderb s n))) ])
+    ]
+  where
+    ordered : spanb n ≡ false → (orderb s n ≡ true) ⊎ (orderb s n ≡ false)
+        → cond (orderb s n) ORDER (cond (crossb before n) CROSS (cond (depthb before n) DEPTH TAKEN))
+        ≡ cond (orderb s n) ORDER (headFault (unended n s) n)
+    ordered p (inl o) = rw o refl
+    ordered p (inr o) = rw (o, same-cross, same-depth) (top-tells n span s (k .stands .chain))
+      where
+        span : n .start ≤ n .end
+        span = spans n p
+
+        same-cross : crossb before n ≡ crossb s n
+        same-cross = crosses before s n (k .stands .keeps n (k .last n ∙ o))
+
+        same-depth : depthb before n ≡ depthb s n
+        same-depth = depths before s n span (k .stands .keeps n (k .last n ∙ o))
+
+-- a node at which nothing is wrong lies inside what is left, and its level is right
+head-taken : (n : Node) (s : List Node) → headFault s n ≡ TAKEN → Upon n s
+unfolding headFault
+head-taken n [] h = tt
+head-taken n (e ∷ s) h =
+    elim (either (insideb n e)) [
+      | inl i ↦ elim (either (ltb (e .level) (n .level))) [ inl l ↦ (i, ltb-true _ _ l) | inr l ↦ absurd (seven (rw (i, l) at h)) ]
+      | inr i ↦ absurd (six (rw i at h))
+    ]
+  where
+    seven : DEPTH ≡ TAKEN → ⊥
+    seven z = omega arith
+
+    six : CROSS ≡ TAKEN → ⊥
+    six z = omega arith
+
+-- where the row tells of nothing wrong, the level is right, the node stands after the head, and what is left tells of nothing wrong
+record Clean (s : List Node) (n : Node) : Type 0 where
+  level : 1 ≤ n .level
+  next : orderb s n ≡ false
+  head : headFault (unended n s) n ≡ TAKEN
+
+levels : (n : Node) → levelb n ≡ false → 1 ≤ n .level
+unfolding levelb
+levels n h = let z : n .level ≡ 0 → ⊥ = eqb-false _ _ (or-none (eqb (n .level) 0) h .0) in omega arith
+
+clean : (s : List Node) (n : Node) → topFault s n ≡ TAKEN → Clean s n
+unfolding topFault
+clean s n h =
+    elim (either (levelb n)) [
+      | inl l ↦ absurd (some LEVEL (rw l at h) (omega arith))
+      | inr l ↦ elim (either (spanb n)) [
+        | inl p ↦ absurd (some SPAN (rw (l, p) at h) (omega arith))
+        | inr p ↦ elim (either (orderb s n)) [
+          | inl o ↦ absurd (some ORDER (rw (l, p, o) at h) (omega arith))
+          | inr o ↦ record { level = levels n l; next = o; head = rw (l, p, o) at h }
+        ]
+      ]
+    ]
+  where
+    some : (f : ℕ) → f ≡ TAKEN → 0 < f → ⊥
+    some f e l = omega arith
+
+-- what stands after a node that may come next may come next itself
+later : (before : List Node) (m n : Node) → orderb before n ≡ false → afterb m n ≡ true → orderb before m ≡ false
+unfolding orderb
+later [] m n o a = refl
+later (e ∷ before) m n o a = ap not (after-trans m n e a (not-none (afterb n e) o))
+
+-- after a node at which nothing is wrong, the row is that node upon what is left
+pub kept-next : (before s : List Node) (n : Node) → topFault s n ≡ TAKEN → Kept before s → Kept (n ∷ before) (n ∷ unended n s)
+unfolding orderb
+kept-next before s n h k =
+    let c = clean s n h in
+    let first : orderb before n ≡ false = k .last n ∙ c .next in
+    record {
+      stands =
+          stands-later (λ m o. not-none (afterb m n) o)
+          (stands-push n (c .level) (head-taken n (unended n s) (c .head))
+          (stands-left n s (chain-after n s (k .stands .chain) (c .next))
+          (stands-later (λ m a. later before m n first a) (k .stands))));
+      last = λ m. refl;
+    }
+
+-- before any node nothing is open
+pub kept-none : Kept [] []
+unfolding orderb
+kept-none = record { stands = record { chain = tt; keeps = λ n p test only. refl }; last = λ n. refl }

@@ -1,0 +1,14 @@
+-- Theorems for the reader: `Taken` reads a taken list pair by pair, `Merging` does so for a merge, `Pairing` for two lists, and `Containers`
+-- bounds the nodes that contain one. Laws for the code: `WalkLaws` is what the row of open nodes does, `Steps` what each return of a step
+-- says, `Keeping` why the row stands for all the nodes before, `Walking` what a walk has left, `MergeSteps` takes one node off a merge.
+pub mod Containers
+pub mod Drawing
+pub mod Keeping
+pub mod MergeSteps
+pub mod Merging
+pub mod Naming
+pub mod Pairing
+pub mod Steps
+pub mod Taken
+pub mod WalkLaws
+pub mod Walking

@@ -1,0 +1,59 @@
+-- The check of two lists has four answers, told apart by the checks of each and by whether any of their nodes are at odds.
+-- A wrong list named, or JOINT where the lists agree, falls at its case.
+use mathlib.Core.Path.{_≡_, refl, sym, ap, _∙_}
+use mathlib.Core.Logic.{_⊎_, inl, inr}
+use mathlib.Core.Bool.{Bool, true, false, cond, not}
+use mathlib.Core.List.{List, [], _∷_}
+use Prim.Native.Nat.{ℕ, suc, _+_, _≤_, zero-le}
+use native.Mathlib.Omega.{arith}
+use lib.Dec.{eqb}
+use lib.ListN.{length}
+use borrow.Author.Tests.{eqb-true, eqb-false, eq-eqb, ne-eqb}
+use Rattle.nodes.specs.declared.node.Node.{Node}
+use Rattle.nodes.specs.Answer.{TAKEN, JOINT}
+use Rattle.nodes.specs.Words.{nodes, count}
+use Rattle.nodes.proofs.Tests.{either, never, so}
+use Rattle.nodes.proofs.WordLaws.{length-nodes}
+use Rattle.lists.specs.declared.verdict.Verdict.{Verdict}
+use Rattle.lists.specs.Check.{checkFrom, checkNodes, checkWords, wordFault}
+use Rattle.lists.specs.Fault.{fault}
+use Rattle.lists.specs.Two.{jointb, refusedb, inList, checkTwo}
+use Rattle.lists.specs.Verdict.{ANCESTORS, DESCENDANTS, verdict, taken}
+use Rattle.lists.proofs.Merging.{joint-iff}
+use Rattle.lists.proofs.Pairing.{two-taken-iff}
+
+from-list : (before : List Node) (index : ℕ) (ns : List Node) → checkFrom before index ns .list ≡ ANCESTORS
+unfolding checkFrom
+from-list before index [] = refl
+from-list before index (n ∷ ns) =
+    elim (either (eqb (fault before n) TAKEN)) [ inl h ↦ rw h (from-list (n ∷ before) (suc index) ns) | inr h ↦ rw h refl ]
+
+-- the check of one list names the ancestors
+pub words-list : (ws : List ℕ) → checkWords ws .list ≡ ANCESTORS
+unfolding checkWords checkNodes
+words-list ws = elim (either (eqb (wordFault ws) TAKEN)) [ inl h ↦ rw h (from-list [] 0 (nodes ws)) | inr h ↦ rw h refl ]
+
+module _ (ancestors descendants : List ℕ) where
+  -- the four answers of the check of two lists
+  pub two-first : (checkWords ancestors .answer ≡ TAKEN → ⊥) → checkWords ancestors ≡ checkTwo ancestors descendants
+  unfolding checkTwo refusedb
+  two-first h =
+      rw (ne-eqb (checkWords ancestors .answer) TAKEN h)
+      (λ k. verdict (checkWords ancestors .answer) (words-list ancestors k) (checkWords ancestors .index))
+
+  module _ (f : checkWords ancestors .answer ≡ TAKEN) where
+    pub two-second : (checkWords descendants .answer ≡ TAKEN → ⊥) → inList DESCENDANTS (checkWords descendants) ≡ checkTwo ancestors descendants
+    unfolding checkTwo refusedb
+    two-second h = rw (eq-eqb (checkWords ancestors .answer) TAKEN f, ne-eqb (checkWords descendants .answer) TAKEN h)
+
+    module _ (s : checkWords descendants .answer ≡ TAKEN) where
+      joined : (b : Bool) → jointb (nodes ancestors) (nodes descendants) ≡ b
+          → cond b (verdict JOINT ANCESTORS 0) taken ≡ checkTwo ancestors descendants
+      unfolding checkTwo refusedb
+      joined b h = rw (eq-eqb (checkWords ancestors .answer) TAKEN f, eq-eqb (checkWords descendants .answer) TAKEN s, h)
+
+      pub two-joint : (checkTwo ancestors descendants .answer ≡ TAKEN → ⊥) → verdict JOINT ANCESTORS 0 ≡ checkTwo ancestors descendants
+      two-joint h = joined true (so (λ j. h (two-taken-iff ancestors descendants .1 (f, s, joint-iff _ _ .0 j))))
+
+  pub two-taken : checkTwo ancestors descendants .answer ≡ TAKEN → taken ≡ checkTwo ancestors descendants
+  two-taken h = let t = two-taken-iff ancestors descendants .0 h in joined (t .0) (t .1) false (joint-iff _ _ .1 (t .2))

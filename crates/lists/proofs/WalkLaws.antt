@@ -1,0 +1,59 @@
+-- The first nodes of a list, the last one first, gain and lose their head with the count, so popping and pushing are the count's steps.
+-- A node read or written one place off falls here.
+use mathlib.Core.Path.{_≡_, refl, sym, ap, _∙_}
+use mathlib.Core.Logic.{inl, inr}
+use mathlib.Core.Bool.{Bool, true, false, cond}
+use mathlib.Core.List.{List, [], _∷_}
+use Prim.Native.Nat.{ℕ, zero, suc, pred, _+_, _-_, _≤_, _<_}
+use native.Mathlib.Nat.{not-suc-le-zero}
+use native.Mathlib.Numerals.{sub-one, add-one}
+use native.Mathlib.Omega.{arith}
+use lib.ListN.{length, getD, set}
+use lib.Seq.{getD-set-same, getD-set-other}
+use Rattle.nodes.specs.declared.node.Node.{Node}
+use Rattle.nodes.specs.Node.{openb}
+use Rattle.nodes.specs.Words.{node, nodes, nodeAt}
+use Rattle.lists.specs.Walk.{firsts, unended}
+
+-- the head of the first k nodes is the one before index k
+pub head-at : (k : ℕ) (ws : List ℕ) → 0 < k → firsts k (nodes ws) ≡ nodeAt ws (k - 1) ∷ firsts (k - 1) (nodes ws)
+unfolding firsts nodeAt
+head-at zero ws h = absurd (not-suc-le-zero h)
+head-at (suc k) ws h = rw (sub-one (suc k)) refl
+
+pub length-firsts : (k : ℕ) (ns : List Node) → length (firsts k ns) ≡ k
+unfolding firsts
+length-firsts zero ns = refl
+length-firsts (suc k) ns = ap suc (length-firsts k ns)
+
+-- a node stored at or behind index k leaves the first k as they are
+firsts-set : (k : ℕ) (ns : List Node) (i : ℕ) (n : Node) → k ≤ i → firsts k (set ns i n) ≡ firsts k ns
+unfolding firsts
+firsts-set zero ns i n h = refl
+firsts-set (suc k) ns i n h =
+    ap (λ e. e ∷ firsts k (set ns i n)) (getD-set-other ns i k n (node 0 0 0 0) (omega arith))
+    ∙ ap (λ es. getD ns k (node 0 0 0 0) ∷ es) (firsts-set k ns i n (omega arith))
+
+-- storing a node at index k puts it at the head of the first k + 1
+pub firsts-push : (k : ℕ) (ns : List Node) (n : Node) → k < length ns → firsts (k + 1) (set ns k n) ≡ n ∷ firsts k ns
+unfolding firsts
+firsts-push k ns n h =
+    rw (add-one k)
+    (ap (λ e. e ∷ firsts k (set ns k n)) (getD-set-same ns k n (node 0 0 0 0) h) ∙ ap (λ es. n ∷ es) (firsts-set k ns k n (omega arith)))
+
+-- an open head ends the taking off; one that isn't open is taken off
+pub head-open : (k : ℕ) (ws : List ℕ) (n e : Node) → 0 < k → e ≡ nodeAt ws (k - 1) → openb n e ≡ true
+    → firsts k (nodes ws) ≡ unended n (firsts k (nodes ws))
+unfolding unended
+head-open k ws n e h q o = rw (head-at k ws h, ← q, o)
+
+pub head-shut : (k : ℕ) (ws : List ℕ) (n e : Node) → 0 < k → e ≡ nodeAt ws (k - 1) → openb n e ≡ false
+    → unended n (firsts (k - 1) (nodes ws)) ≡ unended n (firsts k (nodes ws))
+unfolding unended
+head-shut k ws n e h q o = rw (head-at k ws h, ← q, o)
+
+-- no node is left to be taken off
+pub head-none : (k : ℕ) (ws : List ℕ) (n : Node) → k ≤ 0 → firsts k (nodes ws) ≡ unended n (firsts k (nodes ws))
+unfolding firsts unended
+head-none zero ws n h = refl
+head-none (suc k) ws n h = absurd (not-suc-le-zero h)

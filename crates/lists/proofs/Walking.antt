@@ -1,0 +1,79 @@
+-- A walk keeps the row of open nodes and leaves to check what the whole check leaves, so its last answer is the whole check's.
+-- A step that passed a faulty node, or named another index, would fall at `passed-on` or `stopped`.
+use mathlib.Core.Path.{_≡_, refl, sym, ap, _∙_, subst}
+use mathlib.Core.Bool.{true, false, cond}
+use mathlib.Core.List.{List, [], _∷_}
+use Prim.Native.Nat.{ℕ, suc, _+_, _≤_, _<_}
+use native.Mathlib.Numerals.{add-one}
+use lib.Dec.{eqb}
+use lib.ListN.{drop}
+use borrow.Author.Tests.{eq-eqb, ne-eqb}
+use Rattle.nodes.specs.declared.node.Node.{Node}
+use Rattle.nodes.specs.Answer.{TAKEN}
+use Rattle.nodes.specs.Words.{nodes, count, nodeAt}
+use Rattle.nodes.proofs.WordLaws.{nodes-from, nodes-behind}
+use Rattle.lists.specs.declared.verdict.Verdict.{Verdict}
+use Rattle.lists.specs.declared.walk.Place.{Place}
+use Rattle.lists.specs.declared.walk.Step.{Step}
+use Rattle.lists.specs.declared.walk.Step.the-variants.{Reached, Refused}
+use Rattle.lists.specs.Check.{checkFrom, checkNodes}
+use Rattle.lists.specs.Fault.{fault}
+use Rattle.lists.specs.Verdict.{ANCESTORS, verdict, taken, verdictOf}
+use Rattle.lists.specs.Walk.{firsts, unended, topFault, Passed}
+use Rattle.lists.proofs.Keeping.{Kept, kept-none, kept-next, fault-told}
+
+-- a walk with the row s, at an index, with the rest of the nodes before it, where the check of all nodes says whole
+pub record Walk (s : List Node) (index : ℕ) (rest : List Node) (whole : Verdict) : Type 0 where
+  pub before : List Node
+  pub kept : Kept before s
+  pub same : checkFrom before index rest ≡ whole
+
+pub walk-start : (ns : List Node) → Walk [] 0 ns (checkNodes ns)
+unfolding checkNodes
+walk-start ns = record { before = []; kept = kept-none; same = refl }
+
+-- the rest under another name
+pub walk-as : {s ns ms : List Node} {index : ℕ} {whole : Verdict} → ns ≡ ms → Walk s index ns whole → Walk s index ms whole
+walk-as {s} {index = index} {whole} e w = subst (λ rest. Walk s index rest whole) e w
+
+-- at the end nothing was wrong
+pub walk-end : {s : List Node} {index : ℕ} {whole : Verdict} → Walk s index [] whole → taken ≡ whole
+unfolding checkFrom
+walk-end w = w .same
+
+module _ {s : List Node} {n : Node} {index : ℕ} {rest : List Node} {whole : Verdict} (w : Walk s index (n ∷ rest) whole) where
+  -- the check of the rest goes past a node at which nothing is wrong
+  passed-on : (words : List ℕ) (p : Place) → Passed s n index (Reached p) words → Walk (firsts (p .depth) (nodes words)) (p .index) rest whole
+  unfolding checkFrom
+  passed-on words p h =
+      let f : fault (w .before) n ≡ TAKEN = fault-told (w .before) s n (w .kept) ∙ h .0 in
+      rw (h .2, h .1, add-one)
+      (record {
+        before = n ∷ w .before;
+        kept = kept-next (w .before) s n (h .0) (w .kept);
+        same = rw (eq-eqb _ _ f) at (w .same);
+      })
+
+  -- and ends at the first node at which something is
+  stopped : (words : List ℕ) (v : Verdict) → Passed s n index (Refused v) words → v ≡ whole
+  unfolding checkFrom
+  stopped words v h =
+      let q = fault-told (w .before) s n (w .kept) in
+      h .1 ∙ ap (λ (f : ℕ). verdict f ANCESTORS index) (sym q) ∙ (rw (ne-eqb _ _ (λ z. h .0 (sym q ∙ z))) at (w .same))
+
+  -- what a step's answer says of the walk
+  module _ (words : List ℕ) (r : Step) (h : Passed s n index r words) where
+    pub walk-on : (p : Place) → r ≡ Reached p → (p .index ≡ index + 1) × Walk (firsts (p .depth) (nodes words)) (p .index) rest whole
+    walk-on p e = let g = subst (λ (step : Step). Passed s n index step words) e h in (g .1, passed-on words p g)
+
+    pub walk-stop : (v : Verdict) → r ≡ Refused v → verdictOf r ≡ whole
+    walk-stop v e = ap verdictOf e ∙ stopped words v (subst (λ (step : Step). Passed s n index step words) e h)
+
+-- the next node of the words is the head of what is left of them
+pub walk-next : (ws : List ℕ) (i : ℕ) {s : List Node} {whole : Verdict} → i < count ws → (n : Node) → n ≡ nodeAt ws i
+    → Walk s i (drop i (nodes ws)) whole → Walk s i (n ∷ drop (i + 1) (nodes ws)) whole
+walk-next ws i h n q w = walk-as (nodes-from ws i h ∙ ap (λ m. m ∷ drop (i + 1) (nodes ws)) (sym q)) w
+
+-- behind the last node nothing is left
+pub walk-done : (ws : List ℕ) (i : ℕ) {s : List Node} {whole : Verdict} → count ws ≤ i → Walk s i (drop i (nodes ws)) whole → taken ≡ whole
+walk-done ws i h w = walk-end (walk-as (nodes-behind ws i h) w)

@@ -1,0 +1,64 @@
+-- Up to the number of nodes the part is what is left behind the index's words, and from there on nothing is left.
+-- A part that starts one word off falls at the second return.
+use borrow.Author.Needs.{needs}
+use mathlib.Core.Path.{_≡_, sym}
+use mathlib.Core.List.{List, []}
+use Prim.Native.Nat.{ℕ, _*_, _-_, _≤_, _<_}
+use native.Mathlib.Omega.{arith}
+use denote.Ref.{now}
+use lib.ListN.{length, take, drop, length-drop, drop-of-length-le}
+use lib.Seq.{take-all}
+use Rattle.nodes.specs.Words.{NODE-WORDS, count}
+use Rattle.lists.proofs.part.part_from.Statement.{statement}
+use Rattle.lists.proofs.part.part_from.Tie as tie
+
+behind : (ws : List ℕ) (i : ℕ) → count ws < i → [] ≡ drop (NODE-WORDS * i) ws
+behind ws i h = sym (drop-of-length-le ws {i = NODE-WORDS * i} (omega arith))
+
+rest : (ws : List ℕ) (i : ℕ) → take (length ws - NODE-WORDS * i) (drop (NODE-WORDS * i) ws) ≡ drop (NODE-WORDS * i) ws
+rest ws i = take-all (length ws - NODE-WORDS * i) (drop (NODE-WORDS * i) ws) (omega (arith, length-drop (NODE-WORDS * i) ws))
+
+node-count-requires : tie.Need-node-count-requires
+node-count-requires c κs = search needs
+
+slice-aggregate-result : tie.Need-slice-aggregate-result
+slice-aggregate-result c = search needs
+
+returns : tie.Need-returns
+returns c =
+    let a = c .before .before .before .before .args in
+    behind (now (a .words)) (a .index) (omega arith)
+
+mul-result : tie.Need-mul-result
+mul-result c = search needs
+
+mul-result-2 : tie.Need-mul-result-2
+mul-result-2 c = search needs
+
+sub-result : tie.Need-sub-result
+sub-result c = search needs
+
+part-result-start : tie.Need-part-result-start
+part-result-start c = search needs
+
+part-result-end : tie.Need-part-result-end
+part-result-end c = search needs
+
+returns-2 : tie.Need-returns-2
+returns-2 c =
+    let a = c .before .before .before .before .args in
+    rest (now (a .words)) (a .index)
+
+pub part-from-spec : {M : Type 1} → statement M
+part-from-spec =
+    tie.close
+    (tie.spec
+    node-count-requires
+    slice-aggregate-result
+    returns
+    mul-result
+    mul-result-2
+    sub-result
+    part-result-start
+    part-result-end
+    returns-2)

@@ -1,0 +1,37 @@
+-- Document 01, "Answer numbers": the answer for one list.
+use Prim.Native.Nat.{ℕ, suc, _%_}
+use mathlib.Core.Bool.{Bool, cond, not}
+use mathlib.Core.List.{List, [], _∷_}
+use lib.Dec.{ltb, eqb}
+use lib.ListN.{length}
+use Rattle.nodes.specs.declared.node.Node.{Node}
+use Rattle.nodes.specs.Answer.{TAKEN, RAGGED, LONG}
+use Rattle.nodes.specs.Words.{NODE-WORDS, MOST-NODES, nodes, count}
+use Rattle.lists.specs.declared.verdict.Verdict.{Verdict}
+use Rattle.lists.specs.Fault.{fault}
+use Rattle.lists.specs.Verdict.{ANCESTORS, verdict, taken}
+
+-- the first node in list order at which something is wrong, with its index; the nodes before come with the last one first
+unfoldable pub checkFrom : List Node → ℕ → List Node → Verdict
+checkFrom before index [] = taken
+checkFrom before index (n ∷ later) =
+    cond (eqb (fault before n) TAKEN) (checkFrom (n ∷ before) (suc index) later) (verdict (fault before n) ANCESTORS index)
+
+unfoldable pub checkNodes : List Node → Verdict
+checkNodes ns = checkFrom [] 0 ns
+
+-- RAGGED: the words don't make whole nodes
+unfoldable pub raggedb : List ℕ → Bool
+raggedb words = not (eqb (length words % NODE-WORDS) 0)
+
+-- LONG: more nodes than 4,096
+unfoldable pub longb : List ℕ → Bool
+longb words = ltb MOST-NODES (count words)
+
+-- what is wrong with the words, whatever the nodes are
+unfoldable pub wordFault : List ℕ → ℕ
+wordFault words = cond (raggedb words) RAGGED (cond (longb words) LONG TAKEN)
+
+-- the answer for a list of words
+unfoldable pub checkWords : List ℕ → Verdict
+checkWords words = cond (eqb (wordFault words) TAKEN) (checkNodes (nodes words)) (verdict (wordFault words) ANCESTORS 0)

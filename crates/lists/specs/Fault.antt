@@ -1,0 +1,39 @@
+-- Document 01, "Answer numbers", rows 3 to 7: what is wrong at a node, given all the nodes before it, the last one first.
+use Prim.Native.Nat.{ℕ}
+use mathlib.Core.Bool.{Bool, false, cond, not, _&&_, _||_}
+use mathlib.Core.List.{List, [], _∷_}
+use lib.Dec.{ltb, eqb}
+use Rattle.nodes.specs.declared.node.Node.{Node}
+use Rattle.nodes.specs.Answer.{TAKEN, LEVEL, SPAN, ORDER, CROSS, DEPTH}
+use Rattle.nodes.specs.Choose.{any}
+use Rattle.nodes.specs.Node.{insideb, afterb, openb, MOST-LEVELS}
+
+-- LEVEL: level 0 or above 64
+unfoldable pub levelb : Node → Bool
+levelb n = eqb (n .level) 0 || ltb MOST-LEVELS (n .level)
+
+-- SPAN: end below start
+unfoldable pub spanb : Node → Bool
+spanb n = ltb (n .end) (n .start)
+
+-- ORDER: (document, start) not strictly after the node before
+unfoldable pub orderb : List Node → Node → Bool
+orderb [] n = false
+orderb (e ∷ before) n = not (afterb n e)
+
+-- CROSS: an earlier node e of its document has e.end ≥ start, and this node isn't inside e
+unfoldable pub crossb : List Node → Node → Bool
+crossb before n = any (λ e. openb n e && not (insideb n e)) before
+
+-- DEPTH: inside an earlier node whose level isn't lower
+unfoldable pub depthb : List Node → Node → Bool
+depthb before n = any (λ e. insideb n e && not (ltb (e .level) (n .level))) before
+
+-- the first of these that applies
+unfoldable pub fault : List Node → Node → ℕ
+fault before n =
+    cond (levelb n) LEVEL
+    (cond (spanb n) SPAN
+    (cond (orderb before n) ORDER
+    (cond (crossb before n) CROSS
+    (cond (depthb before n) DEPTH TAKEN))))

@@ -1,0 +1,9 @@
+-- What the contracts of `lists` cite: document 01's checks in `Fault`, `Check`, `Two` and `Part`; `Merge` and `Walk` are words of private
+-- functions alone.
+pub mod Check
+pub mod Fault
+pub mod Merge
+pub mod Part
+pub mod Two
+pub mod Verdict
+pub mod Walk

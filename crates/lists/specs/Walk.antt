@@ -1,0 +1,54 @@
+-- Words of the contracts of private functions: what a walk along a list keeps. No public contract cites this file.
+use Prim.Native.Nat.{ℕ, zero, suc, _+_, _≤_, _<_}
+use mathlib.Core.Path.{_≡_}
+use mathlib.Core.Bool.{Bool, true, false, cond, not}
+use mathlib.Core.List.{List, [], _∷_}
+use lib.Dec.{ltb}
+use lib.ListN.{getD}
+use Rattle.nodes.specs.declared.node.Node.{Node}
+use Rattle.nodes.specs.Answer.{TAKEN, LEVEL, SPAN, ORDER, CROSS, DEPTH}
+use Rattle.nodes.specs.Node.{insideb, openb}
+use Rattle.nodes.specs.Words.{node, nodes}
+use Rattle.lists.specs.declared.walk.Place.{Place}
+use Rattle.lists.specs.declared.walk.Step.{Step}
+use Rattle.lists.specs.declared.walk.Step.the-variants.{Reached, Refused}
+use Rattle.lists.specs.Fault.{levelb, spanb, orderb}
+use Rattle.lists.specs.Verdict.{ANCESTORS, verdict}
+
+abbrev pub place : ℕ → ℕ → Place
+place index depth = record { index = index; depth = depth }
+
+-- the first k nodes of a list, the last one first
+unfoldable pub firsts : ℕ → List Node → List Node
+firsts zero ns = []
+firsts (suc k) ns = getD ns k (node 0 0 0 0) ∷ firsts k ns
+
+-- what is left of a row of nodes once those at its head that aren't open at n are taken off
+unfoldable pub unended : Node → List Node → List Node
+unended n [] = []
+unended n (e ∷ es) = cond (openb n e) (e ∷ es) (unended n es)
+
+-- e lies inside the head of a row, and its level is higher
+abbrev pub Upon : Node → List Node → Type 0
+Upon e [] = Unit {0}
+Upon e (f ∷ es) = (insideb e f ≡ true) × (f .level < e .level)
+
+-- each node of a row lies inside the next, with a higher level
+abbrev pub Chain : List Node → Type 0
+Chain [] = Unit {0}
+Chain (e ∷ es) = (1 ≤ e .level) × Upon e es × Chain es
+
+-- what is wrong at n, as far as the head of the open nodes tells
+unfoldable pub headFault : List Node → Node → ℕ
+headFault [] n = TAKEN
+headFault (e ∷ es) n = cond (not (insideb n e)) CROSS (cond (not (ltb (e .level) (n .level))) DEPTH TAKEN)
+
+-- what is wrong at n, as far as the row of nodes that were open at the node before tells
+unfoldable pub topFault : List Node → Node → ℕ
+topFault opened n = cond (levelb n) LEVEL (cond (spanb n) SPAN (cond (orderb opened n) ORDER (headFault (unended n opened) n)))
+
+-- a step past n, at an index, from a row of open nodes: it is taken and lies at the head of those left, or it is refused
+abbrev pub Passed : List Node → Node → ℕ → Step → List ℕ → Type 0
+Passed opened n index (Reached reached) words =
+    (topFault opened n ≡ TAKEN) × (reached .index ≡ index + 1) × (firsts (reached .depth) (nodes words) ≡ n ∷ unended n opened)
+Passed opened n index (Refused refusal) words = (topFault opened n ≡ TAKEN → ⊥) × (refusal ≡ verdict (topFault opened n) ANCESTORS index)

@@ -1,0 +1,58 @@
+// The check of two lists that are to be joined.
+use crate::list::check_list;
+use crate::list::word_fault;
+use crate::merge::pass_both;
+use crate::verdict::ANCESTORS;
+use crate::verdict::DESCENDANTS;
+use crate::verdict::Verdict;
+use crate::walk::verdict_of;
+use nodes::answer::JOINT;
+use nodes::answer::TAKEN;
+ghost use mathlib.Core.Path.{_≡_};
+ghost use mathlib.Core.Bool.{not};
+ghost use Rattle.lists.specs.Two.{checkTwo, refusedb};
+
+// Whether both lists are accepted and agree. One walk along their merge settles it.
+fn are_agreeing(ancestors: &[u32], descendants: &[u32]) -> bool
+    ensures { λ r. ⌜ r ≡ not (refusedb (checkTwo (now (ancestors .entry)) (now (descendants .entry)))) ⌝ }
+{
+    if word_fault(ancestors) != TAKEN {
+        return false;
+    }
+    if word_fault(descendants) != TAKEN {
+        return false;
+    }
+    let verdict = verdict_of(pass_both(ancestors, descendants));
+    verdict.answer == TAKEN
+}
+
+// The caller learns whether both lists are accepted and agree, and if not, why, in which list and at which node. Where the walk along
+// the merge finds a fault, the lists are walked one after the other to say which; where both pass alone, it is JOINT.
+pub fn check_two(ancestors: &[u32], descendants: &[u32]) -> Verdict
+    ensures { λ r. ⌜ r ≡ checkTwo (now (ancestors .entry)) (now (descendants .entry)) ⌝ }
+{
+    if are_agreeing(ancestors, descendants) {
+        return Verdict {
+            answer: TAKEN,
+            list: ANCESTORS,
+            index: 0,
+        };
+    }
+    let first = check_list(ancestors);
+    if first.answer != TAKEN {
+        return first;
+    }
+    let second = check_list(descendants);
+    if second.answer != TAKEN {
+        return Verdict {
+            answer: second.answer,
+            list: DESCENDANTS,
+            index: second.index,
+        };
+    }
+    Verdict {
+        answer: JOINT,
+        list: ANCESTORS,
+        index: 0,
+    }
+}

@@ -1,0 +1,137 @@
+// The walk along a list, a node at a time. The nodes that are still open are kept on a stack, the innermost on top; each lies inside
+// the one below it and has a higher level, so there are never more of them than levels.
+use crate::verdict::ANCESTORS;
+use crate::verdict::Verdict;
+use nodes::answer::CROSS;
+use nodes::answer::DEPTH;
+use nodes::answer::LEVEL;
+use nodes::answer::ORDER;
+use nodes::answer::SPAN;
+use nodes::answer::TAKEN;
+use nodes::node::MOST_LEVELS;
+use nodes::node::NODE_WORDS;
+use nodes::node::Node;
+use nodes::node::is_after;
+use nodes::node::is_inside;
+use nodes::node::is_open;
+use nodes::node::node_at;
+use nodes::node::put_node;
+ghost use mathlib.Core.Path.{_≡_};
+ghost use mathlib.Core.Bool.{not};
+ghost use mathlib.Core.List.{_∷_};
+ghost use Prim.Native.Nat.{_+_, _*_, _≤_, _<_};
+ghost use Rattle.nodes.specs.Node.{MOST-LEVELS};
+ghost use Rattle.nodes.specs.Words.{nodes, MOST-NODES};
+ghost use Rattle.lists.specs.Fault.{orderb};
+ghost use Rattle.lists.specs.Verdict.{ANCESTORS, verdict, verdictOf};
+ghost use Rattle.lists.specs.Walk.{firsts, unended, place, Chain, Passed};
+
+// The stack's words.
+pub(crate) const STACK_WORDS: usize = NODE_WORDS * MOST_LEVELS;
+
+// Where a walk stands: how many nodes it has passed, and how many of them are on the stack.
+pub(crate) struct Place {
+    pub index: usize,
+    pub depth: usize,
+}
+
+// What a step answers: the place that it reached, or the refusal.
+pub(crate) enum Step {
+    Reached(Place),
+    Refused(Verdict),
+}
+
+// What a step says, as a verdict: a place reached is TAKEN so far.
+pub(crate) fn verdict_of(step: Step) -> Verdict
+    ensures { λ r. ⌜ r ≡ verdictOf step ⌝ }
+{
+    match step {
+        Step::Reached(_) => Verdict {
+            answer: TAKEN,
+            list: ANCESTORS,
+            index: 0,
+        },
+        Step::Refused(verdict) => verdict,
+    }
+}
+
+// The refusal of the node at an index.
+fn refused(answer: u32, index: usize) -> Step
+    ensures { λ r. ⌜ r ≡ Step.Refused (verdict answer ANCESTORS index) ⌝ }
+{
+    Step::Refused(Verdict {
+        answer: answer,
+        list: ANCESTORS,
+        index: index,
+    })
+}
+
+// Whether the node stands after the last one passed, which lies on top of the stack.
+fn is_next(stack: &[u32; STACK_WORDS], depth: usize, node: Node) -> bool
+    ensures { λ r. ⌜ r ≡ not (orderb (firsts depth (nodes (now (stack .entry)))) node) ⌝ }
+{
+    if depth == 0 {
+        return true;
+    }
+    is_after(node, node_at(stack, depth - 1))
+}
+
+// How many of the nodes on the stack are left once those on top that ended before the node are taken off. What lies under an open
+// node contains it and is open too, so the first open one ends the search.
+fn left_open(stack: &[u32; STACK_WORDS], depth: usize, node: Node) -> usize
+    ensures { λ r. ⌜ (r ≤ depth) × (firsts r (nodes (now (stack .entry))) ≡ unended node (firsts depth (nodes (now (stack .entry))))) ⌝ }
+{
+    let mut left = depth;
+    while 0 < left {
+        if is_open(node, node_at(stack, left - 1)) {
+            return left;
+        }
+        left -= 1;
+    }
+    left
+}
+
+// The node comes to lie on top of those that are left, and the walk is one node further.
+fn push(stack: &mut [u32; STACK_WORDS], index: usize, left: usize, node: Node) -> Step
+    requires { ⌜ (index < 2 * MOST-NODES) × (left < MOST-LEVELS) ⌝ }
+    ensures { λ r. ⌜ (r ≡ Step.Reached (place (index + 1) (left + 1))) × (firsts (left + 1) (nodes (now (stack .exit))) ≡ node ∷ firsts left (nodes (now (stack .entry)))) ⌝ }
+{
+    put_node(stack, left, node);
+    Step::Reached(Place {
+        index: index + 1,
+        depth: left + 1,
+    })
+}
+
+// One step: the next node is taken and comes to lie on top of the stack, or it is refused. Everything on the stack contains the top,
+// so the top alone is tested.
+pub(crate) fn pass_node(stack: &mut [u32; STACK_WORDS], place: Place, node: Node) -> Step
+    requires { ⌜ (place .index < 2 * MOST-NODES) × Chain (firsts (place .depth) (nodes (now stack))) ⌝ }
+    ensures { λ r. ⌜ Passed (firsts (place .depth) (nodes (now (stack .entry)))) node (place .index) r (now (stack .exit)) ⌝ }
+{
+    let index = place.index;
+    if node.level == 0 {
+        return refused(LEVEL, index);
+    }
+    if MOST_LEVELS < node.level as usize {
+        return refused(LEVEL, index);
+    }
+    if node.end < node.start {
+        return refused(SPAN, index);
+    }
+    if !is_next(stack, place.depth, node) {
+        return refused(ORDER, index);
+    }
+    let left = left_open(stack, place.depth, node);
+    if left == 0 {
+        return push(stack, index, left, node);
+    }
+    let top = node_at(stack, left - 1);
+    if !is_inside(node, top) {
+        return refused(CROSS, index);
+    }
+    if node.level <= top.level {
+        return refused(DEPTH, index);
+    }
+    push(stack, index, left, node)
+}
