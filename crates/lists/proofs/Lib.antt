@@ -7,6 +7,7 @@ pub mod Keeping
 pub mod MergeSteps
 pub mod Merging
 pub mod Naming
+pub mod Only
 pub mod Pairing
 pub mod Steps
 pub mod Taken
