@@ -3,15 +3,13 @@
 use mathlib.Core.Path.{_≡_, refl, sym, ap, _∙_, subst}
 use mathlib.Core.Bool.{true, false, cond}
 use mathlib.Core.List.{List, [], _∷_}
-use Prim.Native.Nat.{ℕ, suc, _+_, _≤_, _<_}
+use Prim.Native.Nat.{ℕ, _+_}
 use native.Mathlib.Numerals.{add-one}
 use lib.Dec.{eqb}
-use lib.ListN.{drop}
 use borrow.Author.Tests.{eq-eqb, ne-eqb}
 use Rattle.nodes.specs.declared.node.Node.{Node}
 use Rattle.nodes.specs.Answer.{TAKEN}
-use Rattle.nodes.specs.Words.{nodes, count, nodeAt}
-use Rattle.nodes.proofs.WordLaws.{nodes-from, nodes-behind}
+use Rattle.nodes.specs.Words.{nodes}
 use Rattle.lists.specs.declared.verdict.Verdict.{Verdict}
 use Rattle.lists.specs.declared.walk.Place.{Place}
 use Rattle.lists.specs.declared.walk.Step.{Step}
@@ -68,12 +66,3 @@ module _ {s : List Node} {n : Node} {index : ℕ} {rest : List Node} {whole : Ve
 
     pub walk-stop : (v : Verdict) → r ≡ Refused v → verdictOf r ≡ whole
     walk-stop v e = ap verdictOf e ∙ stopped words v (subst (λ (step : Step). Passed s n index step words) e h)
-
--- the next node of the words is the head of what is left of them
-pub walk-next : (ws : List ℕ) (i : ℕ) {s : List Node} {whole : Verdict} → i < count ws → (n : Node) → n ≡ nodeAt ws i
-    → Walk s i (drop i (nodes ws)) whole → Walk s i (n ∷ drop (i + 1) (nodes ws)) whole
-walk-next ws i h n q w = walk-as (nodes-from ws i h ∙ ap (λ m. m ∷ drop (i + 1) (nodes ws)) (sym q)) w
-
--- behind the last node nothing is left
-pub walk-done : (ws : List ℕ) (i : ℕ) {s : List Node} {whole : Verdict} → count ws ≤ i → Walk s i (drop i (nodes ws)) whole → taken ≡ whole
-walk-done ws i h w = walk-end (walk-as (nodes-behind ws i h) w)

@@ -1,15 +1,17 @@
--- Words at fault are answered at once, and of whole words the walk's answer is the check's.
+-- Words at fault are answered at once; whole words are walked, and a list merged with an empty one is that list.
 -- A fault of the words passed over, or a refusal given as TAKEN, falls at its return.
 use borrow.Author.Needs.{needs}
-use mathlib.Core.Path.{_≡_, refl, sym, ap, _∙_}
-use mathlib.Core.List.{List}
-use Prim.Native.Nat.{ℕ}
+use mathlib.Core.Path.{_≡_, sym, ap, _∙_}
+use mathlib.Core.List.{List, []}
+use Prim.Native.Nat.{ℕ, zero-le}
 use denote.Ref.{now}
 use borrow.Author.Tests.{eq-eqb, ne-eqb}
 use Rattle.nodes.specs.Answer.{TAKEN}
 use Rattle.nodes.specs.Words.{nodes}
 use Rattle.lists.specs.Check.{checkNodes, checkWords, wordFault}
+use Rattle.lists.specs.Merge.{merge}
 use Rattle.lists.specs.Verdict.{ANCESTORS, verdict}
+use Rattle.lists.proofs.MergeSteps.{merge-nil}
 use Rattle.lists.proofs.Taken.{whole-words}
 use Rattle.lists.proofs.list.check_list.Statement.{statement}
 use Rattle.lists.proofs.list.check_list.Tie as tie
@@ -19,9 +21,9 @@ module _ (ws : List ℕ) (f : ℕ) (q : f ≡ wordFault ws) where
   unfolding checkWords
   faulty h = rw (← q, ne-eqb _ _ h)
 
-  whole : f ≡ TAKEN → checkNodes (nodes ws) ≡ checkWords ws
-  unfolding checkWords
-  whole h = rw (← q, eq-eqb _ _ h)
+  whole : f ≡ TAKEN → checkNodes (merge (nodes ws) (nodes [])) ≡ checkWords ws
+  unfolding checkWords nodes
+  whole h = rw (← q, eq-eqb _ _ h) (ap checkNodes (merge-nil (nodes ws)))
 
 word-fault-requires : tie.Need-word-fault-requires
 word-fault-requires c κs = search needs
@@ -29,18 +31,27 @@ word-fault-requires c κs = search needs
 returns : tie.Need-returns
 returns c = faulty (now (c .before .before .before .args .words)) _ (c .before .word-fault .ensures) (c .if1 .taken)
 
-pass-list-requires : tie.Need-pass-list-requires
-pass-list-requires c κs = whole-words (now (c .before .before .before .args .words)) .0 (sym (c .before .word-fault .ensures) ∙ c .if1 .left) .1
+slice-aggregate-pass-both : tie.Need-slice-aggregate-pass-both
+slice-aggregate-pass-both c = search needs
+
+pass-both-requires : tie.Need-pass-both-requires
+pass-both-requires c κs = (whole-words (now (c .before .before .before .before .args .words)) .0 (sym (c .before .before .word-fault .ensures) ∙ c .before .if1 .left) .1, zero-le)
 
 verdict-of-requires : tie.Need-verdict-of-requires
 verdict-of-requires c κs = search needs
 
 returns-2 : tie.Need-returns-2
 returns-2 c =
-    c .verdict-of .ensures ∙ c .before .pass-list .ensures
-    ∙ whole (now (c .before .before .before .before .before .args .words)) _ (c .before .before .before .word-fault .ensures) (c .before .before .if1 .left)
+    c .verdict-of .ensures ∙ c .before .pass-both .ensures
+    ∙ whole (now (c .before .before .before .before .before .before .args .words)) _ (c .before .before .before .before .word-fault .ensures) (c .before .before .before .if1 .left)
 
 pub check-list-spec : {M : Type 1} → statement M
 check-list-spec =
     tie.close
-    (tie.spec word-fault-requires returns pass-list-requires verdict-of-requires returns-2)
+    (tie.spec
+    word-fault-requires
+    returns
+    slice-aggregate-pass-both
+    pass-both-requires
+    verdict-of-requires
+    returns-2)
