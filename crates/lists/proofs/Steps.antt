@@ -95,13 +95,13 @@ module _ (s : List Node) (n : Node) where
 
     -- the row that is left, in the words of a stack, and the node put on top of it
     module _ (b : Begun) (k : ℕ) (st : List ℕ) (left : firsts k (nodes st) ≡ unended n s) where
-      taken : headFault (unended n s) n ≡ TAKEN → r ≡ Reached (place (i + 1) (k + 1)) → firsts (k + 1) (nodes ws) ≡ n ∷ firsts k (nodes st)
+      taken : headFault (unended n s) n ≡ TAKEN → k < MOST-LEVELS → r ≡ Reached (place (i + 1) (k + 1)) → firsts (k + 1) (nodes ws) ≡ n ∷ firsts k (nodes st)
           → Passed s n i r ws
-      taken h e p = subst (λ (step : Step). Passed s n i step ws) (sym e) (fault-head b ∙ h, refl, p ∙ ap (λ es. n ∷ es) left)
+      taken h l e p = subst (λ (step : Step). Passed s n i step ws) (sym e) (fault-head b ∙ h, refl, p ∙ ap (λ es. n ∷ es) left, omega arith)
 
       pub passed-alone : k ≡ 0 → r ≡ Reached (place (i + 1) (k + 1)) → firsts (k + 1) (nodes ws) ≡ n ∷ firsts k (nodes st) → Passed s n i r ws
       unfolding firsts headFault
-      passed-alone z e p = taken (rw (← left, z) refl) e p
+      passed-alone z e p = taken (rw (← left, z) refl) (omega arith) e p
 
       module _ (e : Node) (some : 0 < k) (top : e ≡ nodeAt st (k - 1)) where
         head : headFault (unended n s) n ≡ headFault (e ∷ firsts (k - 1) (nodes st)) n
@@ -115,7 +115,7 @@ module _ (s : List Node) (n : Node) where
         unfolding headFault
         passed-depth h l q = refuse 6 (fault-head b ∙ head ∙ rw (h, le-ltb (e .level) (n .level) l) refl) q
 
-        pub passed-on : insideb n e ≡ true → e .level < n .level → r ≡ Reached (place (i + 1) (k + 1))
+        pub passed-on : insideb n e ≡ true → e .level < n .level → k < MOST-LEVELS → r ≡ Reached (place (i + 1) (k + 1))
             → firsts (k + 1) (nodes ws) ≡ n ∷ firsts k (nodes st) → Passed s n i r ws
         unfolding headFault
-        passed-on h l q p = taken (head ∙ rw (h, lt-ltb (e .level) (n .level) l) refl) q p
+        passed-on h l m q p = taken (head ∙ rw (h, lt-ltb (e .level) (n .level) l) refl) m q p

@@ -3,12 +3,13 @@
 use mathlib.Core.Path.{_≡_, refl, sym, ap, _∙_, subst}
 use mathlib.Core.Bool.{true, false, cond}
 use mathlib.Core.List.{List, [], _∷_}
-use Prim.Native.Nat.{ℕ, _+_}
+use Prim.Native.Nat.{ℕ, _+_, _≤_}
 use native.Mathlib.Numerals.{add-one}
 use lib.Dec.{eqb}
 use borrow.Author.Tests.{eq-eqb, ne-eqb}
 use Rattle.nodes.specs.declared.node.Node.{Node}
 use Rattle.nodes.specs.Answer.{TAKEN}
+use Rattle.nodes.specs.Node.{MOST-LEVELS}
 use Rattle.nodes.specs.Words.{nodes}
 use Rattle.lists.specs.declared.verdict.Verdict.{Verdict}
 use Rattle.lists.specs.declared.walk.Place.{Place}
@@ -61,8 +62,8 @@ module _ {s : List Node} {n : Node} {index : ℕ} {rest : List Node} {whole : Ve
 
   -- what a step's answer says of the walk
   module _ (words : List ℕ) (r : Step) (h : Passed s n index r words) where
-    pub walk-on : (p : Place) → r ≡ Reached p → (p .index ≡ index + 1) × Walk (firsts (p .depth) (nodes words)) (p .index) rest whole
-    walk-on p e = let g = subst (λ (step : Step). Passed s n index step words) e h in (g .1, passed-on words p g)
+    pub walk-on : (p : Place) → r ≡ Reached p → (p .index ≡ index + 1) × (p .depth ≤ MOST-LEVELS) × Walk (firsts (p .depth) (nodes words)) (p .index) rest whole
+    walk-on p e = let g = subst (λ (step : Step). Passed s n index step words) e h in (g .1, g .3, passed-on words p g)
 
     pub walk-stop : (v : Verdict) → r ≡ Refused v → verdictOf r ≡ whole
     walk-stop v e = ap verdictOf e ∙ stopped words v (subst (λ (step : Step). Passed s n index step words) e h)

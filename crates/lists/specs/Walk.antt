@@ -7,7 +7,7 @@ use lib.Dec.{ltb}
 use lib.ListN.{getD}
 use Rattle.nodes.specs.declared.node.Node.{Node}
 use Rattle.nodes.specs.Answer.{TAKEN, LEVEL, SPAN, ORDER, CROSS, DEPTH}
-use Rattle.nodes.specs.Node.{insideb, openb}
+use Rattle.nodes.specs.Node.{insideb, openb, MOST-LEVELS}
 use Rattle.nodes.specs.Words.{node, nodes}
 use Rattle.lists.specs.declared.walk.Place.{Place}
 use Rattle.lists.specs.declared.walk.Step.{Step}
@@ -51,4 +51,5 @@ topFault opened n = cond (levelb n) LEVEL (cond (spanb n) SPAN (cond (orderb ope
 abbrev pub Passed : List Node → Node → ℕ → Step → List ℕ → Type 0
 Passed opened n index (Reached reached) words =
     (topFault opened n ≡ TAKEN) × (reached .index ≡ index + 1) × (firsts (reached .depth) (nodes words) ≡ n ∷ unended n opened)
+    × (reached .depth ≤ MOST-LEVELS)
 Passed opened n index (Refused refusal) words = (topFault opened n ≡ TAKEN → ⊥) × (refusal ≡ verdict (topFault opened n) ANCESTORS index)

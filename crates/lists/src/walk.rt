@@ -14,14 +14,13 @@ use nodes::node::Node;
 use nodes::node::is_after;
 use nodes::node::is_inside;
 use nodes::node::is_open;
-use nodes::node::node_at;
 use nodes::node::put_node;
 ghost use mathlib.Core.Path.{_≡_};
 ghost use mathlib.Core.Bool.{not};
 ghost use mathlib.Core.List.{_∷_};
 ghost use Prim.Native.Nat.{_+_, _*_, _≤_, _<_};
 ghost use Rattle.nodes.specs.Node.{MOST-LEVELS};
-ghost use Rattle.nodes.specs.Words.{nodes, MOST-NODES};
+ghost use Rattle.nodes.specs.Words.{nodes, count, nodeAt, MOST-NODES};
 ghost use Rattle.lists.specs.Fault.{orderb};
 ghost use Rattle.lists.specs.Verdict.{ANCESTORS, verdict, verdictOf};
 ghost use Rattle.lists.specs.Walk.{firsts, unended, place, Chain, Passed};
@@ -66,24 +65,40 @@ fn refused(answer: u32, index: usize) -> Step
     })
 }
 
+// The node at a place of the stack, counted from the bottom.
+fn open_at(stack: &[u32], k: usize) -> Node
+    requires { ⌜ k < count (now stack) ⌝ }
+    ensures { λ r. ⌜ r ≡ nodeAt (now (stack .entry)) k ⌝ }
+{
+    let at = NODE_WORDS * k;
+    Node {
+        document: stack[at],
+        start: stack[at + 1],
+        end: stack[at + 2],
+        level: stack[at + 3],
+    }
+}
+
 // Whether the node stands after the last one passed, which lies on top of the stack.
 fn is_next(stack: &[u32; STACK_WORDS], depth: usize, node: Node) -> bool
+    requires { ⌜ depth ≤ MOST-LEVELS ⌝ }
     ensures { λ r. ⌜ r ≡ not (orderb (firsts depth (nodes (now (stack .entry)))) node) ⌝ }
 {
     if depth == 0 {
         return true;
     }
-    is_after(node, node_at(stack, depth - 1))
+    is_after(node, open_at(stack, depth - 1))
 }
 
 // How many of the nodes on the stack are left once those on top that ended before the node are taken off. What lies under an open
 // node contains it and is open too, so the first open one ends the search.
 fn left_open(stack: &[u32; STACK_WORDS], depth: usize, node: Node) -> usize
+    requires { ⌜ depth ≤ MOST-LEVELS ⌝ }
     ensures { λ r. ⌜ (r ≤ depth) × (firsts r (nodes (now (stack .entry))) ≡ unended node (firsts depth (nodes (now (stack .entry))))) ⌝ }
 {
     let mut left = depth;
     while 0 < left {
-        if is_open(node, node_at(stack, left - 1)) {
+        if is_open(node, open_at(stack, left - 1)) {
             return left;
         }
         left -= 1;
@@ -106,7 +121,7 @@ fn push(stack: &mut [u32; STACK_WORDS], index: usize, left: usize, node: Node) -
 // One step: the next node is taken and comes to lie on top of the stack, or it is refused. Everything on the stack contains the top,
 // so the top alone is tested.
 pub(crate) fn pass_node(stack: &mut [u32; STACK_WORDS], place: Place, node: Node) -> Step
-    requires { ⌜ (place .index < 2 * MOST-NODES) × Chain (firsts (place .depth) (nodes (now stack))) ⌝ }
+    requires { ⌜ (place .index < 2 * MOST-NODES) × (place .depth ≤ MOST-LEVELS) × Chain (firsts (place .depth) (nodes (now stack))) ⌝ }
     ensures { λ r. ⌜ Passed (firsts (place .depth) (nodes (now (stack .entry)))) node (place .index) r (now (stack .exit)) ⌝ }
 {
     let index = place.index;
@@ -126,7 +141,7 @@ pub(crate) fn pass_node(stack: &mut [u32; STACK_WORDS], place: Place, node: Node
     if left == 0 {
         return push(stack, index, left, node);
     }
-    let top = node_at(stack, left - 1);
+    let top = open_at(stack, left - 1);
     if !is_inside(node, top) {
         return refused(CROSS, index);
     }

@@ -37,8 +37,11 @@ pub fn is_inside(y: Node, x: Node) -> bool
 pub fn is_after(y: Node, x: Node) -> bool
     ensures { λ r. ⌜ r ≡ afterb y x ⌝ }
 {
+    if x.document < y.document {
+        return true;
+    }
     if y.document != x.document {
-        return x.document < y.document;
+        return false;
     }
     x.start < y.start
 }

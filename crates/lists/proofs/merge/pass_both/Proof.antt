@@ -8,6 +8,7 @@ use native.Mathlib.Omega.{arith}
 use lib.ListN.{drop, length}
 use denote.Ref.{now}
 use Rattle.nodes.specs.declared.node.Node.{Node}
+use Rattle.nodes.specs.Node.{MOST-LEVELS}
 use Rattle.nodes.specs.Words.{nodes, count}
 use Rattle.nodes.proofs.WordLaws.{length-nodes}
 use Rattle.lists.specs.Check.{checkNodes}
@@ -20,7 +21,7 @@ use Rattle.lists.proofs.merge.pass_both.Tie as tie
 
 abbrev Inv-loop : tie.InvT-loop
 Inv-loop xs ys stack₀ place₀ i₀ j₀ stack place i j =
-    (i ≤ count xs) × (j ≤ count ys) × (place .index ≤ i + j)
+    (i ≤ count xs) × (j ≤ count ys) × (place .index ≤ i + j) × (place .depth ≤ MOST-LEVELS)
     × Walk (firsts (place .depth) (nodes stack)) (place .index) (merge (drop i (nodes xs)) (drop j (nodes ys))) (checkNodes (merge (nodes xs) (nodes ys)))
 
 abbrev μ-loop : tie.MeasureT-loop
@@ -28,7 +29,7 @@ abbrev μ-loop : tie.MeasureT-loop
 
 loop-holds : tie.Need-loop-holds Inv-loop μ-loop
 unfolding firsts
-loop-holds c = (zero-le, zero-le, zero-le, walk-start (merge (nodes (now (c .before .before .args .xs))) (nodes (now (c .before .before .args .ys)))))
+loop-holds c = (zero-le, zero-le, zero-le, zero-le, walk-start (merge (nodes (now (c .before .before .args .xs))) (nodes (now (c .before .before .args .ys)))))
 
 add-if1 : tie.Need-add-if1 Inv-loop μ-loop
 add-if1 c = search needs
@@ -46,7 +47,7 @@ next-of-requires : tie.Need-next-of-requires Inv-loop μ-loop
 next-of-requires c κs = search needs
 
 pass-node-requires : tie.Need-pass-node-requires Inv-loop μ-loop
-pass-node-requires c κs = (omega arith, c .before .before .before .before .before .loop .inv .3 .kept .stands .chain)
+pass-node-requires c κs = (omega arith, omega arith, c .before .before .before .before .before .loop .inv .4 .kept .stands .chain)
 
 enum-known-step : tie.Need-enum-known-step Inv-loop μ-loop
 enum-known-step c = search needs
@@ -55,7 +56,7 @@ enum-told : tie.Need-enum-told Inv-loop μ-loop
 enum-told c = search needs
 
 returns : tie.Need-returns Inv-loop μ-loop
-returns c = walk-stop (walk-as (c .before .before .before .before .next-of .ensures .next) (c .before .before .before .before .before .before .before .before .loop .inv .3)) _ _ (c .before .before .pass-node .ensures) _ (c .enum-told .given .1)
+returns c = walk-stop (walk-as (c .before .before .before .before .next-of .ensures .next) (c .before .before .before .before .before .before .before .before .loop .inv .4)) _ _ (c .before .before .pass-node .ensures) _ (c .enum-told .given .1)
 
 loop-less : tie.Need-loop-less Inv-loop μ-loop
 loop-less c =
@@ -67,15 +68,15 @@ loop-again : tie.Need-loop-again Inv-loop μ-loop
 loop-again c =
     let a = c .before .before .before .before .before .before .before .before .before .before .before .before .args in
     let d = c .before .before .before .before .before .next-of .ensures in
-    let w = walk-on (walk-as (c .before .before .before .before .before .next-of .ensures .next) (c .before .before .before .before .before .before .before .before .before .loop .inv .3)) _ _ (c .before .before .before .pass-node .ensures) _ (c .before .step .given .1) in
+    let w = walk-on (walk-as (c .before .before .before .before .before .next-of .ensures .next) (c .before .before .before .before .before .before .before .before .before .loop .inv .4)) _ _ (c .before .before .before .pass-node .ensures) _ (c .before .step .given .1) in
     let i = w .0 in
-    (omega (arith, d .first-in, length-nodes (now (a .xs))), omega (arith, d .second-in, length-nodes (now (a .ys))), omega (arith, d .on), w .1)
+    (omega (arith, d .first-in, length-nodes (now (a .xs))), omega (arith, d .second-in, length-nodes (now (a .ys))), omega (arith, d .on), w .1, w .2)
 
 returns-2 : tie.Need-returns-2 Inv-loop μ-loop
 returns-2 c =
     let a = c .before .before .before .before .before .before .args in
     let l = c .before .before .before .loop in
-    walk-end (walk-as (none-left (now (a .xs)) (now (a .ys)) (l .i) (l .j) (omega arith) (omega arith)) (l .inv .3))
+    walk-end (walk-as (none-left (now (a .xs)) (now (a .ys)) (l .i) (l .j) (omega arith) (omega arith)) (l .inv .4))
 
 pub pass-both-spec : {M : Type 1} → statement M
 pass-both-spec =

@@ -27,11 +27,11 @@ next ws k n e h q = rw (head-at k ws h, ← q) (sym (Bool·not-not (afterb n e))
 returns : tie.Need-returns
 returns c = alone (now (c .before .args .stack)) _ (c .before .args .node) (c .if1 .taken)
 
-sub-node-at : tie.Need-sub-node-at
-sub-node-at c = search needs
+sub-open-at : tie.Need-sub-open-at
+sub-open-at c = search needs
 
-node-at-requires : tie.Need-node-at-requires
-node-at-requires c κs = search needs
+open-at-requires : tie.Need-open-at-requires
+open-at-requires c κs = search needs
 
 is-after-requires : tie.Need-is-after-requires
 is-after-requires c κs = search needs
@@ -39,8 +39,8 @@ is-after-requires c κs = search needs
 returns-2 : tie.Need-returns-2
 returns-2 c =
     let a = c .before .before .before .before .args in
-    c .is-after .ensures ∙ next (now (a .stack)) (a .depth) (a .node) _ (omega arith) (c .before .node-at .ensures)
+    c .is-after .ensures ∙ next (now (a .stack)) (a .depth) (a .node) _ (omega arith) (c .before .open-at .ensures)
 
 pub is-next-spec : {M : Type 1} → statement M
 is-next-spec =
-    tie.close (tie.spec returns sub-node-at node-at-requires is-after-requires returns-2)
+    tie.close (tie.spec returns sub-open-at open-at-requires is-after-requires returns-2)

@@ -25,11 +25,11 @@ abbrev μ-loop : tie.MeasureT-loop
 loop-holds : tie.Need-loop-holds Inv-loop μ-loop
 loop-holds c = (le-refl _, refl)
 
-sub-node-at : tie.Need-sub-node-at Inv-loop μ-loop
-sub-node-at c = search needs
+sub-open-at : tie.Need-sub-open-at Inv-loop μ-loop
+sub-open-at c = search needs
 
-node-at-requires : tie.Need-node-at-requires Inv-loop μ-loop
-node-at-requires c κs = search needs
+open-at-requires : tie.Need-open-at-requires Inv-loop μ-loop
+open-at-requires c κs = search needs
 
 is-open-requires : tie.Need-is-open-requires Inv-loop μ-loop
 is-open-requires c κs = search needs
@@ -38,7 +38,7 @@ returns : tie.Need-returns Inv-loop μ-loop
 returns c =
     let a = c .before .before .before .before .before .before .args in
     let l = c .before .before .before .before .before .loop in
-    (l .inv .0, head-open _ (now (a .stack)) (a .node) _ (omega arith) (c .before .before .node-at .ensures) (sym (c .before .is-open .ensures) ∙ c .if1 .taken) ∙ l .inv .1)
+    (l .inv .0, head-open _ (now (a .stack)) (a .node) _ (omega arith) (c .before .before .open-at .ensures) (sym (c .before .is-open .ensures) ∙ c .if1 .taken) ∙ l .inv .1)
 
 sub-left : tie.Need-sub-left Inv-loop μ-loop
 sub-left c = search needs
@@ -50,7 +50,7 @@ loop-again : tie.Need-loop-again Inv-loop μ-loop
 loop-again c =
     let a = c .before .before .before .before .before .before .args in
     let l = c .before .before .before .before .before .loop in
-    (omega arith, head-shut _ (now (a .stack)) (a .node) _ (omega arith) (c .before .before .node-at .ensures) (sym (c .before .is-open .ensures) ∙ c .if1 .left) ∙ l .inv .1)
+    (omega arith, head-shut _ (now (a .stack)) (a .node) _ (omega arith) (c .before .before .open-at .ensures) (sym (c .before .is-open .ensures) ∙ c .if1 .left) ∙ l .inv .1)
 
 returns-2 : tie.Need-returns-2 Inv-loop μ-loop
 returns-2 c =
@@ -64,8 +64,8 @@ left-open-spec =
     Inv-loop
     μ-loop
     loop-holds
-    sub-node-at
-    node-at-requires
+    sub-open-at
+    open-at-requires
     is-open-requires
     returns
     sub-left

@@ -70,11 +70,11 @@ returns-5 c =
     let b : Begun (firsts (a .place .depth) (nodes (now (a .stack)))) (a .node) = record { lowest = omega arith; highest = omega arith; span = omega arith; next = follows (c .before .before .before .before .before .before .is-next .ensures) (c .before .before .before .before .before .if4 .left) } in
     passed-alone (firsts (a .place .depth) (nodes (now (a .stack)))) (a .node) (a .place .index) _ _ b _ (now (a .stack)) (c .before .before .before .left-open .ensures .1) (c .before .before .if5 .taken) (c .push .ensures .0) (c .push .ensures .1)
 
-sub-node-at : tie.Need-sub-node-at
-sub-node-at c = search needs
+sub-open-at : tie.Need-sub-open-at
+sub-open-at c = search needs
 
-node-at-requires : tie.Need-node-at-requires
-node-at-requires c κs = search needs
+open-at-requires : tie.Need-open-at-requires
+open-at-requires c κs = search needs
 
 is-inside-requires : tie.Need-is-inside-requires
 is-inside-requires c κs = search needs
@@ -86,7 +86,7 @@ returns-6 : tie.Need-returns-6
 returns-6 c =
     let a = c .before .before .before .before .before .before .before .before .before .before .before .before .before .before .before .before .before .before .args in
     let b : Begun (firsts (a .place .depth) (nodes (now (a .stack)))) (a .node) = record { lowest = omega arith; highest = omega arith; span = omega arith; next = follows (c .before .before .before .before .before .before .before .before .before .before .is-next .ensures) (c .before .before .before .before .before .before .before .before .before .if4 .left) } in
-    passed-cross (firsts (a .place .depth) (nodes (now (a .stack)))) (a .node) (a .place .index) _ _ b _ (now (a .stack)) (c .before .before .before .before .before .before .before .left-open .ensures .1) _ (omega arith) (c .before .before .before .node-at .ensures) (sym (c .before .before .is-inside .ensures) ∙ not-true _ (c .before .if6 .taken)) (c .refused5 .ensures)
+    passed-cross (firsts (a .place .depth) (nodes (now (a .stack)))) (a .node) (a .place .index) _ _ b _ (now (a .stack)) (c .before .before .before .before .before .before .before .left-open .ensures .1) _ (omega arith) (c .before .before .before .open-at .ensures) (sym (c .before .before .is-inside .ensures) ∙ not-true _ (c .before .if6 .taken)) (c .refused5 .ensures)
 
 refused-requires-6 : tie.Need-refused-requires-6
 refused-requires-6 c κs = search needs
@@ -95,18 +95,18 @@ returns-7 : tie.Need-returns-7
 returns-7 c =
     let a = c .before .before .before .before .before .before .before .before .before .before .before .before .before .before .before .before .before .before .before .before .before .args in
     let b : Begun (firsts (a .place .depth) (nodes (now (a .stack)))) (a .node) = record { lowest = omega arith; highest = omega arith; span = omega arith; next = follows (c .before .before .before .before .before .before .before .before .before .before .before .before .before .is-next .ensures) (c .before .before .before .before .before .before .before .before .before .before .before .before .if4 .left) } in
-    passed-depth (firsts (a .place .depth) (nodes (now (a .stack)))) (a .node) (a .place .index) _ _ b _ (now (a .stack)) (c .before .before .before .before .before .before .before .before .before .before .left-open .ensures .1) _ (omega arith) (c .before .before .before .before .before .before .node-at .ensures) (sym (c .before .before .before .before .before .is-inside .ensures) ∙ not-false _ (c .before .before .before .before .if6 .left)) (omega arith) (c .refused6 .ensures)
+    passed-depth (firsts (a .place .depth) (nodes (now (a .stack)))) (a .node) (a .place .index) _ _ b _ (now (a .stack)) (c .before .before .before .before .before .before .before .before .before .before .left-open .ensures .1) _ (omega arith) (c .before .before .before .before .before .before .open-at .ensures) (sym (c .before .before .before .before .before .is-inside .ensures) ∙ not-false _ (c .before .before .before .before .if6 .left)) (omega arith) (c .refused6 .ensures)
 
 push-requires-2 : tie.Need-push-requires-2
 push-requires-2 c κs =
     let a = c .before .before .before .before .before .before .before .before .before .before .before .before .before .before .before .before .before .before .before .before .before .args in
-    (c .before .before .before .before .before .before .before .before .before .before .before .before .before .before .before .before .before .before .before .before .before .pre .0, room _ (now (a .stack)) (firsts (a .place .depth) (nodes (now (a .stack)))) (a .node) _ (omega arith) (c .before .before .before .before .before .before .node-at .ensures) (c .before .before .before .before .before .before .before .before .before .before .left-open .ensures .1) (c .before .before .before .before .before .before .before .before .before .before .before .before .before .before .before .before .before .before .before .before .before .pre .1) (omega arith) (omega arith))
+    (c .before .before .before .before .before .before .before .before .before .before .before .before .before .before .before .before .before .before .before .before .before .pre .0, room _ (now (a .stack)) (firsts (a .place .depth) (nodes (now (a .stack)))) (a .node) _ (omega arith) (c .before .before .before .before .before .before .open-at .ensures) (c .before .before .before .before .before .before .before .before .before .before .left-open .ensures .1) (c .before .before .before .before .before .before .before .before .before .before .before .before .before .before .before .before .before .before .before .before .before .pre .2) (omega arith) (omega arith))
 
 returns-8 : tie.Need-returns-8
 returns-8 c =
     let a = c .before .before .before .before .before .before .before .before .before .before .before .before .before .before .before .before .before .before .before .before .before .before .args in
     let b : Begun (firsts (a .place .depth) (nodes (now (a .stack)))) (a .node) = record { lowest = omega arith; highest = omega arith; span = omega arith; next = follows (c .before .before .before .before .before .before .before .before .before .before .before .before .before .before .is-next .ensures) (c .before .before .before .before .before .before .before .before .before .before .before .before .before .if4 .left) } in
-    passed-on (firsts (a .place .depth) (nodes (now (a .stack)))) (a .node) (a .place .index) _ _ b _ (now (a .stack)) (c .before .before .before .before .before .before .before .before .before .before .before .left-open .ensures .1) _ (omega arith) (c .before .before .before .before .before .before .before .node-at .ensures) (sym (c .before .before .before .before .before .before .is-inside .ensures) ∙ not-false _ (c .before .before .before .before .before .if6 .left)) (omega arith) (c .push2 .ensures .0) (c .push2 .ensures .1)
+    passed-on (firsts (a .place .depth) (nodes (now (a .stack)))) (a .node) (a .place .index) _ _ b _ (now (a .stack)) (c .before .before .before .before .before .before .before .before .before .before .before .left-open .ensures .1) _ (omega arith) (c .before .before .before .before .before .before .before .open-at .ensures) (sym (c .before .before .before .before .before .before .is-inside .ensures) ∙ not-false _ (c .before .before .before .before .before .if6 .left)) (omega arith) (room _ (now (a .stack)) (firsts (a .place .depth) (nodes (now (a .stack)))) (a .node) _ (omega arith) (c .before .before .before .before .before .before .before .open-at .ensures) (c .before .before .before .before .before .before .before .before .before .before .before .left-open .ensures .1) (c .before .before .before .before .before .before .before .before .before .before .before .before .before .before .before .before .before .before .before .before .before .before .pre .2) (omega arith) (omega arith)) (c .push2 .ensures .0) (c .push2 .ensures .1)
 
 pub pass-node-spec : {M : Type 1} → statement M
 pass-node-spec =
@@ -125,8 +125,8 @@ pass-node-spec =
     left-open-requires
     push-requires
     returns-5
-    sub-node-at
-    node-at-requires
+    sub-open-at
+    open-at-requires
     is-inside-requires
     refused-requires-5
     returns-6

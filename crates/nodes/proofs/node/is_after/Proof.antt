@@ -1,31 +1,37 @@
 -- Two documents are compared first, and the starts only within one document, as `afterb` does.
 -- A comparison the wrong way round, or one that takes equal starts, falls at its return.
 use mathlib.Core.Path.{_≡_}
-use Prim.Native.Nat.{_<_}
-use lib.Dec.{ltb}
-use borrow.Author.Tests.{eq-eqb, ne-eqb, le-ltb}
-use mathlib.Core.Bool.{or-false}
-use mathlib.Core.Path.{sym}
+use mathlib.Core.Bool.{true, false}
+use Prim.Native.Nat.{_≤_, _<_}
 use native.Mathlib.Omega.{arith}
+use lib.Dec.{ltb}
+use borrow.Author.Tests.{eq-eqb, ne-eqb, lt-ltb, le-ltb}
 use Rattle.nodes.specs.declared.node.Node.{Node}
 use Rattle.nodes.specs.Node.{afterb}
 use Rattle.nodes.proofs.node.is_after.Statement.{statement}
 use Rattle.nodes.proofs.node.is_after.Tie as tie
 
 module _ (y x : Node) where
-  documents : (y .document ≡ x .document → ⊥) → ltb (x .document) (y .document) ≡ afterb y x
+  later : x .document < y .document → true ≡ afterb y x
   unfolding afterb
-  documents h = rw (ne-eqb _ _ h) (sym (or-false _))
+  later h = rw (lt-ltb _ _ h)
+
+  earlier : y .document ≤ x .document → (y .document ≡ x .document → ⊥) → false ≡ afterb y x
+  unfolding afterb
+  earlier h d = rw (le-ltb _ _ h, ne-eqb _ _ d)
 
   starts : y .document ≡ x .document → ltb (x .start) (y .start) ≡ afterb y x
   unfolding afterb
   starts d = rw (eq-eqb _ _ d, le-ltb (x .document) (y .document) (omega arith))
 
 returns : tie.Need-returns
-returns c = documents _ _ (omega arith)
+returns c = later _ _ (c .if1 .taken)
 
 returns-2 : tie.Need-returns-2
-returns-2 c = starts _ _ (omega arith)
+returns-2 c = earlier _ _ (omega arith) (c .if2 .taken)
+
+returns-3 : tie.Need-returns-3
+returns-3 c = starts _ _ (omega arith)
 
 pub is-after-spec : {M : Type 1} → statement M
-is-after-spec = tie.close (tie.spec returns returns-2)
+is-after-spec = tie.close (tie.spec returns returns-2 returns-3)
