@@ -14,13 +14,12 @@ use nodes::node::Node;
 use nodes::node::is_after;
 use nodes::node::is_inside;
 use nodes::node::is_open;
-use nodes::node::put_node;
 ghost use mathlib.Core.Path.{_≡_};
 ghost use mathlib.Core.Bool.{not};
 ghost use mathlib.Core.List.{_∷_};
 ghost use Prim.Native.Nat.{_+_, _*_, _≤_, _<_};
 ghost use Rattle.nodes.specs.Node.{MOST-LEVELS};
-ghost use Rattle.nodes.specs.Words.{nodes, count, nodeAt, MOST-NODES};
+ghost use Rattle.nodes.specs.Words.{nodes, count, nodeAt, putNode, MOST-NODES};
 ghost use Rattle.lists.specs.Fault.{orderb};
 ghost use Rattle.lists.specs.Verdict.{ANCESTORS, verdict, verdictOf};
 ghost use Rattle.lists.specs.Walk.{firsts, unended, place, Chain, Passed};
@@ -106,12 +105,24 @@ fn left_open(stack: &[u32; STACK_WORDS], depth: usize, node: Node) -> usize
     left
 }
 
+// The node is written at a place of the stack, counted from the bottom.
+fn put_open(stack: &mut [u32], k: usize, node: Node)
+    requires { ⌜ k < count (now stack) ⌝ }
+    ensures { λ r. ⌜ now (stack .exit) ≡ putNode (now (stack .entry)) k node ⌝ }
+{
+    let at = NODE_WORDS * k;
+    stack[at] = node.document;
+    stack[at + 1] = node.start;
+    stack[at + 2] = node.end;
+    stack[at + 3] = node.level;
+}
+
 // The node comes to lie on top of those that are left, and the walk is one node further.
 fn push(stack: &mut [u32; STACK_WORDS], index: usize, left: usize, node: Node) -> Step
     requires { ⌜ (index < 2 * MOST-NODES) × (left < MOST-LEVELS) ⌝ }
     ensures { λ r. ⌜ (r ≡ Step.Reached (place (index + 1) (left + 1))) × (firsts (left + 1) (nodes (now (stack .exit))) ≡ node ∷ firsts left (nodes (now (stack .entry)))) ⌝ }
 {
-    put_node(stack, left, node);
+    put_open(stack, left, node);
     Step::Reached(Place {
         index: index + 1,
         depth: left + 1,

@@ -8,7 +8,7 @@ use native.Mathlib.Omega.{arith}
 use native.Mathlib.Nat.{not-suc-le-zero, le-of-suc-le-suc}
 use lib.ListN.{length, getD, set, drop, drop-of-length-le}
 use lib.Seq.{sets, length-sets, drop-cons}
-use native.Mathlib.Numerals.{add-one}
+use native.Mathlib.Numerals.{add-one, towards-suc}
 use mathlib.Core.Logic.{inl, inr}
 use lib.Dec.{ltb}
 use borrow.Author.Tests.{lt-ltb}
@@ -59,6 +59,12 @@ stored (d ∷ s ∷ e ∷ []) i n h = absurd (not-suc-le-zero h)
 stored (d ∷ s ∷ e ∷ l ∷ ws) zero n h = refl
 stored (d ∷ s ∷ e ∷ l ∷ ws) (suc i) n h =
     ap nodes (past d s e l ws {k = 4 * i} {m = 4 * suc i} (wordsOf n) (omega arith)) ∙ ap (λ ns. node d s e l ∷ ns) (stored ws i n (omega arith))
+
+-- the four stores that write a node
+pub four-stores : (ws : List ℕ) (i : ℕ) (n : Node) → i < count ws
+    → set (set (set (set ws (4 * i) (n .document)) (4 * i + 1) (n .start)) (4 * i + 2) (n .end)) (4 * i + 3) (n .level) ≡ putNode ws i n
+unfolding putNode wordsOf
+four-stores ws i n h = rw (lt-ltb _ _ h) (simp towards-suc)
 
 pub nodes-put : (ws : List ℕ) (i : ℕ) (n : Node) → i < count ws → nodes (putNode ws i n) ≡ set (nodes ws) i n
 unfolding putNode

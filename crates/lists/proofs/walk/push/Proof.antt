@@ -21,8 +21,8 @@ pushed ws us k n h e =
     ∙ ap (firsts (k + 1)) (nodes-put ws k n h)
     ∙ firsts-push k (nodes ws) n (omega (arith, length-nodes ws))
 
-put-node-requires : tie.Need-put-node-requires
-put-node-requires c κs = search needs
+put-open-requires : tie.Need-put-open-requires
+put-open-requires c κs = search needs
 
 add-t8 : tie.Need-add-t8
 add-t8 c = search needs
@@ -33,7 +33,7 @@ add-t9 c = search needs
 returns : tie.Need-returns
 returns c =
     let a = c .before .before .args in
-    (refl, pushed (now (a .stack)) _ (a .left) (a .node) (omega (arith, c .before .put-node-arg .given)) (c .put-node .ensures))
+    (refl, pushed (now (a .stack)) _ (a .left) (a .node) (omega (arith, c .before .put-open-arg .given)) (c .put-open .ensures))
 
 pub push-spec : {M : Type 1} → statement M
-push-spec = tie.close (tie.spec put-node-requires add-t8 add-t9 returns)
+push-spec = tie.close (tie.spec put-open-requires add-t8 add-t9 returns)

@@ -2,13 +2,13 @@
 -- A word stored one off falls at the last return, an index too large at a store.
 use Prim.Native.Nat.{ℕ, _+_, _*_, _≤_, _<_}
 use native.Mathlib.Omega.{arith}
-use native.Mathlib.Numerals.{towards-suc}
 use lib.ListN.{set, length-set}
 use mathlib.Core.Path.{_≡_}
 use mathlib.Core.List.{List}
-use borrow.Author.Tests.{lt-ltb, le-ltb}
+use borrow.Author.Tests.{le-ltb}
 use Rattle.nodes.specs.declared.node.Node.{Node}
-use Rattle.nodes.specs.Words.{count, wordsOf, putNode}
+use Rattle.nodes.specs.Words.{count, putNode}
+use Rattle.nodes.proofs.WordLaws.{four-stores}
 use borrow.Author.Needs.{needs}
 use Rattle.nodes.proofs.node.put_node.Statement.{statement}
 use Rattle.nodes.proofs.node.put_node.Tie as tie
@@ -16,11 +16,6 @@ use Rattle.nodes.proofs.node.put_node.Tie as tie
 none : (ws : List ℕ) (i : ℕ) (n : Node) → count ws ≤ i → ws ≡ putNode ws i n
 unfolding putNode
 none ws i n h = rw (le-ltb _ _ h)
-
-four : (ws : List ℕ) (i : ℕ) (n : Node) → i < count ws
-    → set (set (set (set ws (4 * i) (n .document)) (4 * i + 1) (n .start)) (4 * i + 2) (n .end)) (4 * i + 3) (n .level) ≡ putNode ws i n
-unfolding putNode wordsOf
-four ws i n h = rw (lt-ltb _ _ h) (simp towards-suc)
 
 node-count-requires : tie.Need-node-count-requires
 node-count-requires c κs = search needs
@@ -71,7 +66,7 @@ same-length-2 : tie.Need-same-length-2
 same-length-2 c = simp length-set
 
 returns-2 : tie.Need-returns-2
-returns-2 c = four _ _ _ (omega arith)
+returns-2 c = four-stores _ _ _ (omega arith)
 
 pub put-node-spec : {M : Type 1} → statement M
 put-node-spec =
