@@ -1,11 +1,11 @@
 -- The next node of a merge stands at the head of one list or of both, and each return takes that one off.
 -- A head taken from the wrong list, or left there, falls at its case.
-use mathlib.Core.Path.{_≡_, refl, sym, ap, _∙_}
+use mathlib.Core.Path.{_≡_, refl, _∙_}
 use mathlib.Core.Bool.{true, false}
 use mathlib.Core.List.{List, [], _∷_}
 use Prim.Native.Nat.{ℕ, _+_, _≤_, _<_}
 use native.Mathlib.Omega.{arith}
-use lib.ListN.{length, drop}
+use lib.ListN.{drop}
 use Rattle.nodes.specs.declared.node.Node.{Node}
 use Rattle.nodes.specs.Node.{afterb, sameb}
 use Rattle.nodes.specs.Words.{nodes, count, nodeAt}

@@ -1,6 +1,6 @@
 -- The open nodes lie one inside the other, so what the head of the row tells holds of all, and a node that ended is open at no later one.
 -- Were one open node lost or one ended node kept in its place, `stands-pop` or `top-tells` would fall.
-use mathlib.Core.Path.{_≡_, refl, sym, ap, _∙_}
+use mathlib.Core.Path.{_≡_, refl, ap, _∙_}
 use mathlib.Core.Logic.{_⊎_, inl, inr}
 use mathlib.Core.Bool.{Bool, true, false, cond, not, _&&_, _||_}
 use mathlib.Core.List.{List, [], _∷_}
@@ -12,12 +12,11 @@ use Rattle.nodes.specs.declared.node.Node.{Node}
 use Rattle.nodes.specs.Answer.{TAKEN, LEVEL, SPAN, ORDER, CROSS, DEPTH}
 use Rattle.nodes.specs.Choose.{any, keep}
 use Rattle.nodes.specs.Node.{insideb, openb, afterb}
-use Rattle.nodes.proofs.Choices.{All, all-map, none-any, any-same, keep-passed, keep-failed}
-use Rattle.nodes.proofs.NodeLaws.{within, inside-trans, inside-open, inside-after, after-trans, shut-later}
+use Rattle.nodes.proofs.Choices.{All, all-map, none-any, any-same, keep-failed}
+use Rattle.nodes.proofs.NodeLaws.{inside-trans, inside-open, inside-after, after-trans, shut-later}
 use Rattle.nodes.proofs.Tests.{either, never, not-so, and-read, or-none, not-read, not-none}
 use Rattle.lists.specs.Fault.{levelb, spanb, orderb, crossb, depthb, fault}
 use Rattle.lists.specs.Walk.{unended, Upon, Chain, headFault, topFault}
-use Rattle.lists.proofs.Steps.{chain-left}
 
 -- a row s stands for the nodes before at every node that P lets come next: a test that only open nodes pass keeps the same of both
 pub record Stands (P : Node → Type 0) (before s : List Node) : Type 0 where

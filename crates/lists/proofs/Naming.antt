@@ -1,20 +1,16 @@
 -- The check of two lists has four answers, told apart by the checks of each and by whether any of their nodes are at odds.
 -- A wrong list named, or JOINT where the lists agree, falls at its case.
-use mathlib.Core.Path.{_≡_, refl, sym, ap, _∙_}
-use mathlib.Core.Logic.{_⊎_, inl, inr}
-use mathlib.Core.Bool.{Bool, true, false, cond, not}
+use mathlib.Core.Path.{_≡_, refl}
+use mathlib.Core.Logic.{inl, inr}
+use mathlib.Core.Bool.{Bool, true, false, cond}
 use mathlib.Core.List.{List, [], _∷_}
-use Prim.Native.Nat.{ℕ, suc, _+_, _≤_, zero-le}
-use native.Mathlib.Omega.{arith}
+use Prim.Native.Nat.{ℕ, suc}
 use lib.Dec.{eqb}
-use lib.ListN.{length}
-use borrow.Author.Tests.{eqb-true, eqb-false, eq-eqb, ne-eqb}
+use borrow.Author.Tests.{eq-eqb, ne-eqb}
 use Rattle.nodes.specs.declared.node.Node.{Node}
 use Rattle.nodes.specs.Answer.{TAKEN, JOINT}
-use Rattle.nodes.specs.Words.{nodes, count}
-use Rattle.nodes.proofs.Tests.{either, never, so}
-use Rattle.nodes.proofs.WordLaws.{length-nodes}
-use Rattle.lists.specs.declared.verdict.Verdict.{Verdict}
+use Rattle.nodes.specs.Words.{nodes}
+use Rattle.nodes.proofs.Tests.{either, so}
 use Rattle.lists.specs.Check.{checkFrom, checkNodes, checkWords, wordFault}
 use Rattle.lists.specs.Fault.{fault}
 use Rattle.lists.specs.Two.{jointb, refusedb, inList, checkTwo}

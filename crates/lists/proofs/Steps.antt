@@ -2,10 +2,9 @@
 -- A test left out, or tried in another order than document 01's, falls at the case that it changes.
 use mathlib.Core.Path.{_≡_, refl, sym, ap, subst, _∙_}
 use mathlib.Core.Logic.{inl, inr}
-use mathlib.Core.Bool.{Bool, true, false, cond, not}
+use mathlib.Core.Bool.{true, false}
 use mathlib.Core.List.{List, [], _∷_}
-use Prim.Native.Nat.{ℕ, zero, suc, _+_, _-_, _≤_, _<_}
-use native.Mathlib.Nat.{not-suc-le-zero}
+use Prim.Native.Nat.{ℕ, suc, _+_, _-_, _≤_, _<_}
 use native.Mathlib.Omega.{arith}
 use lib.ListN.{length}
 use borrow.Author.Tests.{eq-eqb, ne-eqb, lt-ltb, le-ltb}
@@ -13,12 +12,12 @@ use Rattle.nodes.specs.declared.node.Node.{Node}
 use Rattle.nodes.specs.Answer.{TAKEN, LEVEL, SPAN, ORDER, CROSS, DEPTH}
 use Rattle.nodes.specs.Node.{insideb, openb, MOST-LEVELS}
 use Rattle.nodes.specs.Words.{nodes, nodeAt}
-use Rattle.nodes.proofs.Tests.{either, never}
+use Rattle.nodes.proofs.Tests.{either}
 use Rattle.lists.specs.declared.walk.Step.{Step}
 use Rattle.lists.specs.declared.walk.Step.the-variants.{Reached, Refused}
 use Rattle.lists.specs.Fault.{levelb, spanb, orderb}
 use Rattle.lists.specs.Verdict.{ANCESTORS, verdict}
-use Rattle.lists.specs.Walk.{place, firsts, unended, Upon, Chain, headFault, topFault, Passed}
+use Rattle.lists.specs.Walk.{place, firsts, unended, Chain, headFault, topFault, Passed}
 use Rattle.lists.proofs.WalkLaws.{head-at, length-firsts}
 
 -- a row is at most as long as its head is deep

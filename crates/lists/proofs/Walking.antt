@@ -1,11 +1,9 @@
 -- A walk keeps the row of open nodes and leaves to check what the whole check leaves, so its last answer is the whole check's.
 -- A step that passed a faulty node, or named another index, would fall at `passed-on` or `stopped`.
 use mathlib.Core.Path.{_≡_, refl, sym, ap, _∙_, subst}
-use mathlib.Core.Bool.{true, false, cond}
 use mathlib.Core.List.{List, [], _∷_}
 use Prim.Native.Nat.{ℕ, _+_, _≤_}
 use native.Mathlib.Numerals.{add-one}
-use lib.Dec.{eqb}
 use borrow.Author.Tests.{eq-eqb, ne-eqb}
 use Rattle.nodes.specs.declared.node.Node.{Node}
 use Rattle.nodes.specs.Answer.{TAKEN}
@@ -18,7 +16,7 @@ use Rattle.lists.specs.declared.walk.Step.the-variants.{Reached, Refused
 use Rattle.lists.specs.Check.{checkFrom, checkNodes}
 use Rattle.lists.specs.Fault.{fault}
 use Rattle.lists.specs.Verdict.{ANCESTORS, verdict, taken, verdictOf}
-use Rattle.lists.specs.Walk.{firsts, unended, topFault, Passed}
+use Rattle.lists.specs.Walk.{firsts, Passed}
 use Rattle.lists.proofs.Keeping.{Kept, kept-none, kept-next, fault-told}
 
 -- a walk with the row s, at an index, with the rest of the nodes before it, where the check of all nodes says whole

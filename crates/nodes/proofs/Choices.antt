@@ -1,11 +1,11 @@
 -- `any` and `keep` go along a list once, so each fact is one short recursion.
 -- Nothing here knows a node; a test that passed over an element would fall here.
 use mathlib.Core.Path.{_≡_, refl, ap, _∙_, sym}
-use mathlib.Core.Logic.{_⊎_, inl, inr}
-use mathlib.Core.Bool.{Bool, true, false, cond, _||_}
+use mathlib.Core.Logic.{inl, inr}
+use mathlib.Core.Bool.{Bool, true, false}
 use mathlib.Core.List.{List, [], _∷_}
 use Rattle.nodes.specs.Choose.{any, keep}
-use Rattle.nodes.proofs.Tests.{either, never, not-so, or-left, or-right, or-read, or-none}
+use Rattle.nodes.proofs.Tests.{either, or-none}
 
 -- P holds of every element
 abbrev pub All : {A : Type 0} → (A → Type 0) → List A → Type 0
@@ -49,10 +49,6 @@ module _ {A : Type 0} where
   -- lists of which the same elements pass have the same answer
   pub any-same : (test : A → Bool) (xs ys : List A) → keep test xs ≡ keep test ys → any test xs ≡ any test ys
   any-same test xs ys h = any-kept test xs ∙ ap some h ∙ sym (any-kept test ys)
-
-  pub keep-passed : (test : A → Bool) (x : A) (xs : List A) → test x ≡ true → keep test (x ∷ xs) ≡ x ∷ keep test xs
-  unfolding keep
-  keep-passed test x xs h = rw h
 
   pub keep-failed : (test : A → Bool) (x : A) (xs : List A) → test x ≡ false → keep test (x ∷ xs) ≡ keep test xs
   unfolding keep

@@ -1,16 +1,16 @@
 -- Each test of two nodes is a test of their numbers; here it becomes the facts about those numbers, and only here is `insideb` opened.
 -- A changed test of document 01 is proved again here and nowhere else.
-use mathlib.Core.Path.{_≡_, refl, sym, _∙_}
+use mathlib.Core.Path.{_≡_, refl, sym}
 use mathlib.Core.Logic.{_⊎_, inl, inr, ⊎-elim}
-use mathlib.Core.Bool.{Bool, true, false, not, _&&_, _||_}
-use Prim.Native.Nat.{ℕ, suc, _+_, _≤_, _<_}
+use mathlib.Core.Bool.{true, false}
+use Prim.Native.Nat.{_+_, _≤_, _<_}
 use native.Mathlib.Omega.{arith}
-use native.Mathlib.Nat.{lt-trans, lt-irrefl}
-use lib.Dec.{ltb, leb, eqb}
-use borrow.Author.Tests.{ltb-true, ltb-false, leb-true, leb-false, eqb-true, eqb-false, lt-ltb, le-ltb, le-leb, lt-leb, eq-eqb, ne-eqb}
+use native.Mathlib.Nat.{lt-irrefl}
+use lib.Dec.{ltb, eqb}
+use borrow.Author.Tests.{ltb-true, ltb-false, leb-true, leb-false, eqb-true, lt-ltb, le-leb, eq-eqb}
 use Rattle.nodes.specs.declared.node.Node.{Node}
 use Rattle.nodes.specs.Node.{insideb, directlyb, apartb, afterb, openb, sameb}
-use Rattle.nodes.proofs.Tests.{either, never, not-so, and-read, and-make, or-read, or-left, or-right, or-none}
+use Rattle.nodes.proofs.Tests.{not-so, and-read, and-make, or-read, or-left, or-right, or-none}
 
 -- what every layer above knows of a node inside another
 pub record Within (y x : Node) : Type 0 where

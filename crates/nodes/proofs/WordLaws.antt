@@ -1,20 +1,16 @@
 -- Four words more are one node more, so an index of the nodes is four times that index of the words.
 -- A node read one word off, or written over its neighbour, falls here.
 use mathlib.Core.Path.{_≡_, refl, ap, sym, _∙_}
-use mathlib.Core.Bool.{cond}
 use mathlib.Core.List.{List, [], _∷_}
-use Prim.Native.Nat.{ℕ, zero, suc, _+_, _*_, _/_, _≤_, _<_}
+use Prim.Native.Nat.{ℕ, zero, suc, _+_, _*_, _≤_, _<_}
 use native.Mathlib.Omega.{arith}
-use native.Mathlib.Nat.{not-suc-le-zero, le-of-suc-le-suc}
+use native.Mathlib.Nat.{not-suc-le-zero}
 use lib.ListN.{length, getD, set, drop, drop-of-length-le}
-use lib.Seq.{sets, length-sets, drop-cons}
+use lib.Seq.{sets, drop-cons}
 use native.Mathlib.Numerals.{add-one, towards-suc}
-use mathlib.Core.Logic.{inl, inr}
-use lib.Dec.{ltb}
 use borrow.Author.Tests.{lt-ltb}
 use Rattle.nodes.specs.declared.node.Node.{Node}
 use Rattle.nodes.specs.Words.{node, nodes, count, nodeAt, wordsOf, putNode}
-use Rattle.nodes.proofs.Tests.{either}
 
 pub length-nodes : (ws : List ℕ) → length (nodes ws) ≡ count ws
 unfolding nodes
@@ -69,11 +65,6 @@ four-stores ws i n h = rw (lt-ltb _ _ h) (simp towards-suc)
 pub nodes-put : (ws : List ℕ) (i : ℕ) (n : Node) → i < count ws → nodes (putNode ws i n) ≡ set (nodes ws) i n
 unfolding putNode
 nodes-put ws i n h = rw (lt-ltb i (count ws) h) (stored ws i n h)
-
--- writing a node leaves the number of words
-pub length-put : (ws : List ℕ) (i : ℕ) (n : Node) → length (putNode ws i n) ≡ length ws
-unfolding putNode
-length-put ws i n = elim (either (ltb i (count ws))) [ inl h ↦ rw h (length-sets ws (4 * i) (wordsOf n)) | inr h ↦ rw h refl ]
 
 -- the nodes from an index on begin with the one there, and behind the last there is none
 pub nodes-from : (ws : List ℕ) (i : ℕ) → i < count ws → drop i (nodes ws) ≡ nodeAt ws i ∷ drop (i + 1) (nodes ws)

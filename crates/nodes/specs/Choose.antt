@@ -1,5 +1,5 @@
 -- Whether some or all elements of a list pass a test, and those that do.
-use mathlib.Core.Bool.{Bool, true, false, cond, _&&_, _||_}
+use mathlib.Core.Bool.{Bool, false, cond, _||_}
 use mathlib.Core.List.{List, [], _∷_}
 
 unfoldable pub any {ℓ} : {A : Type ℓ} → (A → Bool) → List A → Bool

@@ -1,14 +1,12 @@
 -- Each return takes the head that the tests before it call for, as the merge does.
 -- A head left out, taken twice or taken from the wrong list falls at its return.
 use borrow.Author.Needs.{needs}
-use mathlib.Core.Path.{_≡_, refl, sym, ap, _∙_, subst₂}
-use mathlib.Core.Bool.{Bool, true, false}
-use Prim.Native.Nat.{ℕ, _≤_, _<_}
+use mathlib.Core.Path.{_≡_, sym, _∙_}
+use mathlib.Core.Bool.{Bool}
 use native.Mathlib.Omega.{arith}
 use denote.Ref.{now}
 use Rattle.nodes.specs.declared.node.Node.{Node}
-use Rattle.nodes.specs.Node.{afterb, sameb}
-use Rattle.nodes.specs.Words.{nodes, nodeAt}
+use Rattle.nodes.specs.Node.{sameb}
 use Rattle.lists.proofs.Drawing.{only-first, only-second, take-first, take-both, take-second}
 use Rattle.lists.proofs.merge.next_of.Statement.{statement}
 use Rattle.lists.proofs.merge.next_of.Tie as tie

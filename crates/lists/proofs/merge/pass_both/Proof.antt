@@ -1,13 +1,10 @@
 -- The invariant is the walk along what is left of the merge; each turn draws its next node and passes it.
 -- A node drawn and not passed, or a list that goes on at the wrong place, falls at the next turn.
 use borrow.Author.Needs.{needs}
-use mathlib.Core.Path.{_≡_, refl, sym, ap, _∙_}
-use mathlib.Core.List.{List, [], _∷_}
-use Prim.Native.Nat.{ℕ, _+_, _-_, _≤_, _<_, zero-le}
+use Prim.Native.Nat.{_+_, _-_, _≤_, zero-le}
 use native.Mathlib.Omega.{arith}
-use lib.ListN.{drop, length}
+use lib.ListN.{drop}
 use denote.Ref.{now}
-use Rattle.nodes.specs.declared.node.Node.{Node}
 use Rattle.nodes.specs.Node.{MOST-LEVELS}
 use Rattle.nodes.specs.Words.{nodes, count}
 use Rattle.nodes.proofs.WordLaws.{length-nodes}

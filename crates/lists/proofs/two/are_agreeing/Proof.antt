@@ -1,8 +1,8 @@
 -- Words at fault are refused, and of whole words the merge is taken exactly when both lists are and none of their nodes are at odds.
 -- A list that isn't tested, or another merge, falls at its return.
 use borrow.Author.Needs.{needs}
-use mathlib.Core.Path.{_≡_, refl, sym, ap, _∙_}
-use mathlib.Core.Bool.{Bool, true, false, not, Bool·not-not}
+use mathlib.Core.Path.{_≡_, sym, ap, _∙_}
+use mathlib.Core.Bool.{true, false, not, Bool·not-not}
 use mathlib.Core.List.{List}
 use Prim.Native.Nat.{ℕ}
 use denote.Ref.{now}
@@ -12,7 +12,7 @@ use Rattle.nodes.specs.Answer.{TAKEN}
 use Rattle.nodes.specs.Words.{nodes}
 use Rattle.nodes.proofs.Tests.{same-test}
 use Rattle.lists.specs.declared.verdict.Verdict.{Verdict}
-use Rattle.lists.specs.Check.{checkNodes, checkWords, wordFault}
+use Rattle.lists.specs.Check.{checkNodes, wordFault}
 use Rattle.lists.specs.Merge.{merge}
 use Rattle.lists.specs.Two.{checkTwo, refusedb}
 use Rattle.lists.proofs.Merging.{joint-iff, merge-taken-iff}

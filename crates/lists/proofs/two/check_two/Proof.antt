@@ -1,16 +1,14 @@
 -- Where the lists agree the answer is TAKEN; else the first list's own refusal, then the second's, and where both are taken only JOINT is left.
 -- A list checked out of turn, or named wrongly, falls at its return.
 use borrow.Author.Needs.{needs}
-use mathlib.Core.Path.{_≡_, refl, sym, ap, _∙_}
-use mathlib.Core.Bool.{Bool, true, false, not}
-use mathlib.Core.List.{List}
+use mathlib.Core.Path.{_≡_, sym, ap, _∙_}
+use mathlib.Core.Bool.{true, false, not}
 use Prim.Native.Nat.{ℕ}
 use denote.Ref.{now}
 use borrow.Author.Tests.{not-true, not-false, eqb-true, eqb-false}
 use Rattle.nodes.specs.Answer.{TAKEN}
 use Rattle.lists.specs.declared.verdict.Verdict.{Verdict}
-use Rattle.lists.specs.Check.{checkWords}
-use Rattle.lists.specs.Two.{checkTwo, refusedb, inList}
+use Rattle.lists.specs.Two.{refusedb, inList}
 use Rattle.lists.specs.Verdict.{DESCENDANTS}
 use Rattle.lists.proofs.Naming.{two-first, two-second, two-joint, two-taken}
 use Rattle.lists.proofs.two.check_two.Statement.{statement}

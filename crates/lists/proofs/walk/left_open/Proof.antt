@@ -1,16 +1,12 @@
 -- The invariant: taking the ended nodes off those that are left gives what taking them off all gives. An open head ends it, one that ended
 -- is passed; a test of another node than the head, or a count one off, falls at the return or at the next turn.
-use Prim.Native.Nat.{ℕ, _-_, _≤_, _<_}
-use mathlib.Core.Path.{_≡_, refl, sym, _∙_, ap}
-use mathlib.Core.Bool.{true, false}
-use mathlib.Core.List.{List}
+use Prim.Native.Nat.{_≤_}
+use mathlib.Core.Path.{_≡_, refl, sym, _∙_}
 use native.Mathlib.Omega.{arith}
 use native.Mathlib.Nat.{le-refl}
 use denote.Ref.{now}
 use borrow.Author.Needs.{needs}
-use Rattle.nodes.specs.declared.node.Node.{Node}
-use Rattle.nodes.specs.Node.{openb}
-use Rattle.nodes.specs.Words.{nodes, nodeAt}
+use Rattle.nodes.specs.Words.{nodes}
 use Rattle.lists.specs.Walk.{firsts, unended}
 use Rattle.lists.proofs.WalkLaws.{head-open, head-shut, head-none}
 use Rattle.lists.proofs.walk.left_open.Statement.{statement}

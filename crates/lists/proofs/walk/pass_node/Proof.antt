@@ -1,9 +1,8 @@
 -- Each return is one case of `topFault`, and the tests on the way are the facts that the case asks for.
 -- A test left out, or tried in another order, falls at the return behind it; a stack without room at the second push.
 use borrow.Author.Needs.{needs}
-use mathlib.Core.Path.{_≡_, refl, sym, ap, _∙_}
+use mathlib.Core.Path.{_≡_, sym, _∙_}
 use mathlib.Core.Bool.{Bool, true, false, not}
-use Prim.Native.Nat.{ℕ, _≤_, _<_}
 use native.Mathlib.Omega.{arith}
 use borrow.Author.Tests.{not-true, not-false}
 use denote.Ref.{now}

@@ -1,12 +1,11 @@
 -- A node stored behind the first ones comes to be the head of one more.
 -- A node stored one place off, or a count that doesn't grow with it, falls at the return.
 use borrow.Author.Needs.{needs}
-use mathlib.Core.Path.{_≡_, refl, sym, ap, _∙_}
+use mathlib.Core.Path.{_≡_, refl, ap, _∙_}
 use mathlib.Core.List.{List, _∷_}
 use Prim.Native.Nat.{ℕ, _+_, _<_}
 use native.Mathlib.Omega.{arith}
 use denote.Ref.{now}
-use lib.ListN.{length}
 use Rattle.nodes.specs.declared.node.Node.{Node}
 use Rattle.nodes.specs.Words.{nodes, count, putNode}
 use Rattle.nodes.proofs.WordLaws.{length-nodes, nodes-put}

@@ -1,8 +1,8 @@
 -- Below the number of nodes the four words at four times the index are the node's, and from there on the definition has zeros.
 -- A word one off falls at the last return, an index too large at a read.
-use Prim.Native.Nat.{_≤_, _<_}
+use Prim.Native.Nat.{_≤_}
 use native.Mathlib.Omega.{arith}
-use lib.ListN.{length, List·getD-eq-default}
+use lib.ListN.{List·getD-eq-default}
 use mathlib.Core.Path.{_≡_, sym}
 use mathlib.Core.List.{List}
 use Prim.Native.Nat.{ℕ}

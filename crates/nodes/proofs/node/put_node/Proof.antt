@@ -1,8 +1,8 @@
 -- Below the number of nodes the four stores are `putNode`'s, and from there on neither writes anything.
 -- A word stored one off falls at the last return, an index too large at a store.
-use Prim.Native.Nat.{ℕ, _+_, _*_, _≤_, _<_}
+use Prim.Native.Nat.{ℕ, _≤_}
 use native.Mathlib.Omega.{arith}
-use lib.ListN.{set, length-set}
+use lib.ListN.{length-set}
 use mathlib.Core.Path.{_≡_}
 use mathlib.Core.List.{List}
 use borrow.Author.Tests.{le-ltb}
