@@ -1,0 +1,2 @@
+-- The theorem about document 01's figures.
+pub mod Table

@@ -1,0 +1,38 @@
+-- Document 01's [P] figures hold: antt computes the test over the whole table, and one lemma reads the equations off it.
+-- A row that states anything else than what the definitions compute is refused here.
+use mathlib.Core.Path.{_≡_, refl}
+use mathlib.Core.Bool.{true}
+use mathlib.Core.List.{List, [], _∷_}
+use Prim.Native.Nat.{ℕ}
+use lib.Dec.{eqb}
+use borrow.Author.Tests.{eqb-true}
+use Rattle.nodes.proofs.Choices.{All}
+use Rattle.nodes.proofs.Tests.{never, and-read}
+use Rattle.nodes.specs.Choose.{any}
+use Rattle.nodes.specs.Node.{insideb, apartb, afterb, openb, sameb}
+use Rattle.nodes.specs.Words.{nodes}
+use Rattle.lists.specs.Check.{checkFrom, checkNodes, raggedb, longb, wordFault, checkWords}
+use Rattle.lists.specs.Fault.{levelb, spanb, orderb, crossb, depthb, fault}
+use Rattle.lists.specs.Two.{nestedb, agreeb, oddsb, jointb, refusedb, checkTwo}
+use Rattle.figures.specs.Figures.{Row, figures, equalb, heldb}
+
+equal : (xs ys : List ℕ) → equalb xs ys ≡ true → xs ≡ ys
+unfolding equalb
+equal [] [] h = refl
+equal [] (y ∷ ys) h = absurd (never h refl)
+equal (x ∷ xs) [] h = absurd (never h refl)
+equal (x ∷ xs) (y ∷ ys) h = let p = and-read (eqb x y) h in rw (eqb-true x y (p .0), equal xs ys (p .1))
+
+held : (rows : List Row) → heldb rows ≡ true → All (λ r. r .found ≡ r .stated) rows
+unfolding heldb
+held [] h = tt
+held (r ∷ rows) h = let p = and-read (equalb (r .found) (r .stated)) h in (equal (r .found) (r .stated) (p .0), held rows (p .1))
+
+computed : heldb figures ≡ true
+unfolding figures equalb heldb checkWords wordFault raggedb longb nodes checkNodes checkFrom fault levelb spanb orderb crossb depthb any
+    insideb afterb openb checkTwo refusedb jointb oddsb agreeb nestedb apartb sameb
+computed = refl
+
+-- each row's numbers are those that document 01 states
+pub figures-hold : All (λ r. r .found ≡ r .stated) figures
+figures-hold = held figures computed
