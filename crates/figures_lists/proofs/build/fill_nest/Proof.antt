@@ -4,8 +4,8 @@ use mathlib.Core.Path.{_≡_}
 use lib.ListN.{length}
 use borrow.Author.Needs.{needs}
 use Rattle.nodes.specs.Words.{count}
-use Rattle.figures.proofs.build.fill_nest.Statement.{statement}
-use Rattle.figures.proofs.build.fill_nest.Tie as tie
+use Rattle.figures_lists.proofs.build.fill_nest.Statement.{statement}
+use Rattle.figures_lists.proofs.build.fill_nest.Tie as tie
 
 abbrev Inv-loop : tie.InvT-loop
 Inv-loop words₀ first-level step level₀ i₀ words level i = length words ≡ length words₀

@@ -4,8 +4,8 @@ use mathlib.Core.Path.{_≡_}
 use lib.ListN.{length}
 use borrow.Author.Needs.{needs}
 use Rattle.nodes.specs.Words.{count}
-use Rattle.figures.proofs.build.fill_row.Statement.{statement}
-use Rattle.figures.proofs.build.fill_row.Tie as tie
+use Rattle.figures_lists.proofs.build.fill_row.Statement.{statement}
+use Rattle.figures_lists.proofs.build.fill_row.Tie as tie
 
 abbrev Inv-loop : tie.InvT-loop
 Inv-loop words₀ first-start span level start₀ i₀ words start i = length words ≡ length words₀

@@ -1,8 +1,8 @@
 -- The loop stays within the eight bytes of a name.
 use Prim.Native.Nat.{_-_, _≤_}
 use borrow.Author.Needs.{needs}
-use Rattle.figures.proofs.print.print_name.Statement.{statement}
-use Rattle.figures.proofs.print.print_name.Tie as tie
+use Rattle.figures_lists.proofs.print.print_name.Statement.{statement}
+use Rattle.figures_lists.proofs.print.print_name.Tie as tie
 
 abbrev Inv-loop : tie.InvT-loop
 Inv-loop answer name i₀ i = i ≤ 8

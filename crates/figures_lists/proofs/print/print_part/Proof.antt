@@ -3,8 +3,8 @@ use Prim.Native.Nat.{_-_}
 use native.Mathlib.Omega.{arith}
 use lib.ListN.{length}
 use borrow.Author.Needs.{needs}
-use Rattle.figures.proofs.print.print_part.Statement.{statement}
-use Rattle.figures.proofs.print.print_part.Tie as tie
+use Rattle.figures_lists.proofs.print.print_part.Statement.{statement}
+use Rattle.figures_lists.proofs.print.print_part.Tie as tie
 
 abbrev Inv-loop : tie.InvT-loop
 Inv-loop part i₀ t5 i = Unit {0}
