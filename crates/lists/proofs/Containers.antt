@@ -15,7 +15,8 @@ use Rattle.nodes.proofs.Choices.{All, all-map, all-both}
 use Rattle.nodes.proofs.Tests.{either, never}
 use Rattle.nodes.proofs.NodeLaws.{within, inside-self, after-starts}
 use Rattle.lists.specs.Check.{checkNodes}
-use Rattle.lists.proofs.Taken.{Sound, Fine, Pairs, nested-read, fine-settles, taken-iff}
+use Rattle.lists.proofs.Faults.{Sound}
+use Rattle.lists.proofs.Taken.{Fine, Pairs, nested-read, fine-settles, taken-iff}
 
 -- if e contains n, its level lies from b to below n's
 abbrev Between : ℕ → Node → Node → Type 0

@@ -2,21 +2,22 @@
 -- Were one open node lost or one ended node kept in its place, `stands-pop` or `top-tells` would fall.
 use mathlib.Core.Path.{_≡_, refl, ap, _∙_}
 use mathlib.Core.Logic.{_⊎_, inl, inr}
-use mathlib.Core.Bool.{Bool, true, false, cond, not, _&&_, _||_}
+use mathlib.Core.Bool.{Bool, true, false, cond, not, _||_}
 use mathlib.Core.List.{List, [], _∷_}
 use Prim.Native.Nat.{ℕ, _≤_, _<_}
 use native.Mathlib.Omega.{arith}
-use lib.Dec.{ltb, eqb}
-use borrow.Author.Tests.{lt-ltb, ltb-true, ltb-false, eqb-false}
+use lib.Dec.{ltb}
+use borrow.Author.Tests.{lt-ltb, ltb-true}
 use Rattle.nodes.specs.declared.node.Node.{Node}
-use Rattle.nodes.specs.Answer.{TAKEN, LEVEL, SPAN, ORDER, CROSS, DEPTH}
+use Rattle.nodes.specs.Answer.{TAKEN, ORDER, CROSS, DEPTH}
 use Rattle.nodes.specs.Choose.{any, keep}
 use Rattle.nodes.specs.Node.{insideb, openb, afterb}
 use Rattle.nodes.proofs.Choices.{All, all-map, none-any, any-same, keep-failed}
 use Rattle.nodes.proofs.NodeLaws.{inside-trans, inside-open, inside-after, after-trans, shut-later}
-use Rattle.nodes.proofs.Tests.{either, never, not-so, and-read, or-none, not-read, not-none}
+use Rattle.nodes.proofs.Tests.{either, never, not-so, and-read, not-read, not-none}
 use Rattle.lists.specs.Fault.{levelb, spanb, orderb, crossb, depthb, fault}
 use Rattle.lists.specs.Walk.{unended, Upon, Chain, headFault, topFault}
+use Rattle.lists.proofs.Faults.{skip, level-sound, span-sound, crosses, rises}
 
 -- a row s stands for the nodes before at every node that P lets come next: a test that only open nodes pass keeps the same of both
 pub record Stands (P : Node → Type 0) (before s : List Node) : Type 0 where
@@ -72,36 +73,27 @@ chain-levels : (l : ℕ) (e : Node) (s : List Node) → Chain (e ∷ s) → e .l
 chain-levels l e [] ch h = tt
 chain-levels l e (f ∷ s) ch h = let u = ch .1 .1 in let p : f .level < l = omega arith in (p, chain-levels l f s (ch .2) p)
 
--- whether a node e is crossed by n, and whether n isn't deeper than e though inside it
-crossed : Node → Node → Bool
-crossed n e = openb n e && not (insideb n e)
-
-shallow : Node → Node → Bool
-shallow n e = insideb n e && not (ltb (e .level) (n .level))
-
-uncrossed : (n e : Node) → insideb n e ≡ true → crossed n e ≡ false
-unfolding crossed
+uncrossed : (n e : Node) → insideb n e ≡ true → crosses n e ≡ false
 uncrossed n e h = not-so (λ c. never h (not-read _ (and-read (openb n e) c .1)))
 
-deeper : (n e : Node) → e .level < n .level → shallow n e ≡ false
-unfolding shallow
+deeper : (n e : Node) → e .level < n .level → rises n e ≡ false
 deeper n e h = not-so (λ c. never (lt-ltb _ _ h) (not-read _ (and-read (insideb n e) c .1)))
 
 -- the head of what is left tells what is wrong over the whole row
 top-tells : (n : Node) → n .start ≤ n .end → (s : List Node) → Chain s
     → cond (crossb s n) CROSS (cond (depthb s n) DEPTH TAKEN) ≡ headFault (unended n s) n
-unfolding crossb depthb any unended headFault crossed shallow
+unfolding crossb depthb any unended headFault
 top-tells n span [] ch = refl
 top-tells n span (e ∷ s) ch = elim (either (openb n e)) [ inl o ↦ opened o (either (insideb n e)) | inr o ↦ ended o (top-tells n span s (ch .2)) ]
   where
     opened : openb n e ≡ true → (insideb n e ≡ true) ⊎ (insideb n e ≡ false)
         → cond (crossb (e ∷ s) n) CROSS (cond (depthb (e ∷ s) n) DEPTH TAKEN) ≡ headFault (unended n (e ∷ s)) n
     opened o (inr h) = rw (o, h) refl
-    opened o (inl h) = rw (o, h, none-any (crossed n) s (all-map (λ f. uncrossed n f) s (chain-contains n e s ch h))) (levels (either (ltb (e .level) (n .level))))
+    opened o (inl h) = rw (o, h, none-any (crosses n) s (all-map (λ f. uncrossed n f) s (chain-contains n e s ch h))) (levels (either (ltb (e .level) (n .level))))
       where
         levels : (ltb (e .level) (n .level) ≡ true) ⊎ (ltb (e .level) (n .level) ≡ false)
-            → cond (not (ltb (e .level) (n .level)) || any (shallow n) s) DEPTH TAKEN ≡ cond (not (ltb (e .level) (n .level))) DEPTH TAKEN
-        levels (inl l) = rw (l, none-any (shallow n) s (all-map (λ f. deeper n f) s (chain-levels (n .level) e s ch (ltb-true _ _ l)))) refl
+            → cond (not (ltb (e .level) (n .level)) || any (rises n) s) DEPTH TAKEN ≡ cond (not (ltb (e .level) (n .level))) DEPTH TAKEN
+        levels (inl l) = rw (l, none-any (rises n) s (all-map (λ f. deeper n f) s (chain-levels (n .level) e s ch (ltb-true _ _ l)))) refl
         levels (inr l) = rw l refl
 
     ended : openb n e ≡ false → cond (crossb s n) CROSS (cond (depthb s n) DEPTH TAKEN) ≡ headFault (unended n s) n
@@ -113,20 +105,16 @@ pub record Kept (before s : List Node) : Type 0 where
   pub stands : Stands (λ n. orderb before n ≡ false) before s
   pub last : (n : Node) → orderb before n ≡ orderb s n
 
-spans : (n : Node) → spanb n ≡ false → n .start ≤ n .end
-unfolding spanb
-spans n h = ltb-false _ _ h
-
 -- CROSS and DEPTH are tests that only open nodes pass
-crosses : (before s : List Node) (n : Node)
+same-crosses : (before s : List Node) (n : Node)
     → ((test : Node → Bool) → ((e : Node) → test e ≡ true → openb n e ≡ true) → keep test before ≡ keep test s) → crossb before n ≡ crossb s n
-unfolding crossb crossed
-crosses before s n keeps = any-same (crossed n) before s (keeps (crossed n) (λ e h. and-read (openb n e) h .0))
+unfolding crossb
+same-crosses before s n keeps = any-same (crosses n) before s (keeps (crosses n) (λ e h. and-read (openb n e) h .0))
 
-depths : (before s : List Node) (n : Node) → n .start ≤ n .end
+same-rises : (before s : List Node) (n : Node) → n .start ≤ n .end
     → ((test : Node → Bool) → ((e : Node) → test e ≡ true → openb n e ≡ true) → keep test before ≡ keep test s) → depthb before n ≡ depthb s n
-unfolding depthb shallow
-depths before s n span keeps = any-same (shallow n) before s (keeps (shallow n) (λ e h. inside-open n e span (and-read (insideb n e) h .0)))
+unfolding depthb
+same-rises before s n span keeps = any-same (rises n) before s (keeps (rises n) (λ e h. inside-open n e span (and-read (insideb n e) h .0)))
 
 -- what is wrong at a node over all nodes before is what the row tells
 pub fault-told : (before s : List Node) (n : Node) → Kept before s → fault before n ≡ topFault s n
@@ -144,29 +132,22 @@ fault-told before s n k =
     ordered p (inr o) = rw (o, same-cross, same-depth) (top-tells n span s (k .stands .chain))
       where
         span : n .start ≤ n .end
-        span = spans n p
+        span = span-sound n .0 p
 
         same-cross : crossb before n ≡ crossb s n
-        same-cross = crosses before s n (k .stands .keeps n (k .last n ∙ o))
+        same-cross = same-crosses before s n (k .stands .keeps n (k .last n ∙ o))
 
         same-depth : depthb before n ≡ depthb s n
-        same-depth = depths before s n span (k .stands .keeps n (k .last n ∙ o))
+        same-depth = same-rises before s n span (k .stands .keeps n (k .last n ∙ o))
 
--- a node at which nothing is wrong lies inside what is left, and its level is right
+-- a node of which the head tells nothing wrong lies inside it and deeper
 head-taken : (n : Node) (s : List Node) → headFault s n ≡ TAKEN → Upon n s
 unfolding headFault
 head-taken n [] h = tt
 head-taken n (e ∷ s) h =
-    elim (either (insideb n e)) [
-      | inl i ↦ elim (either (ltb (e .level) (n .level))) [ inl l ↦ (i, ltb-true _ _ l) | inr l ↦ absurd (seven (rw (i, l) at h)) ]
-      | inr i ↦ absurd (six (rw i at h))
-    ]
-  where
-    seven : DEPTH ≡ TAKEN → ⊥
-    seven z = omega arith
-
-    six : CROSS ≡ TAKEN → ⊥
-    six z = omega arith
+    let p = skip (not (insideb n e)) _ _ .0 h in
+    let q = skip (not (ltb (e .level) (n .level))) _ _ .0 (p .1) in
+    (not-none _ (p .0), ltb-true _ _ (not-none _ (q .0)))
 
 -- where the row tells of nothing wrong, the level is right, the node stands after the head, and what is left tells of nothing wrong
 record Clean (s : List Node) (n : Node) : Type 0 where
@@ -174,26 +155,13 @@ record Clean (s : List Node) (n : Node) : Type 0 where
   next : orderb s n ≡ false
   head : headFault (unended n s) n ≡ TAKEN
 
-levels : (n : Node) → levelb n ≡ false → 1 ≤ n .level
-unfolding levelb
-levels n h = let z : n .level ≡ 0 → ⊥ = eqb-false _ _ (or-none (eqb (n .level) 0) h .0) in omega arith
-
 clean : (s : List Node) (n : Node) → topFault s n ≡ TAKEN → Clean s n
 unfolding topFault
 clean s n h =
-    elim (either (levelb n)) [
-      | inl l ↦ absurd (some LEVEL (rw l at h) (omega arith))
-      | inr l ↦ elim (either (spanb n)) [
-        | inl p ↦ absurd (some SPAN (rw (l, p) at h) (omega arith))
-        | inr p ↦ elim (either (orderb s n)) [
-          | inl o ↦ absurd (some ORDER (rw (l, p, o) at h) (omega arith))
-          | inr o ↦ record { level = levels n l; next = o; head = rw (l, p, o) at h }
-        ]
-      ]
-    ]
-  where
-    some : (f : ℕ) → f ≡ TAKEN → 0 < f → ⊥
-    some f e l = omega arith
+    let p = skip (levelb n) _ _ .0 h in
+    let q = skip (spanb n) _ _ .0 (p .1) in
+    let r = skip (orderb s n) _ _ .0 (q .1) in
+    record { level = level-sound n .0 (p .0) .0; next = r .0; head = r .1 }
 
 -- what stands after a node that may come next may come next itself
 later : (before : List Node) (m n : Node) → orderb before n ≡ false → afterb m n ≡ true → orderb before m ≡ false

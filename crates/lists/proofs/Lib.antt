@@ -1,8 +1,9 @@
 -- Theorems for the reader: `Taken` reads a taken list pair by pair, `Merging` does so for a merge, `Pairing` for two lists, and `Containers`
--- bounds the nodes that contain one. Laws for the code: `WalkLaws` is what the row of open nodes does, `Steps` what each return of a step
+-- bounds the nodes that contain one. `Faults` reads the tests one by one. Laws for the code: `WalkLaws` is what the row of open nodes does, `Steps` what each return of a step
 -- says, `Keeping` why the row stands for all the nodes before, `Walking` what a walk has left, `MergeSteps` takes one node off a merge.
 pub mod Containers
 pub mod Drawing
+pub mod Faults
 pub mod Keeping
 pub mod MergeSteps
 pub mod Merging

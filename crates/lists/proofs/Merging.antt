@@ -17,7 +17,8 @@ use Rattle.lists.specs.Check.{checkNodes}
 use Rattle.lists.specs.Merge.{merge, mergeInto}
 use Rattle.lists.specs.Two.{agreeb, oddsb, jointb}
 use Rattle.lists.proofs.MergeSteps.{merge-left, merge-both, merge-right}
-use Rattle.lists.proofs.Taken.{Sound, Fine, Pairs, nested-read, agree-apart, agree-nested, agree-nests, agree-read, taken-iff}
+use Rattle.lists.proofs.Faults.{Sound}
+use Rattle.lists.proofs.Taken.{Fine, Pairs, nested-read, agree-apart, agree-nested, agree-nests, agree-read, taken-iff}
 
 -- no node of the first list is at odds with one of the second
 abbrev pub Even : List Node → List Node → Type 0

@@ -18,6 +18,7 @@ use Rattle.lists.specs.declared.walk.Step.the-variants.{Reached, Refused
 use Rattle.lists.specs.Fault.{levelb, spanb, orderb}
 use Rattle.lists.specs.Verdict.{ANCESTORS, verdict}
 use Rattle.lists.specs.Walk.{place, firsts, unended, Chain, headFault, topFault, Passed}
+use Rattle.lists.proofs.Faults.{Sound, level-sound, span-sound}
 use Rattle.lists.proofs.WalkLaws.{head-at, length-firsts}
 
 -- a row is at most as long as its head is deep
@@ -44,9 +45,7 @@ room k ws s n e h q u ch below above =
 module _ (s : List Node) (n : Node) where
   -- nothing is wrong with the node itself, and it stands after the head
   pub record Begun : Type 0 where
-    pub lowest : 1 ≤ n .level
-    pub highest : n .level ≤ MOST-LEVELS
-    pub span : n .start ≤ n .end
+    pub sound : Sound n
     pub next : orderb s n ≡ false
 
   fault-low : n .level ≡ 0 → topFault s n ≡ LEVEL
@@ -57,21 +56,17 @@ module _ (s : List Node) (n : Node) where
   unfolding levelb topFault
   fault-high l h = rw (ne-eqb (n .level) 0 (omega arith), lt-ltb MOST-LEVELS (n .level) h)
 
-  level-right : 1 ≤ n .level → n .level ≤ MOST-LEVELS → levelb n ≡ false
-  unfolding levelb
-  level-right l h = rw (ne-eqb (n .level) 0 (omega arith), le-ltb MOST-LEVELS (n .level) h)
-
   fault-span : 1 ≤ n .level → n .level ≤ MOST-LEVELS → n .end < n .start → topFault s n ≡ SPAN
   unfolding spanb topFault
-  fault-span l h e = rw (level-right l h, lt-ltb (n .end) (n .start) e)
+  fault-span l h e = rw (level-sound n .1 (l, h), lt-ltb (n .end) (n .start) e)
 
-  fault-order : 1 ≤ n .level → n .level ≤ MOST-LEVELS → n .start ≤ n .end → orderb s n ≡ true → topFault s n ≡ ORDER
-  unfolding spanb topFault
-  fault-order l h e o = rw (level-right l h, le-ltb (n .end) (n .start) e, o)
+  fault-order : Sound n → orderb s n ≡ true → topFault s n ≡ ORDER
+  unfolding topFault
+  fault-order g o = rw (level-sound n .1 (g .lowest, g .highest), span-sound n .1 (g .span), o)
 
   fault-head : Begun → topFault s n ≡ headFault (unended n s) n
-  unfolding spanb topFault
-  fault-head b = rw (level-right (b .lowest) (b .highest), le-ltb (n .end) (n .start) (b .span), b .next)
+  unfolding topFault
+  fault-head b = rw (level-sound n .1 (b .sound .lowest, b .sound .highest), span-sound n .1 (b .sound .span), b .next)
 
   module _ (i : ℕ) (ws : List ℕ) (r : Step) where
     refuse : (f : ℕ) → topFault s n ≡ suc f → r ≡ Refused (verdict (suc f) ANCESTORS i) → Passed s n i r ws
@@ -88,9 +83,8 @@ module _ (s : List Node) (n : Node) where
     pub passed-span : 1 ≤ n .level → n .level ≤ MOST-LEVELS → n .end < n .start → r ≡ Refused (verdict SPAN ANCESTORS i) → Passed s n i r ws
     passed-span l h d e = refuse 3 (fault-span l h d) e
 
-    pub passed-order : 1 ≤ n .level → n .level ≤ MOST-LEVELS → n .start ≤ n .end → orderb s n ≡ true
-        → r ≡ Refused (verdict ORDER ANCESTORS i) → Passed s n i r ws
-    passed-order l h d o e = refuse 4 (fault-order l h d o) e
+    pub passed-order : Sound n → orderb s n ≡ true → r ≡ Refused (verdict ORDER ANCESTORS i) → Passed s n i r ws
+    passed-order g o e = refuse 4 (fault-order g o) e
 
     -- the row that is left, in the words of a stack, and the node put on top of it
     module _ (b : Begun) (k : ℕ) (st : List ℕ) (left : firsts k (nodes st) ≡ unended n s) where

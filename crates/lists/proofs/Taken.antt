@@ -2,18 +2,18 @@
 -- A check that looked at fewer pairs than all, or took a pair that crosses, would fall here.
 use mathlib.Core.Path.{_≡_, refl, sym}
 use mathlib.Core.Logic.{_↔_, _⊎_, inl, inr, ⊎-elim}
-use mathlib.Core.Bool.{Bool, true, false, cond, not, _&&_}
+use mathlib.Core.Bool.{true, false, cond}
 use mathlib.Core.List.{List, [], _∷_}
 use Prim.Native.Nat.{ℕ, suc, _%_, _≤_, _<_}
 use native.Mathlib.Omega.{arith}
 use lib.Dec.{ltb, eqb}
 use lib.ListN.{length}
-use borrow.Author.Tests.{ltb-true, ltb-false, eqb-true, eqb-false, lt-ltb, le-ltb, eq-eqb, ne-eqb}
+use borrow.Author.Tests.{ltb-true, ltb-false, eqb-true, eqb-false, lt-ltb, le-ltb, eq-eqb}
 use Rattle.nodes.specs.declared.node.Node.{Node}
 use Rattle.nodes.specs.Answer.{TAKEN}
-use Rattle.nodes.specs.Node.{insideb, apartb, afterb, openb, MOST-LEVELS}
+use Rattle.nodes.specs.Node.{insideb, apartb, afterb, openb}
 use Rattle.nodes.specs.Words.{NODE-WORDS, MOST-NODES, nodes, count}
-use Rattle.nodes.proofs.Tests.{either, never, not-so, and-read, and-make, or-read, or-left, or-right, or-none, not-read, not-none}
+use Rattle.nodes.proofs.Tests.{either, never, not-so, and-read, and-make, or-read, or-left, or-right, not-read, not-none}
 use Rattle.nodes.proofs.Choices.{All, all-of, all-map, all-both, any-none, none-any}
 use Rattle.nodes.proofs.NodeLaws.{within, apart-read, apart-ahead, after-starts, after-trans, open-read, shut-read}
 use Rattle.lists.specs.declared.verdict.Verdict.{Verdict}
@@ -21,12 +21,7 @@ use Rattle.lists.specs.Check.{checkFrom, checkNodes, raggedb, longb, wor
 use Rattle.lists.specs.Fault.{levelb, spanb, orderb, crossb, depthb, fault}
 use Rattle.lists.specs.Two.{nestedb, agreeb}
 use Rattle.lists.specs.Verdict.{ANCESTORS, verdict}
-
--- a node's level and span are right
-pub record Sound (n : Node) : Type 0 where
-  pub lowest : 1 ≤ n .level
-  pub highest : n .level ≤ MOST-LEVELS
-  pub span : n .start ≤ n .end
+use Rattle.lists.proofs.Faults.{Sound, skip, level-sound, span-sound, crosses, rises}
 
 -- of an earlier node e and a later one n, n stands after e, and within one document they agree
 pub record Fine (e n : Node) : Type 0 where
@@ -67,25 +62,6 @@ module _ (e n : Node) where
   unfolding agreeb
   agree-read h = elim (or-read (apartb e n) h) [ inl p ↦ inl p | inr p ↦ inr (or-read (nestedb e n) p) ]
 
--- a first fault that isn't there leaves the others
-skip : (b : Bool) (k rest : ℕ) → (cond b (suc k) rest ≡ TAKEN) ↔ ((b ≡ false) × (rest ≡ TAKEN))
-skip true k rest = (λ h. absurd (omega arith), λ h. absurd (never refl (h .0)))
-skip false k rest = (λ h. (refl, h), λ h. h .1)
-
-level-sound : (n : Node) → (levelb n ≡ false) ↔ ((1 ≤ n .level) × (n .level ≤ MOST-LEVELS))
-unfolding levelb
-level-sound n = (
-  λ h. let p = or-none (eqb (n .level) 0) h in
-      let low = eqb-false (n .level) 0 (p .0) in
-      let high : n .level ≤ MOST-LEVELS = ltb-false _ _ (p .1) in
-      (omega arith, high),
-  λ h. rw (ne-eqb (n .level) 0 (omega arith), le-ltb MOST-LEVELS (n .level) (h .1)),
-)
-
-span-sound : (n : Node) → (spanb n ≡ false) ↔ (n .start ≤ n .end)
-unfolding spanb
-span-sound n = (λ h. ltb-false _ _ h, λ h. le-ltb _ _ h)
-
 -- what comes after the head of a descending row comes after all of it
 order-all : (before : List Node) (n : Node) → Descends before → orderb before n ≡ false → All (λ e. afterb n e ≡ true) before
 unfolding orderb
@@ -98,13 +74,6 @@ all-order : (before : List Node) (n : Node) → All (λ e. afterb n e ≡ true) 
 unfolding orderb
 all-order [] n h = refl
 all-order (e ∷ before) n h = rw (h .0)
-
--- of a later node n and an earlier one e, the tests of CROSS and of DEPTH
-abbrev crosses : Node → Node → Bool
-crosses n e = openb n e && not (insideb n e)
-
-abbrev rises : Node → Node → Bool
-rises n e = insideb n e && not (ltb (e .level) (n .level))
 
 pair-agrees : (n e : Node) → crosses n e ≡ false → rises n e ≡ false → e .document ≡ n .document → agreeb e n ≡ true
 pair-agrees n e c r d =

@@ -55,7 +55,7 @@ refused-requires-4 c κs = search needs
 returns-4 : tie.Need-returns-4
 returns-4 c =
     let a = c .before .before .before .before .before .before .before .before .before .before .args in
-    passed-order (firsts (a .place .depth) (nodes (now (a .stack)))) (a .node) (a .place .index) _ _ (omega arith) (omega arith) (omega arith) (strays (c .before .before .is-next .ensures) (c .before .if4 .taken)) (c .refused4 .ensures)
+    passed-order (firsts (a .place .depth) (nodes (now (a .stack)))) (a .node) (a .place .index) _ _ (record { lowest = omega arith; highest = omega arith; span = omega arith }) (strays (c .before .before .is-next .ensures) (c .before .if4 .taken)) (c .refused4 .ensures)
 
 left-open-requires : tie.Need-left-open-requires
 left-open-requires c κs = search needs
@@ -66,7 +66,7 @@ push-requires c κs = search needs
 returns-5 : tie.Need-returns-5
 returns-5 c =
     let a = c .before .before .before .before .before .before .before .before .before .before .before .before .before .before .args in
-    let b : Begun (firsts (a .place .depth) (nodes (now (a .stack)))) (a .node) = record { lowest = omega arith; highest = omega arith; span = omega arith; next = follows (c .before .before .before .before .before .before .is-next .ensures) (c .before .before .before .before .before .if4 .left) } in
+    let b : Begun (firsts (a .place .depth) (nodes (now (a .stack)))) (a .node) = record { sound = record { lowest = omega arith; highest = omega arith; span = omega arith }; next = follows (c .before .before .before .before .before .before .is-next .ensures) (c .before .before .before .before .before .if4 .left) } in
     passed-alone (firsts (a .place .depth) (nodes (now (a .stack)))) (a .node) (a .place .index) _ _ b _ (now (a .stack)) (c .before .before .before .left-open .ensures .1) (c .before .before .if5 .taken) (c .push .ensures .0) (c .push .ensures .1)
 
 sub-open-at : tie.Need-sub-open-at
@@ -84,7 +84,7 @@ refused-requires-5 c κs = search needs
 returns-6 : tie.Need-returns-6
 returns-6 c =
     let a = c .before .before .before .before .before .before .before .before .before .before .before .before .before .before .before .before .before .before .args in
-    let b : Begun (firsts (a .place .depth) (nodes (now (a .stack)))) (a .node) = record { lowest = omega arith; highest = omega arith; span = omega arith; next = follows (c .before .before .before .before .before .before .before .before .before .before .is-next .ensures) (c .before .before .before .before .before .before .before .before .before .if4 .left) } in
+    let b : Begun (firsts (a .place .depth) (nodes (now (a .stack)))) (a .node) = record { sound = record { lowest = omega arith; highest = omega arith; span = omega arith }; next = follows (c .before .before .before .before .before .before .before .before .before .before .is-next .ensures) (c .before .before .before .before .before .before .before .before .before .if4 .left) } in
     passed-cross (firsts (a .place .depth) (nodes (now (a .stack)))) (a .node) (a .place .index) _ _ b _ (now (a .stack)) (c .before .before .before .before .before .before .before .left-open .ensures .1) _ (omega arith) (c .before .before .before .open-at .ensures) (sym (c .before .before .is-inside .ensures) ∙ not-true _ (c .before .if6 .taken)) (c .refused5 .ensures)
 
 refused-requires-6 : tie.Need-refused-requires-6
@@ -93,7 +93,7 @@ refused-requires-6 c κs = search needs
 returns-7 : tie.Need-returns-7
 returns-7 c =
     let a = c .before .before .before .before .before .before .before .before .before .before .before .before .before .before .before .before .before .before .before .before .before .args in
-    let b : Begun (firsts (a .place .depth) (nodes (now (a .stack)))) (a .node) = record { lowest = omega arith; highest = omega arith; span = omega arith; next = follows (c .before .before .before .before .before .before .before .before .before .before .before .before .before .is-next .ensures) (c .before .before .before .before .before .before .before .before .before .before .before .before .if4 .left) } in
+    let b : Begun (firsts (a .place .depth) (nodes (now (a .stack)))) (a .node) = record { sound = record { lowest = omega arith; highest = omega arith; span = omega arith }; next = follows (c .before .before .before .before .before .before .before .before .before .before .before .before .before .is-next .ensures) (c .before .before .before .before .before .before .before .before .before .before .before .before .if4 .left) } in
     passed-depth (firsts (a .place .depth) (nodes (now (a .stack)))) (a .node) (a .place .index) _ _ b _ (now (a .stack)) (c .before .before .before .before .before .before .before .before .before .before .left-open .ensures .1) _ (omega arith) (c .before .before .before .before .before .before .open-at .ensures) (sym (c .before .before .before .before .before .is-inside .ensures) ∙ not-false _ (c .before .before .before .before .if6 .left)) (omega arith) (c .refused6 .ensures)
 
 push-requires-2 : tie.Need-push-requires-2
@@ -104,7 +104,7 @@ push-requires-2 c κs =
 returns-8 : tie.Need-returns-8
 returns-8 c =
     let a = c .before .before .before .before .before .before .before .before .before .before .before .before .before .before .before .before .before .before .before .before .before .before .args in
-    let b : Begun (firsts (a .place .depth) (nodes (now (a .stack)))) (a .node) = record { lowest = omega arith; highest = omega arith; span = omega arith; next = follows (c .before .before .before .before .before .before .before .before .before .before .before .before .before .before .is-next .ensures) (c .before .before .before .before .before .before .before .before .before .before .before .before .before .if4 .left) } in
+    let b : Begun (firsts (a .place .depth) (nodes (now (a .stack)))) (a .node) = record { sound = record { lowest = omega arith; highest = omega arith; span = omega arith }; next = follows (c .before .before .before .before .before .before .before .before .before .before .before .before .before .before .is-next .ensures) (c .before .before .before .before .before .before .before .before .before .before .before .before .before .if4 .left) } in
     passed-on (firsts (a .place .depth) (nodes (now (a .stack)))) (a .node) (a .place .index) _ _ b _ (now (a .stack)) (c .before .before .before .before .before .before .before .before .before .before .before .left-open .ensures .1) _ (omega arith) (c .before .before .before .before .before .before .before .open-at .ensures) (sym (c .before .before .before .before .before .before .is-inside .ensures) ∙ not-false _ (c .before .before .before .before .before .if6 .left)) (omega arith) (room _ (now (a .stack)) (firsts (a .place .depth) (nodes (now (a .stack)))) (a .node) _ (omega arith) (c .before .before .before .before .before .before .before .open-at .ensures) (c .before .before .before .before .before .before .before .before .before .before .before .left-open .ensures .1) (c .before .before .before .before .before .before .before .before .before .before .before .before .before .before .before .before .before .before .before .before .before .before .pre .2) (omega arith) (omega arith)) (c .push2 .ensures .0) (c .push2 .ensures .1)
 
 pub pass-node-spec : {M : Type 1} → statement M

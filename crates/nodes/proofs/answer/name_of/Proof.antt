@@ -6,8 +6,8 @@ use mathlib.Core.Path.{_≡_, refl, sym}
 use mathlib.Core.List.{List, [], _∷_, map}
 use Prim.Native.Nat.{ℕ, zero, suc, _<_}
 use native.Mathlib.Nat.{not-suc-le-zero, le-of-suc-le-suc}
-use Rattle.nodes.specs.Answer.{names, letterAt, row, rowOf}
 use borrow.Author.Needs.{needs}
+use Rattle.nodes.specs.Answer.{names, letterAt, row, rowOf}
 use Rattle.nodes.proofs.answer.name_of.Statement.{statement}
 use Rattle.nodes.proofs.answer.name_of.Tie as tie
 

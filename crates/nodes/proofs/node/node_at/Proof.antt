@@ -6,9 +6,9 @@ use lib.ListN.{List·getD-eq-default}
 use mathlib.Core.Path.{_≡_, sym}
 use mathlib.Core.List.{List}
 use Prim.Native.Nat.{ℕ}
+use borrow.Author.Needs.{needs}
 use Rattle.nodes.specs.Words.{node, nodes, count, nodeAt}
 use Rattle.nodes.proofs.WordLaws.{length-nodes, node-words}
-use borrow.Author.Needs.{needs}
 use Rattle.nodes.proofs.node.node_at.Statement.{statement}
 use Rattle.nodes.proofs.node.node_at.Tie as tie
 

@@ -6,10 +6,10 @@ use lib.ListN.{length-set}
 use mathlib.Core.Path.{_≡_}
 use mathlib.Core.List.{List}
 use borrow.Author.Tests.{le-ltb}
+use borrow.Author.Needs.{needs}
 use Rattle.nodes.specs.declared.node.Node.{Node}
 use Rattle.nodes.specs.Words.{count, putNode}
 use Rattle.nodes.proofs.WordLaws.{four-stores}
-use borrow.Author.Needs.{needs}
 use Rattle.nodes.proofs.node.put_node.Statement.{statement}
 use Rattle.nodes.proofs.node.put_node.Tie as tie
 
