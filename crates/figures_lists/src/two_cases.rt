@@ -18,6 +18,7 @@ const SOUND: [u32; 4] = [5, 1, 9, 1];
 // Runs every case of two lists.
 pub(crate) fn run() {
     scope_cases();
+    past_the_end_cases();
     fault_cases();
     long_cases();
     which_list_cases();
@@ -36,7 +37,13 @@ fn scope_cases() {
     two_case(b"Z with Z", &Z, &Z);
 }
 
-// Every answer that one list draws, beside a list that passes, but LONG.
+// Document 01's example with one node that ends too late: a sample, then a zone.
+fn past_the_end_cases() {
+    two_case(b"a sample past its zone", &Z, &[5, 4, 6, 4, 5, 8, 11, 3]);
+    two_case(b"a zone past its zone", &[5, 2, 10, 2, 5, 3, 12, 3], &S);
+}
+
+// Every answer that one list draws, LONG aside, beside a list that passes.
 fn fault_cases() {
     two_case(b"RAGGED", &[5, 1, 9], &SOUND);
     two_case(b"LEVEL", &[5, 1, 9, 1, 5, 2, 3, 0, 5, 4, 4, 2], &SOUND);
