@@ -1,4 +1,4 @@
--- Each return of a step is one case of `topFault`, reached by the tests that went before it.
+-- Each return of a step is one case of `topFault` or `headFault`, reached by the tests that went before it.
 -- A test left out, or tried in another order than document 01's, falls at the case that it changes.
 use mathlib.Core.Path.{_≡_, refl, sym, ap, subst, _∙_}
 use mathlib.Core.Logic.{inl, inr}
@@ -32,83 +32,83 @@ unfolding unended
 chain-left n [] h = tt
 chain-left n (e ∷ es) h = elim (either (openb n e)) [ inl o ↦ rw o h | inr o ↦ rw o (chain-left n es (h .2)) ]
 
--- a node above a row's head is at most as deep as the deepest level, so the row has room for it
-pub room : (k : ℕ) (ws : List ℕ) (s : List Node) (n e : Node) → 0 < k → e ≡ nodeAt ws (k - 1) → firsts k (nodes ws) ≡ unended n s → Chain s
-    → e .level < n .level → n .level ≤ MOST-LEVELS → k < MOST-LEVELS
-room k ws s n e h q u ch below above =
-    let w : Chain (nodeAt ws (k - 1) ∷ firsts (k - 1) (nodes ws)) = subst Chain (sym u ∙ head-at k ws h) (chain-left n s ch) in
+-- a node that is deeper than the head of a row is at most as deep as the deepest level, so the row has room for it
+pub room : (k : ℕ) (ws : List ℕ) (n e : Node) → 0 < k → e ≡ nodeAt ws (k - 1) → Chain (firsts k (nodes ws)) → e .level < n .level
+    → n .level ≤ MOST-LEVELS → k < MOST-LEVELS
+room k ws n e h q ch below above =
+    let w : Chain (nodeAt ws (k - 1) ∷ firsts (k - 1) (nodes ws)) = subst Chain (head-at k ws h) ch in
     let l = chain-length (nodeAt ws (k - 1)) (firsts (k - 1) (nodes ws)) w in
     let m : length (firsts (k - 1) (nodes ws)) ≡ k - 1 = length-firsts (k - 1) (nodes ws) in
     let v : e .level ≡ nodeAt ws (k - 1) .level = ap (λ (x : Node). x .level) q in
     omega arith
 
-module _ (s : List Node) (n : Node) where
-  -- nothing is wrong with the node itself, and it stands after the head
-  pub record Begun : Type 0 where
-    pub sound : Sound n
-    pub next : orderb s n ≡ false
+-- a step's answer r to what is wrong at n, over the nodes that are left
+module _ (wrong : ℕ) (left : List Node) (n : Node) (i : ℕ) (ws : List ℕ) (r : Step) where
+  refuse : (f : ℕ) → wrong ≡ suc f → r ≡ Refused (verdict (suc f) ANCESTORS i) → Passed wrong left n i r ws
+  refuse f q e =
+      subst (λ (step : Step). Passed wrong left n i step ws) (sym e)
+      ((λ t. let z : suc f ≡ 0 = sym q ∙ t in omega arith), ap (λ (k : ℕ). verdict k ANCESTORS i) (sym q))
 
-  fault-low : n .level ≡ 0 → topFault s n ≡ LEVEL
+  reach : (k : ℕ) → wrong ≡ TAKEN → k < MOST-LEVELS → r ≡ Reached (place (i + 1) (k + 1)) → firsts (k + 1) (nodes ws) ≡ n ∷ left
+      → Passed wrong left n i r ws
+  reach k h l e p = subst (λ (step : Step). Passed wrong left n i step ws) (sym e) (h, refl, omega arith, p)
+
+-- the returns of `pass_node`, which knows the row s that was open at the node before
+module _ (s : List Node) (n : Node) (i : ℕ) (ws : List ℕ) (r : Step) where
+  abbrev Step-past : Type 0
+  Step-past = Passed (topFault s n) (unended n s) n i r ws
+
+  pub passed-low : n .level ≡ 0 → r ≡ Refused (verdict LEVEL ANCESTORS i) → Step-past
   unfolding levelb topFault
-  fault-low h = rw (eq-eqb _ _ h)
+  passed-low h e = refuse (topFault s n) (unended n s) n i ws r 2 (rw (eq-eqb _ _ h) refl) e
 
-  fault-high : 1 ≤ n .level → MOST-LEVELS < n .level → topFault s n ≡ LEVEL
+  pub passed-high : 1 ≤ n .level → MOST-LEVELS < n .level → r ≡ Refused (verdict LEVEL ANCESTORS i) → Step-past
   unfolding levelb topFault
-  fault-high l h = rw (ne-eqb (n .level) 0 (omega arith), lt-ltb MOST-LEVELS (n .level) h)
+  passed-high l h e = refuse (topFault s n) (unended n s) n i ws r 2 (rw (ne-eqb (n .level) 0 (omega arith), lt-ltb MOST-LEVELS (n .level) h) refl) e
 
-  fault-span : 1 ≤ n .level → n .level ≤ MOST-LEVELS → n .end < n .start → topFault s n ≡ SPAN
+  pub passed-span : 1 ≤ n .level → n .level ≤ MOST-LEVELS → n .end < n .start → r ≡ Refused (verdict SPAN ANCESTORS i) → Step-past
   unfolding spanb topFault
-  fault-span l h e = rw (level-sound n .1 (l, h), lt-ltb (n .end) (n .start) e)
+  passed-span l h d e = refuse (topFault s n) (unended n s) n i ws r 3 (rw (level-sound n .1 (l, h), lt-ltb (n .end) (n .start) d) refl) e
 
-  fault-order : Sound n → orderb s n ≡ true → topFault s n ≡ ORDER
-  unfolding topFault
-  fault-order g o = rw (level-sound n .1 (g .lowest, g .highest), span-sound n .1 (g .span), o)
+  module _ (g : Sound n) where
+    pub passed-order : orderb s n ≡ true → r ≡ Refused (verdict ORDER ANCESTORS i) → Step-past
+    unfolding topFault
+    passed-order o e =
+        refuse (topFault s n) (unended n s) n i ws r 4 (rw (level-sound n .1 (g .lowest, g .highest), span-sound n .1 (g .span), o) refl) e
 
-  fault-head : Begun → topFault s n ≡ headFault (unended n s) n
-  unfolding topFault
-  fault-head b = rw (level-sound n .1 (b .sound .lowest, b .sound .highest), span-sound n .1 (b .sound .span), b .next)
+    -- nothing is wrong so far, and the rest is what the head of those left tells
+    pub passed-rest : orderb s n ≡ false → (left : List Node) → left ≡ unended n s → Passed (headFault left n) left n i r ws → Step-past
+    unfolding topFault
+    passed-rest o left q h = rw (level-sound n .1 (g .lowest, g .highest), span-sound n .1 (g .span), o, ← q) h
 
-  module _ (i : ℕ) (ws : List ℕ) (r : Step) where
-    refuse : (f : ℕ) → topFault s n ≡ suc f → r ≡ Refused (verdict (suc f) ANCESTORS i) → Passed s n i r ws
-    refuse f q e =
-        subst (λ (step : Step). Passed s n i step ws) (sym e)
-        ((λ t. let z : suc f ≡ 0 = sym q ∙ t in omega arith), ap (λ (k : ℕ). verdict k ANCESTORS i) (sym q))
+-- the returns of `put_on_top`, which knows the k nodes that are left in the words of a stack
+module _ (st : List ℕ) (k : ℕ) (n : Node) (i : ℕ) (ws : List ℕ) (r : Step) where
+  abbrev Step-upon : Type 0
+  Step-upon = Passed (headFault (firsts k (nodes st)) n) (firsts k (nodes st)) n i r ws
 
-    pub passed-low : n .level ≡ 0 → r ≡ Refused (verdict LEVEL ANCESTORS i) → Passed s n i r ws
-    passed-low h e = refuse 2 (fault-low h) e
+  abbrev Pushed : Type 0
+  Pushed = (r ≡ Reached (place (i + 1) (k + 1))) × (firsts (k + 1) (nodes ws) ≡ n ∷ firsts k (nodes st))
 
-    pub passed-high : 1 ≤ n .level → MOST-LEVELS < n .level → r ≡ Refused (verdict LEVEL ANCESTORS i) → Passed s n i r ws
-    passed-high l h e = refuse 2 (fault-high l h) e
+  pub passed-alone : k ≡ 0 → Pushed → Step-upon
+  unfolding firsts headFault
+  passed-alone z p = reach (headFault (firsts k (nodes st)) n) (firsts k (nodes st)) n i ws r k (rw z refl) (omega arith) (p .0) (p .1)
 
-    pub passed-span : 1 ≤ n .level → n .level ≤ MOST-LEVELS → n .end < n .start → r ≡ Refused (verdict SPAN ANCESTORS i) → Passed s n i r ws
-    passed-span l h d e = refuse 3 (fault-span l h d) e
+  module _ (e : Node) (some : 0 < k) (top : e ≡ nodeAt st (k - 1)) where
+    head : headFault (firsts k (nodes st)) n ≡ headFault (e ∷ firsts (k - 1) (nodes st)) n
+    head = rw (head-at k st some, top) refl
 
-    pub passed-order : Sound n → orderb s n ≡ true → r ≡ Refused (verdict ORDER ANCESTORS i) → Passed s n i r ws
-    passed-order g o e = refuse 4 (fault-order g o) e
+    pub passed-cross : insideb n e ≡ false → r ≡ Refused (verdict CROSS ANCESTORS i) → Step-upon
+    unfolding headFault
+    passed-cross h q = refuse (headFault (firsts k (nodes st)) n) (firsts k (nodes st)) n i ws r 5 (head ∙ rw h refl) q
 
-    -- the row that is left, in the words of a stack, and the node put on top of it
-    module _ (b : Begun) (k : ℕ) (st : List ℕ) (left : firsts k (nodes st) ≡ unended n s) where
-      taken : headFault (unended n s) n ≡ TAKEN → k < MOST-LEVELS → r ≡ Reached (place (i + 1) (k + 1)) → firsts (k + 1) (nodes ws) ≡ n ∷ firsts k (nodes st)
-          → Passed s n i r ws
-      taken h l e p = subst (λ (step : Step). Passed s n i step ws) (sym e) (fault-head b ∙ h, refl, p ∙ ap (λ es. n ∷ es) left, omega arith)
+    module _ (h : insideb n e ≡ true) where
+      pub passed-depth : n .level ≤ e .level → r ≡ Refused (verdict DEPTH ANCESTORS i) → Step-upon
+      unfolding headFault
+      passed-depth l q =
+          refuse (headFault (firsts k (nodes st)) n) (firsts k (nodes st)) n i ws r 6 (head ∙ rw (h, le-ltb (e .level) (n .level) l) refl) q
 
-      pub passed-alone : k ≡ 0 → r ≡ Reached (place (i + 1) (k + 1)) → firsts (k + 1) (nodes ws) ≡ n ∷ firsts k (nodes st) → Passed s n i r ws
-      unfolding firsts headFault
-      passed-alone z e p = taken (rw (← left, z) refl) (omega arith) e p
-
-      module _ (e : Node) (some : 0 < k) (top : e ≡ nodeAt st (k - 1)) where
-        head : headFault (unended n s) n ≡ headFault (e ∷ firsts (k - 1) (nodes st)) n
-        head = rw (← left, head-at k st some, top) refl
-
-        pub passed-cross : insideb n e ≡ false → r ≡ Refused (verdict CROSS ANCESTORS i) → Passed s n i r ws
-        unfolding headFault
-        passed-cross h q = refuse 5 (fault-head b ∙ head ∙ rw h refl) q
-
-        pub passed-depth : insideb n e ≡ true → n .level ≤ e .level → r ≡ Refused (verdict DEPTH ANCESTORS i) → Passed s n i r ws
-        unfolding headFault
-        passed-depth h l q = refuse 6 (fault-head b ∙ head ∙ rw (h, le-ltb (e .level) (n .level) l) refl) q
-
-        pub passed-on : insideb n e ≡ true → e .level < n .level → k < MOST-LEVELS → r ≡ Reached (place (i + 1) (k + 1))
-            → firsts (k + 1) (nodes ws) ≡ n ∷ firsts k (nodes st) → Passed s n i r ws
-        unfolding headFault
-        passed-on h l m q p = taken (head ∙ rw (h, lt-ltb (e .level) (n .level) l) refl) m q p
+      pub passed-on : e .level < n .level → k < MOST-LEVELS → Pushed → Step-upon
+      unfolding headFault
+      passed-on l m p =
+          reach (headFault (firsts k (nodes st)) n) (firsts k (nodes st)) n i ws r k (head ∙ rw (h, lt-ltb (e .level) (n .level) l) refl) m
+          (p .0) (p .1)

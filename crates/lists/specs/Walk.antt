@@ -47,9 +47,8 @@ headFault (e ∷ es) n = cond (not (insideb n e)) CROSS (cond (not (ltb (e .leve
 unfoldable pub topFault : List Node → Node → ℕ
 topFault opened n = cond (levelb n) LEVEL (cond (spanb n) SPAN (cond (orderb opened n) ORDER (headFault (unended n opened) n)))
 
--- a step past n, at an index, from a row of open nodes: it is taken and lies at the head of those left, or it is refused
-abbrev pub Passed : List Node → Node → ℕ → Step → List ℕ → Type 0
-Passed opened n index (Reached reached) words =
-    (topFault opened n ≡ TAKEN) × (reached .index ≡ index + 1) × (firsts (reached .depth) (nodes words) ≡ n ∷ unended n opened)
-    × (reached .depth ≤ MOST-LEVELS)
-Passed opened n index (Refused refusal) words = (topFault opened n ≡ TAKEN → ⊥) × (refusal ≡ verdict (topFault opened n) ANCESTORS index)
+-- a step past n, at an index: where nothing is wrong it lies at the head of those left, else it is refused for what is wrong
+abbrev pub Passed : ℕ → List Node → Node → ℕ → Step → List ℕ → Type 0
+Passed wrong left n index (Reached reached) words =
+    (wrong ≡ TAKEN) × (reached .index ≡ index + 1) × (reached .depth ≤ MOST-LEVELS) × (firsts (reached .depth) (nodes words) ≡ n ∷ left)
+Passed wrong left n index (Refused refusal) words = (wrong ≡ TAKEN → ⊥) × (refusal ≡ verdict wrong ANCESTORS index)

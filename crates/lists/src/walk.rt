@@ -22,7 +22,7 @@ ghost use Rattle.nodes.specs.Node.{MOST-LEVELS};
 ghost use Rattle.nodes.specs.Words.{nodes, count, nodeAt, putNode, MOST-NODES};
 ghost use Rattle.lists.specs.Fault.{orderb};
 ghost use Rattle.lists.specs.Verdict.{ANCESTORS, verdict, verdictOf};
-ghost use Rattle.lists.specs.Walk.{firsts, unended, place, Chain, Passed};
+ghost use Rattle.lists.specs.Walk.{firsts, unended, place, Chain, headFault, topFault, Passed};
 
 // The stack's words.
 pub(crate) const STACK_WORDS: usize = NODE_WORDS * MOST_LEVELS;
@@ -129,11 +129,29 @@ fn push(stack: &mut [u32; STACK_WORDS], index: usize, left: usize, node: Node) -
     })
 }
 
-// One step: the next node is taken and comes to lie on top of the stack, or it is refused. Everything on the stack contains the top,
-// so the top alone is tested.
+// The node comes to lie on top of those that are left, or it is refused: the top has to contain it and to have a lower level. All that lie
+// under the top contain the top, so no other is tested.
+fn put_on_top(stack: &mut [u32; STACK_WORDS], index: usize, left: usize, node: Node) -> Step
+    requires { ⌜ (index < 2 * MOST-NODES) × (left ≤ MOST-LEVELS) × (node .level ≤ MOST-LEVELS) × Chain (firsts left (nodes (now stack))) ⌝ }
+    ensures { λ r. ⌜ Passed (headFault (firsts left (nodes (now (stack .entry)))) node) (firsts left (nodes (now (stack .entry)))) node index r (now (stack .exit)) ⌝ }
+{
+    if left == 0 {
+        return push(stack, index, left, node);
+    }
+    let top = open_at(stack, left - 1);
+    if !is_inside(node, top) {
+        return refused(CROSS, index);
+    }
+    if node.level <= top.level {
+        return refused(DEPTH, index);
+    }
+    push(stack, index, left, node)
+}
+
+// One step: the next node is taken and comes to lie on top of the stack, or it is refused.
 pub(crate) fn pass_node(stack: &mut [u32; STACK_WORDS], place: Place, node: Node) -> Step
     requires { ⌜ (place .index < 2 * MOST-NODES) × (place .depth ≤ MOST-LEVELS) × Chain (firsts (place .depth) (nodes (now stack))) ⌝ }
-    ensures { λ r. ⌜ Passed (firsts (place .depth) (nodes (now (stack .entry)))) node (place .index) r (now (stack .exit)) ⌝ }
+    ensures { λ r. ⌜ Passed (topFault (firsts (place .depth) (nodes (now (stack .entry)))) node) (unended node (firsts (place .depth) (nodes (now (stack .entry))))) node (place .index) r (now (stack .exit)) ⌝ }
 {
     let index = place.index;
     if node.level == 0 {
@@ -149,15 +167,5 @@ pub(crate) fn pass_node(stack: &mut [u32; STACK_WORDS], place: Place, node: Node
         return refused(ORDER, index);
     }
     let left = left_open(stack, place.depth, node);
-    if left == 0 {
-        return push(stack, index, left, node);
-    }
-    let top = open_at(stack, left - 1);
-    if !is_inside(node, top) {
-        return refused(CROSS, index);
-    }
-    if node.level <= top.level {
-        return refused(DEPTH, index);
-    }
-    push(stack, index, left, node)
+    put_on_top(stack, index, left, node)
 }

@@ -1,0 +1,77 @@
+-- Each return is one case of `headFault`, told by the top of the stack.
+-- A test left out falls at the return behind it, and a stack without room at the second push.
+use borrow.Author.Needs.{needs}
+use mathlib.Core.Path.{sym, _∙_}
+use native.Mathlib.Omega.{arith}
+use borrow.Author.Tests.{not-true, not-false}
+use denote.Ref.{now}
+use Rattle.lists.proofs.Steps.{room, passed-alone, passed-cross, passed-depth, passed-on}
+use Rattle.lists.proofs.walk.put_on_top.Statement.{statement}
+use Rattle.lists.proofs.walk.put_on_top.Tie as tie
+
+push-requires : tie.Need-push-requires
+push-requires c κs = search needs
+
+returns : tie.Need-returns
+returns c =
+    let a = c .before .before .before .args in
+    passed-alone (now (a .stack)) (a .left) (a .node) _ _ _ (c .before .before .if1 .taken) (c .push .ensures)
+
+sub-open-at : tie.Need-sub-open-at
+sub-open-at c = search needs
+
+open-at-requires : tie.Need-open-at-requires
+open-at-requires c κs = search needs
+
+is-inside-requires : tie.Need-is-inside-requires
+is-inside-requires c κs = search needs
+
+refused-requires : tie.Need-refused-requires
+refused-requires c κs = search needs
+
+returns-2 : tie.Need-returns-2
+returns-2 c =
+    let a = c .before .before .before .before .before .before .before .args in
+    passed-cross (now (a .stack)) (a .left) (a .node) _ _ _ _ (omega arith) (c .before .before .before .open-at .ensures)
+    (sym (c .before .before .is-inside .ensures) ∙ not-true _ (c .before .if2 .taken)) (c .refused .ensures)
+
+refused-requires-2 : tie.Need-refused-requires-2
+refused-requires-2 c κs = search needs
+
+returns-3 : tie.Need-returns-3
+returns-3 c =
+    let a = c .before .before .before .before .before .before .before .before .before .before .args in
+    let at-top = c .before .before .before .before in
+    passed-depth (now (a .stack)) (a .left) (a .node) _ _ _ _ (omega arith) (at-top .before .before .open-at .ensures)
+    (sym (at-top .before .is-inside .ensures) ∙ not-false _ (at-top .if2 .left)) (omega arith) (c .refused2 .ensures)
+
+push-requires-2 : tie.Need-push-requires-2
+push-requires-2 c κs =
+    let start = c .before .before .before .before .before .before .before .before .before .before in
+    let a = start .args in
+    (omega arith, room (a .left) (now (a .stack)) (a .node) _ (omega arith) (c .before .before .before .before .before .before .open-at .ensures) (start .pre .3) (omega arith) (omega arith))
+
+returns-4 : tie.Need-returns-4
+returns-4 c =
+    let start = c .before .before .before .before .before .before .before .before .before .before .before in
+    let a = start .args in
+    let at-top = c .before .before .before .before .before in
+    let top = at-top .before .before .open-at .ensures in
+    passed-on (now (a .stack)) (a .left) (a .node) _ _ _ _ (omega arith) top (sym (at-top .before .is-inside .ensures) ∙ not-false _ (at-top .if2 .left)) (omega arith)
+    (room (a .left) (now (a .stack)) (a .node) _ (omega arith) top (start .pre .3) (omega arith) (omega arith)) (c .push2 .ensures)
+
+pub put-on-top-spec : {M : Type 1} → statement M
+put-on-top-spec =
+    tie.close
+    (tie.spec
+    push-requires
+    returns
+    sub-open-at
+    open-at-requires
+    is-inside-requires
+    refused-requires
+    returns-2
+    refused-requires-2
+    returns-3
+    push-requires-2
+    returns-4)
