@@ -31,35 +31,36 @@ module _ (xs ys : List ℕ) (i j : ℕ) (iₙ : i ≤ count xs) (jₙ : j ≤ co
     second-in = omega (arith, length-nodes ys);
   }
 
-  -- both lists have a head, x and y, and n is the one that is taken
-  module _ (h : i < count xs) (k : j < count ys) (n x y : Node) (qx : x ≡ nodeAt xs i) (qy : y ≡ nodeAt ys j) where
-    heads : merge (drop i (nodes xs)) (drop j (nodes ys)) ≡ merge (x ∷ drop (i + 1) (nodes xs)) (y ∷ drop (j + 1) (nodes ys))
-    heads = rw (nodes-from xs i h, nodes-from ys j k, qx, qy) refl
+-- both lists have a head, and n is the one that is taken
+module _ (xs ys : List ℕ) (i j : ℕ) (h : i < count xs) (k : j < count ys) (n : Node) where
+  heads : merge (drop i (nodes xs)) (drop j (nodes ys))
+      ≡ merge (nodeAt xs i ∷ drop (i + 1) (nodes xs)) (nodeAt ys j ∷ drop (j + 1) (nodes ys))
+  heads = rw (nodes-from xs i h, nodes-from ys j k) refl
 
-    pub take-first : n ≡ nodeAt xs i → afterb y x ≡ true → Drawn (nodes xs) (nodes ys) i j n (i + 1) j
-    take-first q t = record {
-      next = heads ∙ merge-left x y _ _ t ∙ rw (nodes-from ys j k, q, qx, qy) refl;
+  pub take-first : n ≡ nodeAt xs i → afterb (nodeAt ys j) (nodeAt xs i) ≡ true → Drawn (nodes xs) (nodes ys) i j n (i + 1) j
+  take-first q t = record {
+    next = heads ∙ merge-left (nodeAt xs i) (nodeAt ys j) _ _ t ∙ rw (nodes-from ys j k, q) refl;
+    on = omega arith;
+    first-in = omega (arith, length-nodes xs);
+    second-in = omega (arith, length-nodes ys);
+  }
+
+  module _ (t : afterb (nodeAt ys j) (nodeAt xs i) ≡ false) where
+    pub take-both : n ≡ nodeAt xs i → sameb (nodeAt xs i) (nodeAt ys j) ≡ true → Drawn (nodes xs) (nodes ys) i j n (i + 1) (j + 1)
+    take-both q u = record {
+      next = heads ∙ merge-both (nodeAt xs i) (nodeAt ys j) _ _ t u ∙ rw q refl;
       on = omega arith;
       first-in = omega (arith, length-nodes xs);
       second-in = omega (arith, length-nodes ys);
     }
 
-    module _ (t : afterb y x ≡ false) where
-      pub take-both : n ≡ nodeAt xs i → sameb x y ≡ true → Drawn (nodes xs) (nodes ys) i j n (i + 1) (j + 1)
-      take-both q u = record {
-        next = heads ∙ merge-both x y _ _ t u ∙ rw (q, qx) refl;
-        on = omega arith;
-        first-in = omega (arith, length-nodes xs);
-        second-in = omega (arith, length-nodes ys);
-      }
-
-      pub take-second : n ≡ nodeAt ys j → sameb x y ≡ false → Drawn (nodes xs) (nodes ys) i j n i (j + 1)
-      take-second q u = record {
-        next = heads ∙ merge-right x y _ _ t u ∙ rw (nodes-from xs i h, q, qx, qy) refl;
-        on = omega arith;
-        first-in = omega (arith, length-nodes xs);
-        second-in = omega (arith, length-nodes ys);
-      }
+    pub take-second : n ≡ nodeAt ys j → sameb (nodeAt xs i) (nodeAt ys j) ≡ false → Drawn (nodes xs) (nodes ys) i j n i (j + 1)
+    take-second q u = record {
+      next = heads ∙ merge-right (nodeAt xs i) (nodeAt ys j) _ _ t u ∙ rw (nodes-from xs i h, q) refl;
+      on = omega arith;
+      first-in = omega (arith, length-nodes xs);
+      second-in = omega (arith, length-nodes ys);
+    }
 
 -- at the end of both lists nothing is left of the merge
 pub none-left : (xs ys : List ℕ) (i j : ℕ) → count xs ≤ i → count ys ≤ j → merge (drop i (nodes xs)) (drop j (nodes ys)) ≡ []

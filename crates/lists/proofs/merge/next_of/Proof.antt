@@ -1,19 +1,11 @@
--- Each return takes the head that the tests before it call for, as the merge does.
--- A head left out, taken twice or taken from the wrong list falls at its return.
+-- Where one list is at its end the next node is the other's, and else the earlier one's contract is this one's.
+-- A head taken from the list that has ended falls at its return.
 use borrow.Author.Needs.{needs}
-use mathlib.Core.Path.{_≡_, sym, _∙_}
-use mathlib.Core.Bool.{Bool}
 use native.Mathlib.Omega.{arith}
 use denote.Ref.{now}
-use Rattle.nodes.specs.declared.node.Node.{Node}
-use Rattle.nodes.specs.Node.{sameb}
-use Rattle.lists.proofs.Drawing.{only-first, only-second, take-first, take-both, take-second}
+use Rattle.lists.proofs.Drawing.{only-first, only-second}
 use Rattle.lists.proofs.merge.next_of.Statement.{statement}
 use Rattle.lists.proofs.merge.next_of.Tie as tie
-
--- a head that was read twice is one node
-told : {x x′ y y′ u v : Node} {t : Bool} → x′ ≡ u → x ≡ u → y′ ≡ v → y ≡ v → t ≡ sameb x′ y′ → sameb x y ≡ t
-told p q r s e = sym (e ∙ (λ k. sameb ((p ∙ sym q) k) ((r ∙ sym s) k)))
 
 node-count-requires : tie.Need-node-count-requires
 node-count-requires c κs = search needs
@@ -43,61 +35,11 @@ returns-2 c =
     let a = c .before .before .before .before .before .before .before .args in
     only-second (now (a .xs)) (now (a .ys)) (a .i) (a .j) (omega arith) (omega arith) (omega arith) (omega arith) _ (c .node-at2 .ensures)
 
-node-at-requires-3 : tie.Need-node-at-requires-3
-node-at-requires-3 c κs = search needs
-
-node-at-requires-4 : tie.Need-node-at-requires-4
-node-at-requires-4 c κs = search needs
-
-is-after-requires : tie.Need-is-after-requires
-is-after-requires c κs = search needs
-
-node-at-requires-5 : tie.Need-node-at-requires-5
-node-at-requires-5 c κs = search needs
-
-add-t15 : tie.Need-add-t15
-add-t15 c = search needs
+earlier-of-requires : tie.Need-earlier-of-requires
+earlier-of-requires c κs = search needs
 
 returns-3 : tie.Need-returns-3
-returns-3 c =
-    let a = c .before .before .before .before .before .before .before .before .before .before .before .args in
-    take-first (now (a .xs)) (now (a .ys)) (a .i) (a .j) (omega arith) (omega arith) (omega arith) (omega arith) _ _ _ (c .before .before .before .node-at4 .ensures) (c .before .before .before .before .node-at3 .ensures) (c .node-at5 .ensures) (sym (c .before .before .is-after .ensures) ∙ c .before .if3 .taken)
-
-node-at-requires-6 : tie.Need-node-at-requires-6
-node-at-requires-6 c κs = search needs
-
-node-at-requires-7 : tie.Need-node-at-requires-7
-node-at-requires-7 c κs = search needs
-
-is-same-requires : tie.Need-is-same-requires
-is-same-requires c κs = search needs
-
-node-at-requires-8 : tie.Need-node-at-requires-8
-node-at-requires-8 c κs = search needs
-
-add-t18 : tie.Need-add-t18
-add-t18 c = search needs
-
-add-t19 : tie.Need-add-t19
-add-t19 c = search needs
-
-returns-4 : tie.Need-returns-4
-returns-4 c =
-    let a = c .before .before .before .before .before .before .before .before .before .before .before .before .before .before .before .args in
-    take-both (now (a .xs)) (now (a .ys)) (a .i) (a .j) (omega arith) (omega arith) (omega arith) (omega arith) _ _ _ (c .before .before .before .before .before .before .before .node-at4 .ensures) (c .before .before .before .before .before .before .before .before .node-at3 .ensures) (sym (c .before .before .before .before .before .before .is-after .ensures) ∙ c .before .before .before .before .before .if3 .left) (c .node-at8 .ensures)
-    (told (c .before .before .before .before .node-at6 .ensures) (c .before .before .before .before .before .before .before .node-at4 .ensures) (c .before .before .before .node-at7 .ensures) (c .before .before .before .before .before .before .before .before .node-at3 .ensures) (c .before .before .is-same .ensures) ∙ c .before .if4 .taken)
-
-node-at-requires-9 : tie.Need-node-at-requires-9
-node-at-requires-9 c κs = search needs
-
-add-t5 : tie.Need-add-t5
-add-t5 c = search needs
-
-returns-5 : tie.Need-returns-5
-returns-5 c =
-    let a = c .before .before .before .before .before .before .before .before .before .before .before .before .before .before .before .args in
-    take-second (now (a .xs)) (now (a .ys)) (a .i) (a .j) (omega arith) (omega arith) (omega arith) (omega arith) _ _ _ (c .before .before .before .before .before .before .before .node-at4 .ensures) (c .before .before .before .before .before .before .before .before .node-at3 .ensures) (sym (c .before .before .before .before .before .before .is-after .ensures) ∙ c .before .before .before .before .before .if3 .left) (c .node-at9 .ensures)
-    (told (c .before .before .before .before .node-at6 .ensures) (c .before .before .before .before .before .before .before .node-at4 .ensures) (c .before .before .before .node-at7 .ensures) (c .before .before .before .before .before .before .before .before .node-at3 .ensures) (c .before .before .is-same .ensures) ∙ c .before .if4 .left)
+returns-3 c = search needs
 
 pub next-of-spec : {M : Type 1} → statement M
 next-of-spec =
@@ -111,19 +53,5 @@ next-of-spec =
     node-at-requires-2
     add-t10
     returns-2
-    node-at-requires-3
-    node-at-requires-4
-    is-after-requires
-    node-at-requires-5
-    add-t15
-    returns-3
-    node-at-requires-6
-    node-at-requires-7
-    is-same-requires
-    node-at-requires-8
-    add-t18
-    add-t19
-    returns-4
-    node-at-requires-9
-    add-t5
-    returns-5)
+    earlier-of-requires
+    returns-3)
