@@ -22,11 +22,25 @@ struct Next {
     second: usize,
 }
 
-// The next node where both lists have one: the earlier of the two, or both at once where they are identical.
-fn earlier_of(xs: &[u32], i: usize, ys: &[u32], j: usize) -> Next
-    requires { ⌜ (i < count (now xs)) × (j < count (now ys)) ⌝ }
+// The next node of two lists that are not both at their end: the earlier one, or both where they are identical.
+fn next_of(xs: &[u32], i: usize, ys: &[u32], j: usize) -> Next
+    requires { ⌜ (i ≤ count (now xs)) × (j ≤ count (now ys)) × (i + j < count (now xs) + count (now ys)) ⌝ }
     ensures { λ r. ⌜ Drawn (nodes (now (xs .entry))) (nodes (now (ys .entry))) i j (r .node) (r .first) (r .second) ⌝ }
 {
+    if node_count(ys) <= j {
+        return Next {
+            node: node_at(xs, i),
+            first: i + 1,
+            second: j,
+        };
+    }
+    if node_count(xs) <= i {
+        return Next {
+            node: node_at(ys, j),
+            first: i,
+            second: j + 1,
+        };
+    }
     if is_after(node_at(ys, j), node_at(xs, i)) {
         return Next {
             node: node_at(xs, i),
@@ -46,28 +60,6 @@ fn earlier_of(xs: &[u32], i: usize, ys: &[u32], j: usize) -> Next
         first: i,
         second: j + 1,
     }
-}
-
-// The next node of two lists that are not both at their end.
-fn next_of(xs: &[u32], i: usize, ys: &[u32], j: usize) -> Next
-    requires { ⌜ (i ≤ count (now xs)) × (j ≤ count (now ys)) × (i + j < count (now xs) + count (now ys)) ⌝ }
-    ensures { λ r. ⌜ Drawn (nodes (now (xs .entry))) (nodes (now (ys .entry))) i j (r .node) (r .first) (r .second) ⌝ }
-{
-    if node_count(ys) <= j {
-        return Next {
-            node: node_at(xs, i),
-            first: i + 1,
-            second: j,
-        };
-    }
-    if node_count(xs) <= i {
-        return Next {
-            node: node_at(ys, j),
-            first: i,
-            second: j + 1,
-        };
-    }
-    earlier_of(xs, i, ys, j)
 }
 
 // The walk along the merge of two lists, neither of which is too long.

@@ -147,7 +147,8 @@ same-read x y h =
 
 pub same-self : (x : Node) → sameb x x ≡ true
 unfolding sameb
-same-self x = and-make (eq-eqb (x .document) (x .document) refl) (and-make (eq-eqb (x .start) (x .start) refl) (and-make (eq-eqb (x .end) (x .end) refl) (eq-eqb (x .level) (x .level) refl)))
+same-self x =
+    rw (eq-eqb (x .document) (x .document) refl, eq-eqb (x .start) (x .start) refl, eq-eqb (x .end) (x .end) refl, eq-eqb (x .level) (x .level) refl)
 
 -- a node that isn't open at n, which stands after it, isn't open at any later node either
 pub shut-later : (m n e : Node) → openb n e ≡ false → afterb n e ≡ true → afterb m n ≡ true → openb m e ≡ false

@@ -41,7 +41,8 @@ node-words (d ∷ s ∷ e ∷ l ∷ ws) (suc i) h =
     (sym (beyond d s e l ws {k = 4 * i + 3} {m = 4 * suc i + 3} (omega arith)) k)
 
 -- four stores past the first node are stores into the rest
-past : (d s e l : ℕ) (ws : List ℕ) {k m : ℕ} (vs : List ℕ) → m ≡ suc (suc (suc (suc k))) → sets (d ∷ s ∷ e ∷ l ∷ ws) m vs ≡ d ∷ s ∷ e ∷ l ∷ sets ws k vs
+past : (d s e l : ℕ) (ws : List ℕ) {k m : ℕ} (vs : List ℕ) → m ≡ suc (suc (suc (suc k)))
+    → sets (d ∷ s ∷ e ∷ l ∷ ws) m vs ≡ d ∷ s ∷ e ∷ l ∷ sets ws k vs
 past d s e l ws [] q = refl
 past d s e l ws {k} (v ∷ vs) q = rw q (past d s e l (set ws k v) vs refl)
 

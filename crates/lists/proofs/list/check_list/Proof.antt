@@ -35,15 +35,18 @@ slice-aggregate-pass-both : tie.Need-slice-aggregate-pass-both
 slice-aggregate-pass-both c = search needs
 
 pass-both-requires : tie.Need-pass-both-requires
-pass-both-requires c κs = (whole-words (now (c .before .before .before .before .args .words)) .0 (sym (c .before .before .word-fault .ensures) ∙ c .before .if1 .left) .1, zero-le)
+pass-both-requires c κs =
+    let a = c .before .before .before .before .args in
+    (whole-words (now (a .words)) .0 (sym (c .before .before .word-fault .ensures) ∙ c .before .if1 .left) .1, zero-le)
 
 verdict-of-requires : tie.Need-verdict-of-requires
 verdict-of-requires c κs = search needs
 
 returns-2 : tie.Need-returns-2
 returns-2 c =
-    c .verdict-of .ensures ∙ c .before .pass-both .ensures
-    ∙ whole (now (c .before .before .before .before .before .before .args .words)) _ (c .before .before .before .before .word-fault .ensures) (c .before .before .before .if1 .left)
+    let passed = c .before .before .before in
+    let a = passed .before .before .before .args in
+    c .verdict-of .ensures ∙ c .before .pass-both .ensures ∙ whole (now (a .words)) _ (passed .before .word-fault .ensures) (passed .if1 .left)
 
 pub check-list-spec : {M : Type 1} → statement M
 check-list-spec =

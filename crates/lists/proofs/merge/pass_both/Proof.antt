@@ -53,7 +53,10 @@ enum-told : tie.Need-enum-told Inv-loop μ-loop
 enum-told c = search needs
 
 returns : tie.Need-returns Inv-loop μ-loop
-returns c = walk-stop (walk-as (c .before .before .before .before .next-of .ensures .next) (c .before .before .before .before .before .before .before .before .loop .inv .4)) _ _ (c .before .before .pass-node .ensures) _ (c .enum-told .given .1)
+returns c =
+    let stepped = c .before .before in
+    let drawn = stepped .before .before in
+    walk-stop (walk-as (drawn .next-of .ensures .next) (drawn .before .before .before .before .loop .inv .4)) _ _ (stepped .pass-node .ensures) _ (c .enum-told .given .1)
 
 loop-less : tie.Need-loop-less Inv-loop μ-loop
 loop-less c =
@@ -63,11 +66,18 @@ loop-less c =
 
 loop-again : tie.Need-loop-again Inv-loop μ-loop
 loop-again c =
-    let a = c .before .before .before .before .before .before .before .before .before .before .before .before .args in
-    let d = c .before .before .before .before .before .next-of .ensures in
-    let w = walk-on (walk-as (c .before .before .before .before .before .next-of .ensures .next) (c .before .before .before .before .before .before .before .before .before .loop .inv .4)) _ _ (c .before .before .before .pass-node .ensures) _ (c .before .step .given .1) in
-    let i = w .0 in
-    (omega (arith, d .first-in, length-nodes (now (a .xs))), omega (arith, d .second-in, length-nodes (now (a .ys))), omega (arith, d .on), w .1, w .2)
+    let stepped = c .before .before .before in
+    let drawn = stepped .before .before in
+    let a = drawn .before .before .before .before .before .before .before .args in
+    let d = drawn .next-of .ensures in
+    let w = walk-on (walk-as (d .next) (drawn .before .before .before .before .loop .inv .4)) _ _ (stepped .pass-node .ensures) _ (c .before .step .given .1) in
+    let i = w .0 in (
+      omega (arith, d .first-in, length-nodes (now (a .xs))),
+      omega (arith, d .second-in, length-nodes (now (a .ys))),
+      omega (arith, d .on),
+      w .1,
+      w .2,
+    )
 
 returns-2 : tie.Need-returns-2 Inv-loop μ-loop
 returns-2 c =

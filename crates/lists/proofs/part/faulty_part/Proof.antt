@@ -64,16 +64,20 @@ part-from-requires c κs = search needs
 
 returns-3 : tie.Need-returns-3
 returns-3 c =
-    let a = c .before .before .before .before .before .before .before .before .before .before .args in
-    c .part-from .ensures ∙ in-second (now (a .ancestors)) (now (a .descendants)) _ (c .before .before .before .before .before .before .before .check-two .ensures) (omega arith) (omega arith) (omega arith)
+    let checked = c .before .before .before .before .before .before .before in
+    let a = checked .before .before .before .args in
+    c .part-from .ensures
+    ∙ in-second (now (a .ancestors)) (now (a .descendants)) _ (checked .check-two .ensures) (omega arith) (omega arith) (omega arith)
 
 part-from-requires-2 : tie.Need-part-from-requires-2
 part-from-requires-2 c κs = search needs
 
 returns-4 : tie.Need-returns-4
 returns-4 c =
-    let a = c .before .before .before .before .before .before .before .before .before .before .args in
-    c .part-from2 .ensures ∙ in-first (now (a .ancestors)) (now (a .descendants)) _ (c .before .before .before .before .before .before .before .check-two .ensures) (omega arith) (omega arith) (omega arith)
+    let checked = c .before .before .before .before .before .before .before in
+    let a = checked .before .before .before .args in
+    c .part-from2 .ensures
+    ∙ in-first (now (a .ancestors)) (now (a .descendants)) _ (checked .check-two .ensures) (omega arith) (omega arith) (omega arith)
 
 pub faulty-part-spec : {M : Type 1} → statement M
 faulty-part-spec =

@@ -69,16 +69,22 @@ returns-2 c =
 pass-both-requires : tie.Need-pass-both-requires
 pass-both-requires c κs =
     let a = c .before .before .before .before .before .before .args in
-    (whole-words (now (a .ancestors)) .0 (sym (c .before .before .before .word-fault .ensures) ∙ c .before .before .if1 .left) .1, whole-words (now (a .descendants)) .0 (sym (c .before .word-fault2 .ensures) ∙ c .if2 .left) .1)
+    let first = c .before .before in (
+      whole-words (now (a .ancestors)) .0 (sym (first .before .word-fault .ensures) ∙ first .if1 .left) .1,
+      whole-words (now (a .descendants)) .0 (sym (c .before .word-fault2 .ensures) ∙ c .if2 .left) .1,
+    )
 
 verdict-of-requires : tie.Need-verdict-of-requires
 verdict-of-requires c κs = search needs
 
 returns-3 : tie.Need-returns-3
 returns-3 c =
-    let a = c .before .before .before .before .before .before .before .before .before .args in
+    let second = c .before .before .before in
+    let first = second .before .before in
+    let a = first .before .before .before .before .args in
     ap (λ (v : Verdict). eqb (v .answer) TAKEN) (c .before .verdict-of .ensures ∙ c .before .before .pass-both .ensures)
-    ∙ merged (now (a .ancestors)) (now (a .descendants)) (sym (c .before .before .before .before .before .before .word-fault .ensures) ∙ c .before .before .before .before .before .if1 .left) (sym (c .before .before .before .before .word-fault2 .ensures) ∙ c .before .before .before .if2 .left)
+    ∙ merged (now (a .ancestors)) (now (a .descendants)) (sym (first .before .word-fault .ensures) ∙ first .if1 .left)
+    (sym (second .before .word-fault2 .ensures) ∙ second .if2 .left)
 
 pub are-agreeing-spec : {M : Type 1} → statement M
 are-agreeing-spec =

@@ -50,7 +50,8 @@ returns-3 c =
     let a = c .before .before .before .before .before .before .before .before .before .before .args in
     let p = c .before .before .before .before .before .check-list .ensures in
     let q = c .before .before .check-list2 .ensures in
-    ap (inList DESCENDANTS) q ∙ two-second (now (a .ancestors)) (now (a .descendants)) (sym (ap number p) ∙ c .before .before .before .if2 .left) (λ t. c .if3 .taken (ap number q ∙ t))
+    ap (inList DESCENDANTS) q
+    ∙ two-second (now (a .ancestors)) (now (a .descendants)) (sym (ap number p) ∙ c .before .before .before .if2 .left) (λ t. c .if3 .taken (ap number q ∙ t))
 
 returns-4 : tie.Need-returns-4
 returns-4 c =

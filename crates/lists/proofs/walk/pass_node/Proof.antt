@@ -71,7 +71,8 @@ returns-5 : tie.Need-returns-5
 returns-5 c =
     let a = c .before .before .before .before .before .before .before .before .before .before .before .before .before .args in
     let at-next = c .before .before .before .before in
-    passed-rest (firsts (a .place .depth) (nodes (now (a .stack)))) (a .node) (a .place .index) (c .put-on-top .last .0) (c .put-on-top .result) (record { lowest = omega arith; highest = omega arith; span = omega arith })
+    passed-rest (firsts (a .place .depth) (nodes (now (a .stack)))) (a .node) (a .place .index) (c .put-on-top .last .0) (c .put-on-top .result)
+    (record { lowest = omega arith; highest = omega arith; span = omega arith })
     (follows (at-next .before .is-next .ensures) (at-next .if4 .left)) _ (c .before .before .left-open .ensures .1) (c .put-on-top .ensures)
 
 pub pass-node-spec : {M : Type 1} → statement M

@@ -49,7 +49,8 @@ push-requires-2 : tie.Need-push-requires-2
 push-requires-2 c κs =
     let start = c .before .before .before .before .before .before .before .before .before .before in
     let a = start .args in
-    (omega arith, room (a .left) (now (a .stack)) (a .node) _ (omega arith) (c .before .before .before .before .before .before .open-at .ensures) (start .pre .3) (omega arith) (omega arith))
+    let top = c .before .before .before .before .before .before .open-at .ensures in
+    (omega arith, room (a .left) (now (a .stack)) (a .node) _ (omega arith) top (start .pre .3) (omega arith) (omega arith))
 
 returns-4 : tie.Need-returns-4
 returns-4 c =
