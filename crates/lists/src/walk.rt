@@ -120,7 +120,8 @@ fn put_open(stack: &mut [u32], k: usize, node: Node)
 // The node comes to lie on top of those that are left, and the walk is one node further.
 fn push(stack: &mut [u32; STACK_WORDS], index: usize, left: usize, node: Node) -> Step
     requires { ⌜ (index < 2 * MOST-NODES) × (left < MOST-LEVELS) ⌝ }
-    ensures { λ r. ⌜ (r ≡ Step.Reached (place (index + 1) (left + 1))) × (firsts (left + 1) (nodes (now (stack .exit))) ≡ node ∷ firsts left (nodes (now (stack .entry)))) ⌝ }
+    ensures { λ r. ⌜ (r ≡ Step.Reached (place (index + 1) (left + 1)))
+        × (firsts (left + 1) (nodes (now (stack .exit))) ≡ node ∷ firsts left (nodes (now (stack .entry)))) ⌝ }
 {
     put_open(stack, left, node);
     Step::Reached(Place {
@@ -132,8 +133,10 @@ fn push(stack: &mut [u32; STACK_WORDS], index: usize, left: usize, node: Node) -
 // The node comes to lie on top of those that are left, or it is refused: the top has to contain it and to have a lower level. All that lie
 // under the top contain the top, so no other is tested.
 fn put_on_top(stack: &mut [u32; STACK_WORDS], index: usize, left: usize, node: Node) -> Step
-    requires { ⌜ (index < 2 * MOST-NODES) × (left ≤ MOST-LEVELS) × (node .level ≤ MOST-LEVELS) × Chain (firsts left (nodes (now stack))) ⌝ }
-    ensures { λ r. ⌜ (let row = firsts left (nodes (now (stack .entry))) in Passed (headFault row node) row node index r (now (stack .exit))) ⌝ }
+    requires { ⌜ (index < 2 * MOST-NODES) × (left ≤ MOST-LEVELS) × (node .level ≤ MOST-LEVELS)
+        × Chain (firsts left (nodes (now stack))) ⌝ }
+    ensures { λ r. ⌜ (let row = firsts left (nodes (now (stack .entry))) in
+        Passed (headFault row node) row node index r (now (stack .exit))) ⌝ }
 {
     if left == 0 {
         return push(stack, index, left, node);
@@ -151,7 +154,8 @@ fn put_on_top(stack: &mut [u32; STACK_WORDS], index: usize, left: usize, node: N
 // One step: the next node is taken and comes to lie on top of the stack, or it is refused.
 pub(crate) fn pass_node(stack: &mut [u32; STACK_WORDS], place: Place, node: Node) -> Step
     requires { ⌜ (place .index < 2 * MOST-NODES) × (place .depth ≤ MOST-LEVELS) × Chain (firsts (place .depth) (nodes (now stack))) ⌝ }
-    ensures { λ r. ⌜ (let row = firsts (place .depth) (nodes (now (stack .entry))) in Passed (topFault row node) (unended node row) node (place .index) r (now (stack .exit))) ⌝ }
+    ensures { λ r. ⌜ (let row = firsts (place .depth) (nodes (now (stack .entry))) in
+        Passed (topFault row node) (unended node row) node (place .index) r (now (stack .exit))) ⌝ }
 {
     let index = place.index;
     if node.level == 0 {
