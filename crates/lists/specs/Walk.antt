@@ -33,7 +33,7 @@ abbrev pub Upon : Node → List Node → Type 0
 Upon e [] = Unit {0}
 Upon e (f ∷ es) = (insideb e f ≡ true) × (f .level < e .level)
 
--- each node of a row lies inside the next, with a higher level
+-- each node of a row lies inside the next, with a higher level, and the last has at least level 1
 abbrev pub Chain : List Node → Type 0
 Chain [] = Unit {0}
 Chain (e ∷ es) = (1 ≤ e .level) × Upon e es × Chain es

@@ -1,7 +1,7 @@
 // The check of one list.
 use crate::merge::pass_both;
-use crate::verdict::ANCESTORS;
 use crate::verdict::Verdict;
+use crate::verdict::without_node;
 use crate::walk::verdict_of;
 use nodes::answer::LONG;
 use nodes::answer::RAGGED;
@@ -32,11 +32,7 @@ pub fn check_list(words: &[u32]) -> Verdict
 {
     let fault = word_fault(words);
     if fault != TAKEN {
-        return Verdict {
-            answer: fault,
-            list: ANCESTORS,
-            index: 0,
-        };
+        return without_node(fault);
     }
     verdict_of(pass_both(words, &words[..0]))
 }

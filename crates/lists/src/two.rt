@@ -2,9 +2,9 @@
 use crate::list::check_list;
 use crate::list::word_fault;
 use crate::merge::pass_both;
-use crate::verdict::ANCESTORS;
 use crate::verdict::DESCENDANTS;
 use crate::verdict::Verdict;
+use crate::verdict::without_node;
 use crate::walk::verdict_of;
 use nodes::answer::JOINT;
 use nodes::answer::TAKEN;
@@ -32,11 +32,7 @@ pub fn check_two(ancestors: &[u32], descendants: &[u32]) -> Verdict
     ensures { λ r. ⌜ r ≡ checkTwo (now (ancestors .entry)) (now (descendants .entry)) ⌝ }
 {
     if are_agreeing(ancestors, descendants) {
-        return Verdict {
-            answer: TAKEN,
-            list: ANCESTORS,
-            index: 0,
-        };
+        return without_node(TAKEN);
     }
     let first = check_list(ancestors);
     if first.answer != TAKEN {
@@ -50,9 +46,5 @@ pub fn check_two(ancestors: &[u32], descendants: &[u32]) -> Verdict
             index: second.index,
         };
     }
-    Verdict {
-        answer: JOINT,
-        list: ANCESTORS,
-        index: 0,
-    }
+    without_node(JOINT)
 }

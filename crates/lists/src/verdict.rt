@@ -1,4 +1,6 @@
 // What a check answers.
+ghost use mathlib.Core.Path.{_≡_};
+ghost use Rattle.lists.specs.Verdict.{ANCESTORS, verdict};
 
 // The list that an answer names.
 pub const ANCESTORS: u32 = 0;
@@ -10,4 +12,15 @@ pub struct Verdict {
     pub answer: u32,
     pub list: u32,
     pub index: usize,
+}
+
+// The verdict of an answer that no node draws.
+pub(crate) fn without_node(answer: u32) -> Verdict
+    ensures { λ r. ⌜ r ≡ verdict answer ANCESTORS 0 ⌝ }
+{
+    Verdict {
+        answer: answer,
+        list: ANCESTORS,
+        index: 0,
+    }
 }

@@ -2,6 +2,7 @@
 // the one below it and has a higher level, so there are never more of them than levels.
 use crate::verdict::ANCESTORS;
 use crate::verdict::Verdict;
+use crate::verdict::without_node;
 use nodes::answer::CROSS;
 use nodes::answer::DEPTH;
 use nodes::answer::LEVEL;
@@ -44,11 +45,7 @@ pub(crate) fn verdict_of(step: Step) -> Verdict
     ensures { λ r. ⌜ r ≡ verdictOf step ⌝ }
 {
     match step {
-        Step::Reached(_) => Verdict {
-            answer: TAKEN,
-            list: ANCESTORS,
-            index: 0,
-        },
+        Step::Reached(_) => without_node(TAKEN),
         Step::Refused(verdict) => verdict,
     }
 }

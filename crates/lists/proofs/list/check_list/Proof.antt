@@ -28,8 +28,13 @@ module _ (ws : List ℕ) (f : ℕ) (q : f ≡ wordFault ws) where
 word-fault-requires : tie.Need-word-fault-requires
 word-fault-requires c κs = search needs
 
+without-node-requires : tie.Need-without-node-requires
+without-node-requires c κs = search needs
+
 returns : tie.Need-returns
-returns c = faulty (now (c .before .before .before .args .words)) _ (c .before .word-fault .ensures) (c .if1 .taken)
+returns c =
+    let a = c .before .before .before .before .args in
+    c .without-node .ensures ∙ faulty (now (a .words)) _ (c .before .before .word-fault .ensures) (c .before .if1 .taken)
 
 slice-aggregate-pass-both : tie.Need-slice-aggregate-pass-both
 slice-aggregate-pass-both c = search needs
@@ -53,6 +58,7 @@ check-list-spec =
     tie.close
     (tie.spec
     word-fault-requires
+    without-node-requires
     returns
     slice-aggregate-pass-both
     pass-both-requires

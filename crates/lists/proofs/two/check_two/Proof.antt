@@ -28,10 +28,13 @@ differed v h = eqb-false _ _ (not-true _ (not-false _ h))
 are-agreeing-requires : tie.Need-are-agreeing-requires
 are-agreeing-requires c κs = search needs
 
+without-node-requires : tie.Need-without-node-requires
+without-node-requires c κs = search needs
+
 returns : tie.Need-returns
 returns c =
-    let a = c .before .before .before .before .args in
-    two-taken (now (a .ancestors)) (now (a .descendants)) (agreed _ (sym (c .before .are-agreeing .ensures) ∙ c .if1 .taken))
+    let a = c .before .before .before .before .before .args in
+    c .without-node .ensures ∙ two-taken (now (a .ancestors)) (now (a .descendants)) (agreed _ (sym (c .before .before .are-agreeing .ensures) ∙ c .before .if1 .taken))
 
 check-list-requires : tie.Need-check-list-requires
 check-list-requires c κs = search needs
@@ -47,28 +50,37 @@ check-list-requires-2 c κs = search needs
 
 returns-3 : tie.Need-returns-3
 returns-3 c =
-    let a = c .before .before .before .before .before .before .before .before .before .before .args in
-    let p = c .before .before .before .before .before .check-list .ensures in
+    let first = c .before .before .before in
+    let a = first .before .before .before .before .before .before .before .args in
+    let p = first .before .before .check-list .ensures in
     let q = c .before .before .check-list2 .ensures in
-    ap (inList DESCENDANTS) q
-    ∙ two-second (now (a .ancestors)) (now (a .descendants)) (sym (ap number p) ∙ c .before .before .before .if2 .left) (λ t. c .if3 .taken (ap number q ∙ t))
+    ap (inList DESCENDANTS) q ∙ two-second (now (a .ancestors)) (now (a .descendants)) (sym (ap number p) ∙ first .if2 .left) (λ t. c .if3 .taken (ap number q ∙ t))
+
+without-node-requires-2 : tie.Need-without-node-requires-2
+without-node-requires-2 c κs = search needs
 
 returns-4 : tie.Need-returns-4
 returns-4 c =
-    let a = c .before .before .before .before .before .before .before .before .before .before .args in
-    let p = c .before .before .before .before .before .check-list .ensures in
-    let q = c .before .before .check-list2 .ensures in
-    two-joint (now (a .ancestors)) (now (a .descendants)) (sym (ap number p) ∙ c .before .before .before .if2 .left) (sym (ap number q) ∙ c .if3 .left)
-    (differed _ (sym (c .before .before .before .before .before .before .before .are-agreeing .ensures) ∙ c .before .before .before .before .before .before .if1 .left))
+    let second = c .before in
+    let first = second .before .before .before in
+    let differ = first .before .before .before in
+    let a = differ .before .before .before .before .args in
+    let p = first .before .before .check-list .ensures in
+    let q = second .before .before .check-list2 .ensures in
+    c .without-node2 .ensures
+    ∙ two-joint (now (a .ancestors)) (now (a .descendants)) (sym (ap number p) ∙ first .if2 .left) (sym (ap number q) ∙ second .if3 .left)
+    (differed _ (sym (differ .before .are-agreeing .ensures) ∙ differ .if1 .left))
 
 pub check-two-spec : {M : Type 1} → statement M
 check-two-spec =
     tie.close
     (tie.spec
     are-agreeing-requires
+    without-node-requires
     returns
     check-list-requires
     returns-2
     check-list-requires-2
     returns-3
+    without-node-requires-2
     returns-4)
