@@ -32,17 +32,22 @@ fn print_verdict(verdict: Verdict) {
     print_decimal(STDOUT_FILENO, verdict.index as u64);
 }
 
+// Prints words, each behind a blank.
+pub(crate) fn print_words(words: &[u32]) {
+    let mut i = 0;
+    while i < words.len() {
+        write_all(STDOUT_FILENO, b" ");
+        print_decimal(STDOUT_FILENO, words[i] as u64);
+        i += 1;
+    }
+}
+
 // Prints how many words a part of a list has, and the words.
 fn print_part(part: &[u32]) {
     write_all(STDOUT_FILENO, b", part of ");
     print_decimal(STDOUT_FILENO, part.len() as u64);
     write_all(STDOUT_FILENO, b" words");
-    let mut i = 0;
-    while i < part.len() {
-        write_all(STDOUT_FILENO, b" ");
-        print_decimal(STDOUT_FILENO, part[i] as u64);
-        i += 1;
-    }
+    print_words(part);
 }
 
 // The line of a case of one list.
