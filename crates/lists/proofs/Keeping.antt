@@ -13,10 +13,11 @@ use Rattle.nodes.specs.Answer.{TAKEN, ORDER, CROSS, DEPTH}
 use Rattle.nodes.specs.Choose.{any, keep}
 use Rattle.nodes.specs.Node.{insideb, openb, afterb}
 use Rattle.nodes.proofs.Choices.{All, all-map, none-any, any-same, keep-failed}
-use Rattle.nodes.proofs.NodeLaws.{inside-trans, inside-open, inside-after, after-trans, shut-later}
+use Rattle.nodes.proofs.NodeLaws.{inside-trans, inside-open, after-trans, shut-later}
 use Rattle.nodes.proofs.Tests.{either, never, not-so, and-read, not-read, not-none}
 use Rattle.lists.specs.Fault.{levelb, spanb, orderb, crossb, depthb, fault}
 use Rattle.lists.specs.Walk.{unended, Upon, Chain, headFault, topFault}
+use Rattle.lists.proofs.Steps.{chain-after}
 use Rattle.lists.proofs.Faults.{skip, level-sound, span-sound, crosses, rises}
 
 -- a row s stands for the nodes before at every node that P lets come next: a test that only open nodes pass keeps the same of both
@@ -44,16 +45,6 @@ stands-pop e shut k = record {
   chain = k .chain .2;
   keeps = λ n p test only. k .keeps n p test only ∙ keep-failed test e _ (not-so (λ h. never (only e h) (shut n p)));
 }
-
--- every node of a row stands before the node that comes next
-chain-after : (n : Node) (s : List Node) → Chain s → orderb s n ≡ false → All (λ e. afterb n e ≡ true) s
-unfolding orderb
-chain-after n [] ch o = tt
-chain-after n (e ∷ []) ch o = (not-none _ o, tt)
-chain-after n (e ∷ f ∷ s) ch o =
-    let a : afterb n e ≡ true = not-none _ o in
-    let b : afterb n f ≡ true = after-trans n e f a (inside-after e f (ch .1 .0)) in
-    (a, chain-after n (f ∷ s) (ch .2) (ap not b))
 
 -- all that ended before n are taken off
 stands-left : (n : Node) {before : List Node} (s : List Node) → All (λ e. afterb n e ≡ true) s → Stands (λ m. afterb m n ≡ true) before s

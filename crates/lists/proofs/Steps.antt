@@ -2,7 +2,7 @@
 -- A test left out, or tried in another order than document 01's, falls at the case that it changes.
 use mathlib.Core.Path.{_≡_, refl, sym, ap, subst, _∙_}
 use mathlib.Core.Logic.{inl, inr}
-use mathlib.Core.Bool.{true, false}
+use mathlib.Core.Bool.{true, false, not}
 use mathlib.Core.List.{List, [], _∷_}
 use Prim.Native.Nat.{ℕ, suc, _+_, _-_, _≤_, _<_}
 use native.Mathlib.Omega.{arith}
@@ -10,14 +10,16 @@ use lib.ListN.{length}
 use borrow.Author.Tests.{eq-eqb, ne-eqb, lt-ltb, le-ltb}
 use Rattle.nodes.specs.declared.node.Node.{Node}
 use Rattle.nodes.specs.Answer.{TAKEN, LEVEL, SPAN, ORDER, CROSS, DEPTH}
-use Rattle.nodes.specs.Node.{insideb, openb, MOST-LEVELS}
+use Rattle.nodes.specs.Node.{endsb, insideb, afterb, openb, MOST-LEVELS}
 use Rattle.nodes.specs.Words.{nodes, nodeAt}
-use Rattle.nodes.proofs.Tests.{either}
+use Rattle.nodes.proofs.Choices.{All}
+use Rattle.nodes.proofs.NodeLaws.{inside-by-end, inside-after, after-starts, after-trans, open-read}
+use Rattle.nodes.proofs.Tests.{either, not-none}
 use Rattle.lists.specs.declared.walk.Step.{Step}
 use Rattle.lists.specs.declared.walk.Step.the-variants.{Reached, Refused}
 use Rattle.lists.specs.Fault.{levelb, spanb, orderb}
 use Rattle.lists.specs.Verdict.{ANCESTORS, verdict}
-use Rattle.lists.specs.Walk.{place, firsts, unended, Chain, headFault, topFault, Passed}
+use Rattle.lists.specs.Walk.{place, firsts, unended, Behind, Chain, headFault, topFault, Passed}
 use Rattle.lists.proofs.Faults.{Sound, level-sound, span-sound}
 use Rattle.lists.proofs.WalkLaws.{head-at, length-firsts}
 
@@ -31,6 +33,26 @@ pub chain-left : (n : Node) (es : List Node) → Chain es → Chain (unended n e
 unfolding unended
 chain-left n [] h = tt
 chain-left n (e ∷ es) h = elim (either (openb n e)) [ inl o ↦ rw o h | inr o ↦ rw o (chain-left n es (h .2)) ]
+
+-- every node of a row stands before the node that comes next
+pub chain-after : (n : Node) (s : List Node) → Chain s → orderb s n ≡ false → All (λ e. afterb n e ≡ true) s
+unfolding orderb
+chain-after n [] ch o = tt
+chain-after n (e ∷ []) ch o = (not-none _ o, tt)
+chain-after n (e ∷ f ∷ s) ch o =
+    let a : afterb n e ≡ true = not-none _ o in
+    let b : afterb n f ≡ true = after-trans n e f a (inside-after e f (ch .1 .0)) in
+    (a, chain-after n (f ∷ s) (ch .2) (ap not b))
+
+-- of those left, the head is of n's document and before it
+pub behind-left : (n : Node) (s : List Node) → All (λ e. afterb n e ≡ true) s → Behind n (unended n s)
+unfolding unended
+behind-left n [] a = tt
+behind-left n (e ∷ s) a =
+    elim (either (openb n e)) [
+      | inl o ↦ rw o (let d = open-read n e o .document in (sym d, after-starts n e (a .0) d))
+      | inr o ↦ rw o (behind-left n s (a .1))
+    ]
 
 -- a node that is deeper than the head of a row is at most as deep as the deepest level, so the row has room for it
 pub room : (k : ℕ) (ws : List ℕ) (n e : Node) → 0 < k → e ≡ nodeAt ws (k - 1) → Chain (firsts k (nodes ws)) → e .level < n .level
@@ -93,22 +115,27 @@ module _ (st : List ℕ) (k : ℕ) (n : Node) (i : ℕ) (ws : List ℕ) (r : Ste
   unfolding firsts headFault
   passed-alone z p = reach (headFault (firsts k (nodes st)) n) (firsts k (nodes st)) n i ws r k (rw z refl) (omega arith) (p .0) (p .1)
 
-  module _ (e : Node) (some : 0 < k) (top : e ≡ nodeAt st (k - 1)) where
+  module _ (e : Node) (some : 0 < k) (top : e ≡ nodeAt st (k - 1)) (b : Behind n (firsts k (nodes st))) where
+    by-end : endsb n e ≡ insideb n e
+    by-end =
+        let w : Behind n (e ∷ firsts (k - 1) (nodes st)) = rw top (subst (Behind n) (head-at k st some) b) in
+        inside-by-end n e (w .0) (w .1)
+
     head : headFault (firsts k (nodes st)) n ≡ headFault (e ∷ firsts (k - 1) (nodes st)) n
     head = rw (head-at k st some, top) refl
 
-    pub passed-cross : insideb n e ≡ false → r ≡ Refused (verdict CROSS ANCESTORS i) → Step-upon
+    pub passed-cross : endsb n e ≡ false → r ≡ Refused (verdict CROSS ANCESTORS i) → Step-upon
     unfolding headFault
-    passed-cross h q = refuse (headFault (firsts k (nodes st)) n) (firsts k (nodes st)) n i ws r 5 (head ∙ rw h refl) q
+    passed-cross h q = refuse (headFault (firsts k (nodes st)) n) (firsts k (nodes st)) n i ws r 5 (head ∙ rw (sym by-end ∙ h) refl) q
 
-    module _ (h : insideb n e ≡ true) where
+    module _ (h : endsb n e ≡ true) where
       pub passed-depth : n .level ≤ e .level → r ≡ Refused (verdict DEPTH ANCESTORS i) → Step-upon
       unfolding headFault
       passed-depth l q =
-          refuse (headFault (firsts k (nodes st)) n) (firsts k (nodes st)) n i ws r 6 (head ∙ rw (h, le-ltb (e .level) (n .level) l) refl) q
+          refuse (headFault (firsts k (nodes st)) n) (firsts k (nodes st)) n i ws r 6 (head ∙ rw (sym by-end ∙ h, le-ltb (e .level) (n .level) l) refl) q
 
       pub passed-on : e .level < n .level → k < MOST-LEVELS → Pushed → Step-upon
       unfolding headFault
       passed-on l m p =
-          reach (headFault (firsts k (nodes st)) n) (firsts k (nodes st)) n i ws r k (head ∙ rw (h, lt-ltb (e .level) (n .level) l) refl) m
+          reach (headFault (firsts k (nodes st)) n) (firsts k (nodes st)) n i ws r k (head ∙ rw (sym by-end ∙ h, lt-ltb (e .level) (n .level) l) refl) m
           (p .0) (p .1)

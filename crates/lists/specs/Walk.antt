@@ -38,6 +38,11 @@ abbrev pub Chain : List Node → Type 0
 Chain [] = Unit {0}
 Chain (e ∷ es) = (1 ≤ e .level) × Upon e es × Chain es
 
+-- n stands in the document of a row's head, after it
+abbrev pub Behind : Node → List Node → Type 0
+Behind n [] = Unit {0}
+Behind n (e ∷ es) = (n .document ≡ e .document) × (e .start < n .start)
+
 -- what is wrong at n, as far as the head of the open nodes tells
 unfoldable pub headFault : List Node → Node → ℕ
 headFault [] n = TAKEN

@@ -12,8 +12,8 @@ use nodes::answer::TAKEN;
 use nodes::node::MOST_LEVELS;
 use nodes::node::NODE_WORDS;
 use nodes::node::Node;
+use nodes::node::ends_within;
 use nodes::node::is_after;
-use nodes::node::is_inside;
 use nodes::node::is_open;
 ghost use mathlib.Core.Path.{_≡_};
 ghost use mathlib.Core.Bool.{not};
@@ -23,7 +23,7 @@ ghost use Rattle.nodes.specs.Node.{MOST-LEVELS};
 ghost use Rattle.nodes.specs.Words.{nodes, count, nodeAt, putNode, MOST-NODES};
 ghost use Rattle.lists.specs.Fault.{orderb};
 ghost use Rattle.lists.specs.Verdict.{ANCESTORS, verdict, verdictOf};
-ghost use Rattle.lists.specs.Walk.{firsts, unended, place, Chain, headFault, topFault, Passed};
+ghost use Rattle.lists.specs.Walk.{firsts, unended, place, Behind, Chain, headFault, topFault, Passed};
 
 // The stack's words.
 pub(crate) const STACK_WORDS: usize = NODE_WORDS * MOST_LEVELS;
@@ -127,11 +127,11 @@ fn push(stack: &mut [u32; STACK_WORDS], index: usize, left: usize, node: Node) -
     })
 }
 
-// The node comes to lie on top of those that are left, or it is refused: the top has to contain it and to have a lower level. All that lie
-// under the top contain the top, so no other is tested.
+// The node comes to lie on top of those that are left, or it is refused: the top has to contain it and to have a lower level. The top is
+// of its document and starts before it, so only the end decides; all that lie under the top contain the top, so no other is tested.
 fn put_on_top(stack: &mut [u32; STACK_WORDS], index: usize, left: usize, node: Node) -> Step
     requires { ⌜ (index < 2 * MOST-NODES) × (left ≤ MOST-LEVELS) × (node .level ≤ MOST-LEVELS)
-        × Chain (firsts left (nodes (now stack))) ⌝ }
+        × Chain (firsts left (nodes (now stack))) × Behind node (firsts left (nodes (now stack))) ⌝ }
     ensures { λ r. ⌜ (let row = firsts left (nodes (now (stack .entry))) in
         Passed (headFault row node) row node index r (now (stack .exit))) ⌝ }
 {
@@ -139,7 +139,7 @@ fn put_on_top(stack: &mut [u32; STACK_WORDS], index: usize, left: usize, node: N
         return push(stack, index, left, node);
     }
     let top = open_at(stack, left - 1);
-    if !is_inside(node, top) {
+    if !ends_within(node, top) {
         return refused(CROSS, index);
     }
     if node.level <= top.level {

@@ -1,6 +1,6 @@
 -- Each test of two nodes is a test of their numbers; here it becomes the facts about those numbers, and only here is `insideb` opened.
 -- A changed test of document 01 is proved again here and nowhere else.
-use mathlib.Core.Path.{_≡_, refl, sym}
+use mathlib.Core.Path.{_≡_, refl, sym, _∙_}
 use mathlib.Core.Logic.{_⊎_, inl, inr, ⊎-elim}
 use mathlib.Core.Bool.{true, false}
 use Prim.Native.Nat.{_+_, _≤_, _<_}
@@ -9,8 +9,17 @@ use native.Mathlib.Nat.{lt-irrefl}
 use lib.Dec.{ltb, eqb}
 use borrow.Author.Tests.{ltb-true, ltb-false, leb-true, leb-false, eqb-true, lt-ltb, le-leb, eq-eqb}
 use Rattle.nodes.specs.declared.node.Node.{Node}
-use Rattle.nodes.specs.Node.{insideb, directlyb, apartb, afterb, openb, sameb}
+use Rattle.nodes.specs.Node.{endsb, insideb, directlyb, apartb, afterb, openb, sameb}
 use Rattle.nodes.proofs.Tests.{not-so, and-read, and-make, or-read, or-left, or-right, or-none}
+
+-- the ends of nodes that end within one another; only here is the comparison known
+ends-before : (y x : Node) → endsb y x ≡ true → y .end < x .end
+unfolding endsb
+ends-before y x h = ltb-true _ _ h
+
+ends-trans : (z y x : Node) → endsb z y ≡ true → endsb y x ≡ true → endsb z x ≡ true
+unfolding endsb
+ends-trans z y x h k = let p = ends-before z y h in let q = ends-before y x k in lt-ltb (z .end) (x .end) (omega arith)
 
 -- what every layer above knows of a node inside another
 pub record Within (y x : Node) : Type 0 where
@@ -18,31 +27,28 @@ pub record Within (y x : Node) : Type 0 where
   pub start : x .start < y .start
   pub end : y .end ≤ x .end
 
+inside-ends : (y x : Node) → insideb y x ≡ true → endsb y x ≡ true
+unfolding insideb
+inside-ends y x h = and-read (ltb (x .start) (y .start)) (and-read (eqb (y .document) (x .document)) h .1) .1
+
 pub within : (y x : Node) → insideb y x ≡ true → Within y x
 unfolding insideb
 within y x h =
     let p = and-read (eqb (y .document) (x .document)) h in
     let q = and-read (ltb (x .start) (y .start)) (p .1) in
-    let s : x .start < y .start = ltb-true _ _ (q .0) in
-    let e : y .end < x .end = ltb-true _ _ (q .1) in
-    record { document = eqb-true _ _ (p .0); start = s; end = omega arith }
+    let e = ends-before y x (q .1) in
+    record { document = eqb-true _ _ (p .0); start = ltb-true _ _ (q .0); end = omega arith }
 
--- the facts that make a node inside another
-inside-make : (y x : Node) → y .document ≡ x .document → x .start < y .start → y .end < x .end → insideb y x ≡ true
+-- of a later node of x's document only the end is left to compare
+pub inside-by-end : (y x : Node) → y .document ≡ x .document → x .start < y .start → endsb y x ≡ insideb y x
 unfolding insideb
-inside-make y x d s e = rw (eq-eqb _ _ d, lt-ltb _ _ s, lt-ltb _ _ e)
-
-ends-before : (y x : Node) → insideb y x ≡ true → y .end < x .end
-unfolding insideb
-ends-before y x h = ltb-true _ _ (and-read (ltb (x .start) (y .start)) (and-read (eqb (y .document) (x .document)) h .1) .1)
+inside-by-end y x d s = rw (eq-eqb _ _ d, lt-ltb _ _ s)
 
 pub inside-trans : (z y x : Node) → insideb z y ≡ true → insideb y x ≡ true → insideb z x ≡ true
 inside-trans z y x h k =
     let p = within z y h in
     let q = within y x k in
-    let e = ends-before z y h in
-    let f = ends-before y x k in
-    inside-make z x (omega arith) (omega arith) (omega arith)
+    sym (inside-by-end z x (omega arith) (omega arith)) ∙ ends-trans z y x (inside-ends z y h) (inside-ends y x k)
 
 -- a node isn't inside itself
 pub inside-self : (x : Node) → insideb x x ≡ false

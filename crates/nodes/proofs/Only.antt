@@ -3,6 +3,7 @@
 use mathlib.Core.Path.{_≡_, sym, _∙_}
 use denote.Ref.{now}
 use Rattle.nodes.proofs.answer.name_of.Reads as name-of
+use Rattle.nodes.proofs.node.ends_within.Reads as ends-within
 use Rattle.nodes.proofs.node.is_after.Reads as is-after
 use Rattle.nodes.proofs.node.is_inside.Reads as is-inside
 use Rattle.nodes.proofs.node.is_open.Reads as is-open
@@ -14,6 +15,9 @@ use Rattle.nodes.proofs.node.put_node.Reads as put-node
 -- the one law
 pub only {ℓ} : {A : Type ℓ} {x y z : A} → x ≡ z → y ≡ z → x ≡ y
 only p q = p ∙ sym q
+
+pub ends-within-only : (κs : _) (a : _) (r r′ : _) (s s′ : _) → ends-within.Post κs a r s → ends-within.Post κs a r′ s′ → r ≡ r′
+ends-within-only κs a r r′ s s′ p q = only p q
 
 pub is-inside-only : (κs : _) (a : _) (r r′ : _) (s s′ : _) → is-inside.Post κs a r s → is-inside.Post κs a r′ s′ → r ≡ r′
 is-inside-only κs a r r′ s s′ p q = only p q

@@ -8,9 +8,13 @@ use Rattle.nodes.specs.declared.node.Node.{Node}
 abbrev pub MOST-LEVELS : ℕ
 MOST-LEVELS = 64
 
--- y is inside x
+-- y ends within x
+unfoldable pub endsb : Node → Node → Bool
+endsb y x = ltb (y .end) (x .end)
+
+-- y is inside x: of its document, x.start < y.start and y.end < x.end
 unfoldable pub insideb : Node → Node → Bool
-insideb y x = eqb (y .document) (x .document) && (ltb (x .start) (y .start) && ltb (y .end) (x .end))
+insideb y x = eqb (y .document) (x .document) && (ltb (x .start) (y .start) && endsb y x)
 
 -- y is directly inside x
 unfoldable pub directlyb : Node → Node → Bool

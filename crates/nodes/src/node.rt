@@ -1,6 +1,6 @@
 // A node of a document, how it is read out of a list of words, and how two nodes lie to one another.
 ghost use mathlib.Core.Path.{_≡_};
-ghost use Rattle.nodes.specs.Node.{insideb, afterb, openb, sameb};
+ghost use Rattle.nodes.specs.Node.{endsb, insideb, afterb, openb, sameb};
 ghost use Rattle.nodes.specs.Words.{nodeAt, putNode, count};
 
 // How many words a node takes in a list.
@@ -20,6 +20,13 @@ pub struct Node {
     pub level: u32,
 }
 
+// The caller learns whether y ends within x, as a node inside x does.
+pub fn ends_within(y: Node, x: Node) -> bool
+    ensures { λ r. ⌜ r ≡ endsb y x ⌝ }
+{
+    y.end < x.end
+}
+
 // The caller learns whether y is inside x: of its document, starting after it and ending before it.
 pub fn is_inside(y: Node, x: Node) -> bool
     ensures { λ r. ⌜ r ≡ insideb y x ⌝ }
@@ -30,7 +37,7 @@ pub fn is_inside(y: Node, x: Node) -> bool
     if y.start <= x.start {
         return false;
     }
-    y.end < x.end
+    ends_within(y, x)
 }
 
 // The caller learns whether y stands after x: in a later document, or later in the same one.

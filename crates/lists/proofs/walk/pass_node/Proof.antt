@@ -7,8 +7,9 @@ use native.Mathlib.Omega.{arith}
 use borrow.Author.Tests.{not-true, not-false}
 use denote.Ref.{now}
 use Rattle.nodes.specs.Words.{nodes}
-use Rattle.lists.specs.Walk.{firsts, Chain}
-use Rattle.lists.proofs.Steps.{chain-left, passed-low, passed-high, passed-span, passed-order, passed-rest}
+use Rattle.lists.specs.Fault.{orderb}
+use Rattle.lists.specs.Walk.{firsts, Behind, Chain}
+use Rattle.lists.proofs.Steps.{chain-left, chain-after, behind-left, passed-low, passed-high, passed-span, passed-order, passed-rest}
 use Rattle.lists.proofs.walk.pass_node.Statement.{statement}
 use Rattle.lists.proofs.walk.pass_node.Tie as tie
 
@@ -65,7 +66,15 @@ put-on-top-requires : tie.Need-put-on-top-requires
 put-on-top-requires c κs =
     let start = c .before .before .before .before .before .before .before .before .before .before .before .before in
     let left = c .before .left-open .ensures in
-    (omega arith, omega arith, omega arith, subst Chain (sym (left .1)) (chain-left (start .args .node) _ (start .pre .2)))
+    let at-next = c .before .before .before in
+    let next : orderb (firsts (start .args .place .depth) (nodes (now (start .args .stack)))) (start .args .node) ≡ false =
+    follows (at-next .before .is-next .ensures) (at-next .if4 .left) in (
+      omega arith,
+      omega arith,
+      omega arith,
+      subst Chain (sym (left .1)) (chain-left (start .args .node) _ (start .pre .2)),
+      subst (Behind (start .args .node)) (sym (left .1)) (behind-left (start .args .node) _ (chain-after (start .args .node) _ (start .pre .2) next)),
+    )
 
 returns-5 : tie.Need-returns-5
 returns-5 c =

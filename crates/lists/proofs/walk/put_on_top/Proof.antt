@@ -23,8 +23,8 @@ sub-open-at c = search needs
 open-at-requires : tie.Need-open-at-requires
 open-at-requires c κs = search needs
 
-is-inside-requires : tie.Need-is-inside-requires
-is-inside-requires c κs = search needs
+ends-within-requires : tie.Need-ends-within-requires
+ends-within-requires c κs = search needs
 
 refused-requires : tie.Need-refused-requires
 refused-requires c κs = search needs
@@ -32,8 +32,8 @@ refused-requires c κs = search needs
 returns-2 : tie.Need-returns-2
 returns-2 c =
     let a = c .before .before .before .before .before .before .before .args in
-    passed-cross (now (a .stack)) (a .left) (a .node) _ _ _ _ (omega arith) (c .before .before .before .open-at .ensures)
-    (sym (c .before .before .is-inside .ensures) ∙ not-true _ (c .before .if2 .taken)) (c .refused .ensures)
+    passed-cross (now (a .stack)) (a .left) (a .node) _ _ _ _ (omega arith) (c .before .before .before .open-at .ensures) (c .before .before .before .before .before .before .before .pre .4)
+    (sym (c .before .before .ends-within .ensures) ∙ not-true _ (c .before .if2 .taken)) (c .refused .ensures)
 
 refused-requires-2 : tie.Need-refused-requires-2
 refused-requires-2 c κs = search needs
@@ -42,8 +42,8 @@ returns-3 : tie.Need-returns-3
 returns-3 c =
     let a = c .before .before .before .before .before .before .before .before .before .before .args in
     let at-top = c .before .before .before .before in
-    passed-depth (now (a .stack)) (a .left) (a .node) _ _ _ _ (omega arith) (at-top .before .before .open-at .ensures)
-    (sym (at-top .before .is-inside .ensures) ∙ not-false _ (at-top .if2 .left)) (omega arith) (c .refused2 .ensures)
+    passed-depth (now (a .stack)) (a .left) (a .node) _ _ _ _ (omega arith) (at-top .before .before .open-at .ensures) (c .before .before .before .before .before .before .before .before .before .before .pre .4)
+    (sym (at-top .before .ends-within .ensures) ∙ not-false _ (at-top .if2 .left)) (omega arith) (c .refused2 .ensures)
 
 push-requires-2 : tie.Need-push-requires-2
 push-requires-2 c κs =
@@ -58,7 +58,7 @@ returns-4 c =
     let a = start .args in
     let at-top = c .before .before .before .before .before in
     let top = at-top .before .before .open-at .ensures in
-    passed-on (now (a .stack)) (a .left) (a .node) _ _ _ _ (omega arith) top (sym (at-top .before .is-inside .ensures) ∙ not-false _ (at-top .if2 .left)) (omega arith)
+    passed-on (now (a .stack)) (a .left) (a .node) _ _ _ _ (omega arith) top (start .pre .4) (sym (at-top .before .ends-within .ensures) ∙ not-false _ (at-top .if2 .left)) (omega arith)
     (room (a .left) (now (a .stack)) (a .node) _ (omega arith) top (start .pre .3) (omega arith) (omega arith)) (c .push2 .ensures)
 
 pub put-on-top-spec : {M : Type 1} → statement M
@@ -69,7 +69,7 @@ put-on-top-spec =
     returns
     sub-open-at
     open-at-requires
-    is-inside-requires
+    ends-within-requires
     refused-requires
     returns-2
     refused-requires-2

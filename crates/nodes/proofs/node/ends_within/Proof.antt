@@ -1,0 +1,13 @@
+-- The comparison is the definition's.
+-- An end that may be equal falls at the return.
+use mathlib.Core.Path.{refl}
+use Rattle.nodes.specs.Node.{endsb}
+use Rattle.nodes.proofs.node.ends_within.Statement.{statement}
+use Rattle.nodes.proofs.node.ends_within.Tie as tie
+
+returns : tie.Need-returns
+unfolding endsb
+returns c = refl
+
+pub ends-within-spec : {M : Type 1} → statement M
+ends-within-spec = tie.close (tie.spec returns)
