@@ -7,7 +7,7 @@ use Prim.Native.Nat.{ℕ}
 use lib.Dec.{eqb}
 use borrow.Author.Tests.{eqb-true}
 use Rattle.nodes.specs.Choose.{any}
-use Rattle.nodes.specs.Node.{insideb, apartb, afterb, openb, sameb}
+use Rattle.nodes.specs.Node.{endsb, insideb, apartb, afterb, openb, sameb}
 use Rattle.nodes.specs.Words.{nodes}
 use Rattle.lists.specs.Check.{checkFrom, checkNodes, raggedb, longb, wordFault, checkWords}
 use Rattle.lists.specs.Fault.{levelb, spanb, orderb, crossb, depthb, fault}
@@ -30,7 +30,7 @@ held (r ∷ rows) h = let p = and-read (equalb (r .found) (r .stated)) h in (equ
 
 computed : heldb figures ≡ true
 unfolding figures equalb heldb checkWords wordFault raggedb longb nodes checkNodes checkFrom fault levelb spanb orderb crossb depthb any
-    insideb afterb openb checkTwo refusedb jointb oddsb agreeb nestedb apartb sameb
+    endsb insideb afterb openb checkTwo refusedb jointb oddsb agreeb nestedb apartb sameb
 computed = refl
 
 -- each row's numbers are those that document 01 states
