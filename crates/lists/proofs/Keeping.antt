@@ -17,7 +17,7 @@ use Rattle.nodes.proofs.NodeLaws.{inside-trans, inside-open, after-trans, shut-
 use Rattle.nodes.proofs.Tests.{either, never, not-so, and-read, not-read, not-none}
 use Rattle.lists.specs.Fault.{levelb, spanb, orderb, crossb, depthb, fault}
 use Rattle.lists.specs.Walk.{unended, Upon, Chain, headFault, topFault}
-use Rattle.lists.proofs.Steps.{chain-after}
+use Rattle.lists.proofs.WalkLaws.{chain-after}
 use Rattle.lists.proofs.Faults.{skip, level-sound, span-sound, crosses, rises}
 
 -- a row s stands for the nodes before at every node that P lets come next: a test that only open nodes pass keeps the same of both

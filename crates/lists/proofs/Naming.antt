@@ -25,7 +25,7 @@ from-list before index (n ∷ ns) =
     elim (either (eqb (fault before n) TAKEN)) [ inl h ↦ rw h (from-list (n ∷ before) (suc index) ns) | inr h ↦ rw h refl ]
 
 -- the check of one list names the ancestors
-pub words-list : (ws : List ℕ) → checkWords ws .list ≡ ANCESTORS
+words-list : (ws : List ℕ) → checkWords ws .list ≡ ANCESTORS
 unfolding checkWords checkNodes
 words-list ws = elim (either (eqb (wordFault ws) TAKEN)) [ inl h ↦ rw h (from-list [] 0 (nodes ws)) | inr h ↦ rw h refl ]
 

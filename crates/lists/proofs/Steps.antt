@@ -1,58 +1,24 @@
 -- Each return of a step is one case of `topFault` or `headFault`, reached by the tests that went before it.
 -- A test left out, or tried in another order than document 01's, falls at the case that it changes.
 use mathlib.Core.Path.{_≡_, refl, sym, ap, subst, _∙_}
-use mathlib.Core.Logic.{inl, inr}
-use mathlib.Core.Bool.{true, false, not}
-use mathlib.Core.List.{List, [], _∷_}
+use mathlib.Core.Bool.{true, false}
+use mathlib.Core.List.{List, _∷_}
 use Prim.Native.Nat.{ℕ, suc, _+_, _-_, _≤_, _<_}
 use native.Mathlib.Omega.{arith}
 use lib.ListN.{length}
 use borrow.Author.Tests.{eq-eqb, ne-eqb, lt-ltb, le-ltb}
 use Rattle.nodes.specs.declared.node.Node.{Node}
 use Rattle.nodes.specs.Answer.{TAKEN, LEVEL, SPAN, ORDER, CROSS, DEPTH}
-use Rattle.nodes.specs.Node.{endsb, insideb, afterb, openb, MOST-LEVELS}
+use Rattle.nodes.specs.Node.{endsb, insideb, MOST-LEVELS}
 use Rattle.nodes.specs.Words.{nodes, nodeAt}
-use Rattle.nodes.proofs.Choices.{All}
-use Rattle.nodes.proofs.NodeLaws.{inside-by-end, inside-after, after-starts, after-trans, open-read}
-use Rattle.nodes.proofs.Tests.{either, not-none}
+use Rattle.nodes.proofs.NodeLaws.{inside-by-end}
 use Rattle.lists.specs.declared.walk.Step.{Step}
 use Rattle.lists.specs.declared.walk.Step.the-variants.{Reached, Refused}
 use Rattle.lists.specs.Fault.{levelb, spanb, orderb}
 use Rattle.lists.specs.Verdict.{ANCESTORS, verdict}
 use Rattle.lists.specs.Walk.{place, firsts, unended, Behind, Chain, headFault, topFault, Passed}
 use Rattle.lists.proofs.Faults.{Sound, level-sound, span-sound}
-use Rattle.lists.proofs.WalkLaws.{head-at, length-firsts}
-
--- a row is at most as long as its head is deep
-pub chain-length : (e : Node) (es : List Node) → Chain (e ∷ es) → length (e ∷ es) ≤ e .level
-chain-length e [] h = h .0
-chain-length e (f ∷ es) h = let p = chain-length f es (h .2) in let q = h .1 .1 in omega arith
-
--- what is left of a row is a row
-pub chain-left : (n : Node) (es : List Node) → Chain es → Chain (unended n es)
-unfolding unended
-chain-left n [] h = tt
-chain-left n (e ∷ es) h = elim (either (openb n e)) [ inl o ↦ rw o h | inr o ↦ rw o (chain-left n es (h .2)) ]
-
--- every node of a row stands before the node that comes next
-pub chain-after : (n : Node) (s : List Node) → Chain s → orderb s n ≡ false → All (λ e. afterb n e ≡ true) s
-unfolding orderb
-chain-after n [] ch o = tt
-chain-after n (e ∷ []) ch o = (not-none _ o, tt)
-chain-after n (e ∷ f ∷ s) ch o =
-    let a : afterb n e ≡ true = not-none _ o in
-    let b : afterb n f ≡ true = after-trans n e f a (inside-after e f (ch .1 .0)) in
-    (a, chain-after n (f ∷ s) (ch .2) (ap not b))
-
--- of those left, the head is of n's document and before it
-pub behind-left : (n : Node) (s : List Node) → All (λ e. afterb n e ≡ true) s → Behind n (unended n s)
-unfolding unended
-behind-left n [] a = tt
-behind-left n (e ∷ s) a =
-    elim (either (openb n e)) [
-      | inl o ↦ rw o (let d = open-read n e o .document in (sym d, after-starts n e (a .0) d))
-      | inr o ↦ rw o (behind-left n s (a .1))
-    ]
+use Rattle.lists.proofs.WalkLaws.{head-at, length-firsts, chain-length}
 
 -- a node that is deeper than the head of a row is at most as deep as the deepest level, so the row has room for it
 pub room : (k : ℕ) (ws : List ℕ) (n e : Node) → 0 < k → e ≡ nodeAt ws (k - 1) → Chain (firsts k (nodes ws)) → e .level < n .level

@@ -1,8 +1,9 @@
 -- The first nodes of a list, the last one first, gain and lose their head with the count, so popping and pushing are the count's steps.
 -- A node read or written one place off falls here.
-use mathlib.Core.Path.{_≡_, refl, ap, _∙_}
-use mathlib.Core.Bool.{true, false}
-use mathlib.Core.List.{List, _∷_}
+use mathlib.Core.Path.{_≡_, refl, sym, ap, _∙_}
+use mathlib.Core.Bool.{true, false, not}
+use mathlib.Core.Logic.{inl, inr}
+use mathlib.Core.List.{List, [], _∷_}
 use Prim.Native.Nat.{ℕ, zero, suc, _+_, _-_, _≤_, _<_}
 use native.Mathlib.Nat.{not-suc-le-zero}
 use native.Mathlib.Numerals.{sub-one, add-one}
@@ -10,9 +11,13 @@ use native.Mathlib.Omega.{arith}
 use lib.ListN.{length, getD, set}
 use lib.Seq.{getD-set-same, getD-set-other}
 use Rattle.nodes.specs.declared.node.Node.{Node}
-use Rattle.nodes.specs.Node.{openb}
+use Rattle.nodes.specs.Node.{afterb, openb}
 use Rattle.nodes.specs.Words.{node, nodes, nodeAt}
-use Rattle.lists.specs.Walk.{firsts, unended}
+use Rattle.nodes.proofs.Choices.{All}
+use Rattle.nodes.proofs.NodeLaws.{inside-after, after-starts, after-trans, open-read}
+use Rattle.nodes.proofs.Tests.{either, not-none}
+use Rattle.lists.specs.Fault.{orderb}
+use Rattle.lists.specs.Walk.{firsts, unended, Behind, Chain}
 
 -- the head of the first k nodes is the one before index k
 pub head-at : (k : ℕ) (ws : List ℕ) → 0 < k → firsts k (nodes ws) ≡ nodeAt ws (k - 1) ∷ firsts (k - 1) (nodes ws)
@@ -56,3 +61,34 @@ pub head-none : (k : ℕ) (ws : List ℕ) (n : Node) → k ≤ 0 → firsts k (n
 unfolding firsts unended
 head-none zero ws n h = refl
 head-none (suc k) ws n h = absurd (not-suc-le-zero h)
+
+-- a row is at most as long as its head is deep
+pub chain-length : (e : Node) (es : List Node) → Chain (e ∷ es) → length (e ∷ es) ≤ e .level
+chain-length e [] h = h .0
+chain-length e (f ∷ es) h = let p = chain-length f es (h .2) in let q = h .1 .1 in omega arith
+
+-- what is left of a row is a row
+pub chain-left : (n : Node) (es : List Node) → Chain es → Chain (unended n es)
+unfolding unended
+chain-left n [] h = tt
+chain-left n (e ∷ es) h = elim (either (openb n e)) [ inl o ↦ rw o h | inr o ↦ rw o (chain-left n es (h .2)) ]
+
+-- every node of a row stands before the node that comes next
+pub chain-after : (n : Node) (s : List Node) → Chain s → orderb s n ≡ false → All (λ e. afterb n e ≡ true) s
+unfolding orderb
+chain-after n [] ch o = tt
+chain-after n (e ∷ []) ch o = (not-none _ o, tt)
+chain-after n (e ∷ f ∷ s) ch o =
+    let a : afterb n e ≡ true = not-none _ o in
+    let b : afterb n f ≡ true = after-trans n e f a (inside-after e f (ch .1 .0)) in
+    (a, chain-after n (f ∷ s) (ch .2) (ap not b))
+
+-- of those left, the head is of n's document and before it
+pub behind-left : (n : Node) (s : List Node) → All (λ e. afterb n e ≡ true) s → Behind n (unended n s)
+unfolding unended
+behind-left n [] a = tt
+behind-left n (e ∷ s) a =
+    elim (either (openb n e)) [
+      | inl o ↦ rw o (let d = open-read n e o .document in (sym d, after-starts n e (a .0) d))
+      | inr o ↦ rw o (behind-left n s (a .1))
+    ]

@@ -1,4 +1,5 @@
 -- The loop passes the list's nodes one by one, so it ends; putting a node keeps the list's length, which the lender of the words relies on.
+-- A loop that didn't move on, or words handed back with another length, would fall here.
 use Prim.Native.Nat.{_-_}
 use mathlib.Core.Path.{_≡_}
 use lib.ListN.{length}

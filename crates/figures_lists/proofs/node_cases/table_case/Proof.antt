@@ -1,4 +1,5 @@
 -- The number grows to the number of rows, and so the loop ends.
+-- A number that stayed would fall at the measure.
 use borrow.Author.Needs.{needs}
 use Prim.Native.Nat.{_-_}
 use Rattle.figures_lists.proofs.node_cases.table_case.Statement.{statement}

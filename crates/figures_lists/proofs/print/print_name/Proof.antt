@@ -1,4 +1,5 @@
 -- The loop stays within the eight bytes of a name.
+-- A ninth byte read would fall at the index.
 use Prim.Native.Nat.{_-_, _≤_}
 use borrow.Author.Needs.{needs}
 use Rattle.figures_lists.proofs.print.print_name.Statement.{statement}

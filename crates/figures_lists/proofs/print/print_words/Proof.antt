@@ -1,4 +1,5 @@
 -- The loop reads within the words and ends with them; each word fits the number that is printed.
+-- A word read behind the last would fall at the index.
 use Prim.Native.Nat.{_-_}
 use native.Mathlib.Omega.{arith}
 use lib.ListN.{length}

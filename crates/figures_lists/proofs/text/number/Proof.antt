@@ -1,4 +1,5 @@
 -- The value stays below 4,294,967,296 after each digit, so that the next step does not wrap and the result fits; the loop ends with the digits.
+-- A digit too many that made the value wrap would fall at the product.
 use Prim.Native.Nat.{_<_, _-_}
 use lib.ListN.{length}
 use borrow.Author.Needs.{needs}

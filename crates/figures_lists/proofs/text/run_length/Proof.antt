@@ -1,4 +1,5 @@
 -- The index stays within the text, and grows to its length, and so the loop ends.
+-- A byte read behind the last, or an index above the length handed back, would fall here.
 use Prim.Native.Nat.{_≤_, _-_}
 use lib.ListN.{length}
 use borrow.Author.Needs.{needs}

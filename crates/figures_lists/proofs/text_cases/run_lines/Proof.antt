@@ -1,4 +1,5 @@
 -- A line starts and ends within the text, and the next one starts behind it, so the loop ends with the text.
+-- A line that reached behind the text, or one run twice for ever, would fall here.
 use Prim.Native.Nat.{_-_}
 use lib.ListN.{length}
 use borrow.Author.Needs.{needs}

@@ -9,7 +9,8 @@ use denote.Ref.{now}
 use Rattle.nodes.specs.Words.{nodes}
 use Rattle.lists.specs.Fault.{orderb}
 use Rattle.lists.specs.Walk.{firsts, Behind, Chain}
-use Rattle.lists.proofs.Steps.{chain-left, chain-after, behind-left, passed-low, passed-high, passed-span, passed-order, passed-rest}
+use Rattle.lists.proofs.WalkLaws.{chain-left, chain-after, behind-left}
+use Rattle.lists.proofs.Steps.{passed-low, passed-high, passed-span, passed-order, passed-rest}
 use Rattle.lists.proofs.walk.pass_node.Statement.{statement}
 use Rattle.lists.proofs.walk.pass_node.Tie as tie
 
