@@ -1,4 +1,4 @@
--- Whether some or all elements of a list pass a test, and those that do.
+-- Whether some element of a list passes a test, and the elements that do.
 use mathlib.Core.Bool.{Bool, false, cond, _||_}
 use mathlib.Core.List.{List, [], _∷_}
 
