@@ -13,23 +13,24 @@ use Rattle.nodes.proofs.WordLaws.{length-nodes, nodes-from, nodes-behind}
 use Rattle.lists.specs.Merge.{merge, Drawn}
 use Rattle.lists.proofs.MergeSteps.{merge-nil, merge-left, merge-both, merge-right}
 
+-- the merge goes on within both lists
+draw : (xs ys : List ℕ) {i j : ℕ} {n : Node} (first second : ℕ)
+    → merge (drop i (nodes xs)) (drop j (nodes ys)) ≡ n ∷ merge (drop first (nodes xs)) (drop second (nodes ys))
+    → i + j < first + second → first ≤ count xs → second ≤ count ys → Drawn (nodes xs) (nodes ys) i j n first second
+draw xs ys first second next on f s = record { next = next; on = on; first-in = rw (length-nodes xs) f; second-in = rw (length-nodes ys) s }
+
 module _ (xs ys : List ℕ) (i j : ℕ) (iₙ : i ≤ count xs) (jₙ : j ≤ count ys) where
   pub only-first : i < count xs → count ys ≤ j → (n : Node) → n ≡ nodeAt xs i → Drawn (nodes xs) (nodes ys) i j n (i + 1) j
-  only-first h k n q = record {
-    next = rw (nodes-behind ys j k, merge-nil (drop i (nodes xs)), merge-nil (drop (i + 1) (nodes xs)), q) (nodes-from xs i h);
-    on = omega arith;
-    first-in = omega (arith, length-nodes xs);
-    second-in = omega (arith, length-nodes ys);
-  }
+  only-first h k n q =
+      draw xs ys (i + 1) j
+      (rw (nodes-behind ys j k, merge-nil (drop i (nodes xs)), merge-nil (drop (i + 1) (nodes xs)), q) (nodes-from xs i h))
+      (omega arith) (omega arith) (omega arith)
 
   pub only-second : j < count ys → count xs ≤ i → (n : Node) → n ≡ nodeAt ys j → Drawn (nodes xs) (nodes ys) i j n i (j + 1)
   unfolding merge
-  only-second h k n q = record {
-    next = rw (nodes-behind xs i k, q) (nodes-from ys j h);
-    on = omega arith;
-    first-in = omega (arith, length-nodes xs);
-    second-in = omega (arith, length-nodes ys);
-  }
+  only-second h k n q =
+      draw xs ys i (j + 1) (rw (nodes-behind xs i k, q) (nodes-from ys j h))
+      (omega arith) (omega arith) (omega arith)
 
 -- both lists have a head, and n is the one that is taken
 module _ (xs ys : List ℕ) (i j : ℕ) (h : i < count xs) (k : j < count ys) (n : Node) where
@@ -38,29 +39,20 @@ module _ (xs ys : List ℕ) (i j : ℕ) (h : i < count xs) (k : j < count ys) (n
   heads = rw (nodes-from xs i h, nodes-from ys j k) refl
 
   pub take-first : n ≡ nodeAt xs i → afterb (nodeAt ys j) (nodeAt xs i) ≡ true → Drawn (nodes xs) (nodes ys) i j n (i + 1) j
-  take-first q t = record {
-    next = heads ∙ merge-left (nodeAt xs i) (nodeAt ys j) _ _ t ∙ rw (nodes-from ys j k, q) refl;
-    on = omega arith;
-    first-in = omega (arith, length-nodes xs);
-    second-in = omega (arith, length-nodes ys);
-  }
+  take-first q t =
+      draw xs ys (i + 1) j (heads ∙ merge-left (nodeAt xs i) (nodeAt ys j) _ _ t ∙ rw (nodes-from ys j k, q) refl)
+      (omega arith) (omega arith) (omega arith)
 
   module _ (t : afterb (nodeAt ys j) (nodeAt xs i) ≡ false) where
     pub take-both : n ≡ nodeAt xs i → sameb (nodeAt xs i) (nodeAt ys j) ≡ true → Drawn (nodes xs) (nodes ys) i j n (i + 1) (j + 1)
-    take-both q u = record {
-      next = heads ∙ merge-both (nodeAt xs i) (nodeAt ys j) _ _ t u ∙ rw q refl;
-      on = omega arith;
-      first-in = omega (arith, length-nodes xs);
-      second-in = omega (arith, length-nodes ys);
-    }
+    take-both q u =
+        draw xs ys (i + 1) (j + 1) (heads ∙ merge-both (nodeAt xs i) (nodeAt ys j) _ _ t u ∙ rw q refl)
+        (omega arith) (omega arith) (omega arith)
 
     pub take-second : n ≡ nodeAt ys j → sameb (nodeAt xs i) (nodeAt ys j) ≡ false → Drawn (nodes xs) (nodes ys) i j n i (j + 1)
-    take-second q u = record {
-      next = heads ∙ merge-right (nodeAt xs i) (nodeAt ys j) _ _ t u ∙ rw (nodes-from xs i h, q) refl;
-      on = omega arith;
-      first-in = omega (arith, length-nodes xs);
-      second-in = omega (arith, length-nodes ys);
-    }
+    take-second q u =
+        draw xs ys i (j + 1) (heads ∙ merge-right (nodeAt xs i) (nodeAt ys j) _ _ t u ∙ rw (nodes-from xs i h, q) refl)
+        (omega arith) (omega arith) (omega arith)
 
 -- at the end of both lists nothing is left of the merge
 pub none-left : (xs ys : List ℕ) (i j : ℕ) → count xs ≤ i → count ys ≤ j → merge (drop i (nodes xs)) (drop j (nodes ys)) ≡ []

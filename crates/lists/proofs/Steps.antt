@@ -16,7 +16,7 @@ use Rattle.lists.specs.declared.walk.Step.{Step}
 use Rattle.lists.specs.declared.walk.Step.the-variants.{Reached, Refused}
 use Rattle.lists.specs.Fault.{levelb, spanb, orderb}
 use Rattle.lists.specs.Verdict.{ANCESTORS, verdict}
-use Rattle.lists.specs.Walk.{place, firsts, unended, Behind, Chain, headFault, topFault, Passed}
+use Rattle.lists.specs.Walk.{place, firsts, unended, Behind, Chain, headFault, topFault, Passed, SteppedPast, SteppedOnto}
 use Rattle.lists.proofs.Faults.{Sound, level-sound, span-sound}
 use Rattle.lists.proofs.WalkLaws.{head-at, length-firsts, chain-length}
 
@@ -43,41 +43,35 @@ module _ (wrong : ℕ) (left : List Node) (n : Node) (i : ℕ) (ws : List ℕ) (
 
 -- the returns of `pass_node`, which knows the row s that was open at the node before
 module _ (s : List Node) (n : Node) (i : ℕ) (ws : List ℕ) (r : Step) where
-  abbrev Step-past : Type 0
-  Step-past = Passed (topFault s n) (unended n s) n i r ws
-
-  pub passed-low : n .level ≡ 0 → r ≡ Refused (verdict LEVEL ANCESTORS i) → Step-past
+  pub passed-low : n .level ≡ 0 → r ≡ Refused (verdict LEVEL ANCESTORS i) → SteppedPast s n i r ws
   unfolding levelb topFault
   passed-low h e = refuse (topFault s n) (unended n s) n i ws r 2 (rw (eq-eqb _ _ h) refl) e
 
-  pub passed-high : 1 ≤ n .level → MOST-LEVELS < n .level → r ≡ Refused (verdict LEVEL ANCESTORS i) → Step-past
+  pub passed-high : 1 ≤ n .level → MOST-LEVELS < n .level → r ≡ Refused (verdict LEVEL ANCESTORS i) → SteppedPast s n i r ws
   unfolding levelb topFault
   passed-high l h e = refuse (topFault s n) (unended n s) n i ws r 2 (rw (ne-eqb (n .level) 0 (omega arith), lt-ltb MOST-LEVELS (n .level) h) refl) e
 
-  pub passed-span : 1 ≤ n .level → n .level ≤ MOST-LEVELS → n .end < n .start → r ≡ Refused (verdict SPAN ANCESTORS i) → Step-past
+  pub passed-span : 1 ≤ n .level → n .level ≤ MOST-LEVELS → n .end < n .start → r ≡ Refused (verdict SPAN ANCESTORS i) → SteppedPast s n i r ws
   unfolding spanb topFault
   passed-span l h d e = refuse (topFault s n) (unended n s) n i ws r 3 (rw (level-sound n .1 (l, h), lt-ltb (n .end) (n .start) d) refl) e
 
   module _ (g : Sound n) where
-    pub passed-order : orderb s n ≡ true → r ≡ Refused (verdict ORDER ANCESTORS i) → Step-past
+    pub passed-order : orderb s n ≡ true → r ≡ Refused (verdict ORDER ANCESTORS i) → SteppedPast s n i r ws
     unfolding topFault
     passed-order o e =
         refuse (topFault s n) (unended n s) n i ws r 4 (rw (level-sound n .1 (g .lowest, g .highest), span-sound n .1 (g .span), o) refl) e
 
     -- nothing is wrong so far, and the rest is what the head of those left tells
-    pub passed-rest : orderb s n ≡ false → (left : List Node) → left ≡ unended n s → Passed (headFault left n) left n i r ws → Step-past
+    pub passed-rest : orderb s n ≡ false → (left : List Node) → left ≡ unended n s → SteppedOnto left n i r ws → SteppedPast s n i r ws
     unfolding topFault
     passed-rest o left q h = rw (level-sound n .1 (g .lowest, g .highest), span-sound n .1 (g .span), o, ← q) h
 
 -- the returns of `put_on_top`, which knows the k nodes that are left in the words of a stack
 module _ (st : List ℕ) (k : ℕ) (n : Node) (i : ℕ) (ws : List ℕ) (r : Step) where
-  abbrev Step-upon : Type 0
-  Step-upon = Passed (headFault (firsts k (nodes st)) n) (firsts k (nodes st)) n i r ws
-
   abbrev Pushed : Type 0
   Pushed = (r ≡ Reached (place (i + 1) (k + 1))) × (firsts (k + 1) (nodes ws) ≡ n ∷ firsts k (nodes st))
 
-  pub passed-alone : k ≡ 0 → Pushed → Step-upon
+  pub passed-alone : k ≡ 0 → Pushed → SteppedOnto (firsts k (nodes st)) n i r ws
   unfolding firsts headFault
   passed-alone z p = reach (headFault (firsts k (nodes st)) n) (firsts k (nodes st)) n i ws r k (rw z refl) (omega arith) (p .0) (p .1)
 
@@ -90,17 +84,17 @@ module _ (st : List ℕ) (k : ℕ) (n : Node) (i : ℕ) (ws : List ℕ) (r : Ste
     head : headFault (firsts k (nodes st)) n ≡ headFault (e ∷ firsts (k - 1) (nodes st)) n
     head = rw (head-at k st some, top) refl
 
-    pub passed-cross : endsb n e ≡ false → r ≡ Refused (verdict CROSS ANCESTORS i) → Step-upon
+    pub passed-cross : endsb n e ≡ false → r ≡ Refused (verdict CROSS ANCESTORS i) → SteppedOnto (firsts k (nodes st)) n i r ws
     unfolding headFault
     passed-cross h q = refuse (headFault (firsts k (nodes st)) n) (firsts k (nodes st)) n i ws r 5 (head ∙ rw (sym by-end ∙ h) refl) q
 
     module _ (h : endsb n e ≡ true) where
-      pub passed-depth : n .level ≤ e .level → r ≡ Refused (verdict DEPTH ANCESTORS i) → Step-upon
+      pub passed-depth : n .level ≤ e .level → r ≡ Refused (verdict DEPTH ANCESTORS i) → SteppedOnto (firsts k (nodes st)) n i r ws
       unfolding headFault
       passed-depth l q =
           refuse (headFault (firsts k (nodes st)) n) (firsts k (nodes st)) n i ws r 6 (head ∙ rw (sym by-end ∙ h, le-ltb (e .level) (n .level) l) refl) q
 
-      pub passed-on : e .level < n .level → k < MOST-LEVELS → Pushed → Step-upon
+      pub passed-on : e .level < n .level → k < MOST-LEVELS → Pushed → SteppedOnto (firsts k (nodes st)) n i r ws
       unfolding headFault
       passed-on l m p =
           reach (headFault (firsts k (nodes st)) n) (firsts k (nodes st)) n i ws r k (head ∙ rw (sym by-end ∙ h, lt-ltb (e .level) (n .level) l) refl) m

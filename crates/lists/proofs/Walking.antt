@@ -16,7 +16,7 @@ use Rattle.lists.specs.declared.walk.Step.the-variants.{Reached, Refused
 use Rattle.lists.specs.Check.{checkFrom, checkNodes}
 use Rattle.lists.specs.Fault.{fault}
 use Rattle.lists.specs.Verdict.{ANCESTORS, verdict, taken, verdictOf}
-use Rattle.lists.specs.Walk.{firsts, unended, topFault, Passed}
+use Rattle.lists.specs.Walk.{firsts, SteppedPast}
 use Rattle.lists.proofs.Keeping.{Kept, kept-none, kept-next, fault-told}
 
 -- a walk with the row s, at an index, with the rest of the nodes before it, where the check of all nodes says whole
@@ -40,7 +40,7 @@ walk-end w = w .same
 
 module _ {s : List Node} {n : Node} {index : ℕ} {rest : List Node} {whole : Verdict} (w : Walk s index (n ∷ rest) whole) where
   -- the check of the rest goes past a node at which nothing is wrong
-  passed-on : (words : List ℕ) (p : Place) → Passed (topFault s n) (unended n s) n index (Reached p) words → Walk (firsts (p .depth) (nodes words)) (p .index) rest whole
+  passed-on : (words : List ℕ) (p : Place) → SteppedPast s n index (Reached p) words → Walk (firsts (p .depth) (nodes words)) (p .index) rest whole
   unfolding checkFrom
   passed-on words p h =
       let f : fault (w .before) n ≡ TAKEN = fault-told (w .before) s n (w .kept) ∙ h .0 in
@@ -52,16 +52,16 @@ module _ {s : List Node} {n : Node} {index : ℕ} {rest : List Node} {whole : Ve
       })
 
   -- and ends at the first node at which something is
-  stopped : (words : List ℕ) (v : Verdict) → Passed (topFault s n) (unended n s) n index (Refused v) words → v ≡ whole
+  stopped : (words : List ℕ) (v : Verdict) → SteppedPast s n index (Refused v) words → v ≡ whole
   unfolding checkFrom
   stopped words v h =
       let q = fault-told (w .before) s n (w .kept) in
       h .1 ∙ ap (λ (f : ℕ). verdict f ANCESTORS index) (sym q) ∙ (rw (ne-eqb _ _ (λ z. h .0 (sym q ∙ z))) at (w .same))
 
   -- what a step's answer says of the walk
-  module _ (words : List ℕ) (r : Step) (h : Passed (topFault s n) (unended n s) n index r words) where
+  module _ (words : List ℕ) (r : Step) (h : SteppedPast s n index r words) where
     pub walk-on : (p : Place) → r ≡ Reached p → (p .index ≡ index + 1) × (p .depth ≤ MOST-LEVELS) × Walk (firsts (p .depth) (nodes words)) (p .index) rest whole
-    walk-on p e = let g = subst (λ (step : Step). Passed (topFault s n) (unended n s) n index step words) e h in (g .1, g .2, passed-on words p g)
+    walk-on p e = let g = subst (λ (step : Step). SteppedPast s n index step words) e h in (g .1, g .2, passed-on words p g)
 
     pub walk-stop : (v : Verdict) → r ≡ Refused v → verdictOf r ≡ whole
-    walk-stop v e = ap verdictOf e ∙ stopped words v (subst (λ (step : Step). Passed (topFault s n) (unended n s) n index step words) e h)
+    walk-stop v e = ap verdictOf e ∙ stopped words v (subst (λ (step : Step). SteppedPast s n index step words) e h)

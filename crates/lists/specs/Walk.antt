@@ -57,3 +57,11 @@ abbrev pub Passed : ℕ → List Node → Node → ℕ → Step → List ℕ →
 Passed wrong left n index (Reached reached) words =
     (wrong ≡ TAKEN) × (reached .index ≡ index + 1) × (reached .depth ≤ MOST-LEVELS) × (firsts (reached .depth) (nodes words) ≡ n ∷ left)
 Passed wrong left n index (Refused refusal) words = (wrong ≡ TAKEN → ⊥) × (refusal ≡ verdict wrong ANCESTORS index)
+
+-- a step past n from the row that was open at the node before
+abbrev pub SteppedPast : List Node → Node → ℕ → Step → List ℕ → Type 0
+SteppedPast opened n index step words = Passed (topFault opened n) (unended n opened) n index step words
+
+-- a step that puts n onto the nodes that are left
+abbrev pub SteppedOnto : List Node → Node → ℕ → Step → List ℕ → Type 0
+SteppedOnto left n index step words = Passed (headFault left n) left n index step words

@@ -23,7 +23,7 @@ ghost use Rattle.nodes.specs.Node.{MOST-LEVELS};
 ghost use Rattle.nodes.specs.Words.{nodes, count, nodeAt, putNode, MOST-NODES};
 ghost use Rattle.lists.specs.Fault.{orderb};
 ghost use Rattle.lists.specs.Verdict.{ANCESTORS, verdict, verdictOf};
-ghost use Rattle.lists.specs.Walk.{firsts, unended, place, Behind, Chain, headFault, topFault, Passed};
+ghost use Rattle.lists.specs.Walk.{firsts, unended, place, Behind, Chain, SteppedPast, SteppedOnto};
 
 // The stack's words.
 pub(crate) const STACK_WORDS: usize = NODE_WORDS * MOST_LEVELS;
@@ -132,8 +132,7 @@ fn push(stack: &mut [u32; STACK_WORDS], index: usize, left: usize, node: Node) -
 fn put_on_top(stack: &mut [u32; STACK_WORDS], index: usize, left: usize, node: Node) -> Step
     requires { ⌜ (index < 2 * MOST-NODES) × (left ≤ MOST-LEVELS) × (node .level ≤ MOST-LEVELS)
         × Chain (firsts left (nodes (now stack))) × Behind node (firsts left (nodes (now stack))) ⌝ }
-    ensures { λ r. ⌜ (let row = firsts left (nodes (now (stack .entry))) in
-        Passed (headFault row node) row node index r (now (stack .exit))) ⌝ }
+    ensures { λ r. ⌜ SteppedOnto (firsts left (nodes (now (stack .entry)))) node index r (now (stack .exit)) ⌝ }
 {
     if left == 0 {
         return push(stack, index, left, node);
@@ -151,8 +150,7 @@ fn put_on_top(stack: &mut [u32; STACK_WORDS], index: usize, left: usize, node: N
 // One step: the next node is taken and comes to lie on top of the stack, or it is refused.
 pub(crate) fn pass_node(stack: &mut [u32; STACK_WORDS], place: Place, node: Node) -> Step
     requires { ⌜ (place .index < 2 * MOST-NODES) × (place .depth ≤ MOST-LEVELS) × Chain (firsts (place .depth) (nodes (now stack))) ⌝ }
-    ensures { λ r. ⌜ (let row = firsts (place .depth) (nodes (now (stack .entry))) in
-        Passed (topFault row node) (unended node row) node (place .index) r (now (stack .exit))) ⌝ }
+    ensures { λ r. ⌜ SteppedPast (firsts (place .depth) (nodes (now (stack .entry)))) node (place .index) r (now (stack .exit)) ⌝ }
 {
     let index = place.index;
     if node.level == 0 {

@@ -7,6 +7,7 @@ use mathlib.Core.List.{List, [], _∷_, map}
 use lib.Dec.{ltb}
 use lib.ListN.{getD}
 
+-- the number of each answer
 abbrev pub TAKEN : ℕ
 TAKEN = 0
 
@@ -58,6 +59,7 @@ CONTENTS = 15
 abbrev pub ABSENT : ℕ
 ABSENT = 16
 
+-- the names, in the order of their numbers
 unfoldable pub names : List String
 names =
     "TAKEN" ∷ "RAGGED" ∷ "LONG" ∷ "LEVEL" ∷ "SPAN" ∷ "ORDER" ∷ "CROSS" ∷ "DEPTH" ∷ "JOINT" ∷ "ROOM" ∷ "MARK" ∷ "STRAY" ∷ "DEEP"

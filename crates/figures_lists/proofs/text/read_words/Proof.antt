@@ -1,4 +1,5 @@
--- The place stays within the text, since a run of bytes from it on ends there. Each turn stores one word more, so the loop ends with the words, whose length stays.
+-- The place stays within the text, since a run of bytes from it on ends there, and each turn stores one word more, so the loop ends with the
+-- words. A byte read behind the text, or a word stored behind the words, would fall here.
 use Prim.Native.Nat.{_≤_, _-_}
 use mathlib.Core.Path.{_≡_}
 use lib.ListN.{length}

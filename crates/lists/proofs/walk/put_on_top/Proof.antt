@@ -31,8 +31,10 @@ refused-requires c κs = search needs
 
 returns-2 : tie.Need-returns-2
 returns-2 c =
-    let a = c .before .before .before .before .before .before .before .args in
-    passed-cross (now (a .stack)) (a .left) (a .node) _ _ _ _ (omega arith) (c .before .before .before .open-at .ensures) (c .before .before .before .before .before .before .before .pre .4)
+    let start = c .before .before .before .before .before .before .before in
+    let a = start .args in
+    let top = c .before .before .before .open-at .ensures in
+    passed-cross (now (a .stack)) (a .left) (a .node) _ _ _ _ (omega arith) top (start .pre .4)
     (sym (c .before .before .ends-within .ensures) ∙ not-true _ (c .before .if2 .taken)) (c .refused .ensures)
 
 refused-requires-2 : tie.Need-refused-requires-2
@@ -40,9 +42,11 @@ refused-requires-2 c κs = search needs
 
 returns-3 : tie.Need-returns-3
 returns-3 c =
-    let a = c .before .before .before .before .before .before .before .before .before .before .args in
+    let start = c .before .before .before .before .before .before .before .before .before .before in
+    let a = start .args in
     let at-top = c .before .before .before .before in
-    passed-depth (now (a .stack)) (a .left) (a .node) _ _ _ _ (omega arith) (at-top .before .before .open-at .ensures) (c .before .before .before .before .before .before .before .before .before .before .pre .4)
+    let top = at-top .before .before .open-at .ensures in
+    passed-depth (now (a .stack)) (a .left) (a .node) _ _ _ _ (omega arith) top (start .pre .4)
     (sym (at-top .before .ends-within .ensures) ∙ not-false _ (at-top .if2 .left)) (omega arith) (c .refused2 .ensures)
 
 push-requires-2 : tie.Need-push-requires-2
@@ -58,7 +62,8 @@ returns-4 c =
     let a = start .args in
     let at-top = c .before .before .before .before .before in
     let top = at-top .before .before .open-at .ensures in
-    passed-on (now (a .stack)) (a .left) (a .node) _ _ _ _ (omega arith) top (start .pre .4) (sym (at-top .before .ends-within .ensures) ∙ not-false _ (at-top .if2 .left)) (omega arith)
+    passed-on (now (a .stack)) (a .left) (a .node) _ _ _ _ (omega arith) top (start .pre .4)
+    (sym (at-top .before .ends-within .ensures) ∙ not-false _ (at-top .if2 .left)) (omega arith)
     (room (a .left) (now (a .stack)) (a .node) _ (omega arith) top (start .pre .3) (omega arith) (omega arith)) (c .push2 .ensures)
 
 pub put-on-top-spec : {M : Type 1} → statement M
