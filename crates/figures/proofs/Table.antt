@@ -6,13 +6,12 @@ use mathlib.Core.List.{List, [], _∷_}
 use Prim.Native.Nat.{ℕ}
 use lib.Dec.{eqb}
 use borrow.Author.Tests.{eqb-true}
-use Rattle.nodes.specs.Choose.{any}
+use Rattle.nodes.specs.Choose.{All, any}
 use Rattle.nodes.specs.Node.{endsb, insideb, apartb, afterb, openb, sameb}
 use Rattle.nodes.specs.Words.{nodes}
 use Rattle.lists.specs.Check.{checkFrom, checkNodes, raggedb, longb, wordFault, checkWords}
 use Rattle.lists.specs.Fault.{levelb, spanb, orderb, crossb, depthb, fault}
 use Rattle.lists.specs.Two.{nestedb, agreeb, oddsb, jointb, refusedb, checkTwo}
-use Rattle.nodes.proofs.Choices.{All}
 use Rattle.nodes.proofs.Tests.{never, and-read}
 use Rattle.figures.specs.Figures.{Row, figures, equalb, heldb}
 

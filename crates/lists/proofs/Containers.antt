@@ -9,14 +9,14 @@ use native.Mathlib.Omega.{arith}
 use lib.ListN.{length}
 use Rattle.nodes.specs.declared.node.Node.{Node}
 use Rattle.nodes.specs.Answer.{TAKEN}
-use Rattle.nodes.specs.Choose.{keep}
+use Rattle.nodes.specs.Choose.{All, Pairs, keep}
 use Rattle.nodes.specs.Node.{insideb, MOST-LEVELS}
-use Rattle.nodes.proofs.Choices.{All, all-map, all-both}
+use Rattle.nodes.proofs.Choices.{all-map, all-both}
 use Rattle.nodes.proofs.Tests.{either, never}
 use Rattle.nodes.proofs.NodeLaws.{within, inside-self, after-starts}
 use Rattle.lists.specs.Check.{checkNodes}
 use Rattle.lists.proofs.Faults.{Sound}
-use Rattle.lists.proofs.Taken.{Fine, Pairs, nested-read, fine-settles, taken-iff}
+use Rattle.lists.proofs.Taken.{Fine, nested-read, fine-settles, taken-iff}
 
 -- if e contains n, its level lies from b to below n's
 abbrev Between : ℕ → Node → Node → Type 0

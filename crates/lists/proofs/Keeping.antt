@@ -10,20 +10,15 @@ use lib.Dec.{ltb}
 use borrow.Author.Tests.{lt-ltb, ltb-true}
 use Rattle.nodes.specs.declared.node.Node.{Node}
 use Rattle.nodes.specs.Answer.{TAKEN, ORDER, CROSS, DEPTH}
-use Rattle.nodes.specs.Choose.{any, keep}
+use Rattle.nodes.specs.Choose.{All, any, keep}
 use Rattle.nodes.specs.Node.{insideb, openb, afterb}
-use Rattle.nodes.proofs.Choices.{All, all-map, none-any, any-same, keep-failed}
+use Rattle.nodes.proofs.Choices.{all-map, none-any, any-same, keep-failed}
 use Rattle.nodes.proofs.NodeLaws.{inside-trans, inside-open, after-trans, shut-later}
 use Rattle.nodes.proofs.Tests.{either, never, not-so, and-read, not-read, not-none}
 use Rattle.lists.specs.Fault.{levelb, spanb, orderb, crossb, depthb, fault}
-use Rattle.lists.specs.Walk.{unended, Upon, Chain, headFault, topFault}
+use Rattle.lists.specs.Walk.{Stands, unended, Upon, Chain, headFault, topFault}
 use Rattle.lists.proofs.WalkLaws.{chain-after}
 use Rattle.lists.proofs.Faults.{skip, level-sound, span-sound, crosses, rises}
-
--- a row s stands for the nodes before at every node that P lets come next: a test that only open nodes pass keeps the same of both
-pub record Stands (P : Node → Type 0) (before s : List Node) : Type 0 where
-  pub chain : Chain s
-  pub keeps : (n : Node) → P n → (test : Node → Bool) → ((e : Node) → test e ≡ true → openb n e ≡ true) → keep test before ≡ keep test s
 
 module _ {P : Node → Type 0} {before s : List Node} where
   -- it stands wherever fewer nodes may come next
@@ -46,21 +41,22 @@ stands-pop e shut k = record {
   keeps = λ n p test only. k .keeps n p test only ∙ keep-failed test e _ (not-so (λ h. never (only e h) (shut n p)));
 }
 
--- all that ended before n are taken off
-stands-left : (n : Node) {before : List Node} (s : List Node) → All (λ e. afterb n e ≡ true) s → Stands (λ m. afterb m n ≡ true) before s
-    → Stands (λ m. afterb m n ≡ true) before (unended n s)
+-- all that ended before n are taken off, where they are open at no node that may come
+pub stands-left : {P : Node → Type 0} {before : List Node} (n : Node)
+    → ((m e : Node) → P m → openb n e ≡ false → afterb n e ≡ true → openb m e ≡ false)
+    → (s : List Node) → All (λ e. afterb n e ≡ true) s → Stands P before s → Stands P before (unended n s)
 unfolding unended
-stands-left n [] a k = k
-stands-left n (e ∷ s) a k =
+stands-left n shut [] a k = k
+stands-left n shut (e ∷ s) a k =
     elim (either (openb n e))
-    [ inl o ↦ rw o k | inr o ↦ rw o (stands-left n s (a .1) (stands-pop e (λ m p. shut-later m n e o (a .0) p) k)) ]
+    [ inl o ↦ rw o k | inr o ↦ rw o (stands-left n shut s (a .1) (stands-pop e (λ m p. shut m e p o (a .0)) k)) ]
 
 -- everything under a head that contains n contains n, and everything under it has a lower level
-chain-contains : (n e : Node) (s : List Node) → Chain (e ∷ s) → insideb n e ≡ true → All (λ f. insideb n f ≡ true) s
+pub chain-contains : (n e : Node) (s : List Node) → Chain (e ∷ s) → insideb n e ≡ true → All (λ f. insideb n f ≡ true) s
 chain-contains n e [] ch h = tt
 chain-contains n e (f ∷ s) ch h = let p = inside-trans n e f h (ch .1 .0) in (p, chain-contains n f s (ch .2) p)
 
-chain-levels : (l : ℕ) (e : Node) (s : List Node) → Chain (e ∷ s) → e .level < l → All (λ f. f .level < l) s
+pub chain-levels : (l : ℕ) (e : Node) (s : List Node) → Chain (e ∷ s) → e .level < l → All (λ f. f .level < l) s
 chain-levels l e [] ch h = tt
 chain-levels l e (f ∷ s) ch h = let u = ch .1 .1 in let p : f .level < l = omega arith in (p, chain-levels l f s (ch .2) p)
 
@@ -170,7 +166,7 @@ kept-next before s n h k =
       stands =
           stands-later (λ m o. not-none (afterb m n) o)
           (stands-push n (c .level) (head-taken n (unended n s) (c .head))
-          (stands-left n s (chain-after n s (k .stands .chain) (c .next))
+          (stands-left n (λ m e p o a. shut-later m n e o a p) s (chain-after n s (k .stands .chain) (c .next))
           (stands-later (λ m a. later before m n first a) (k .stands))));
       last = λ m. refl;
     }

@@ -11,14 +11,15 @@ use Rattle.nodes.specs.declared.node.Node.{Node}
 use Rattle.nodes.specs.Answer.{TAKEN}
 use Rattle.nodes.specs.Node.{afterb, sameb}
 use Rattle.nodes.proofs.Tests.{either, never, so, not-so, and-read, or-read, or-none, not-read, not-none}
-use Rattle.nodes.proofs.Choices.{All, all-of, all-map, all-both, any-none, none-any}
+use Rattle.nodes.proofs.Choices.{all-of, all-map, all-both, any-none, none-any}
 use Rattle.nodes.proofs.NodeLaws.{within, apart-read, apart-turned, after-trans, after-self, after-none, same-read, same-self}
 use Rattle.lists.specs.Check.{checkNodes}
 use Rattle.lists.specs.Merge.{merge, mergeInto}
 use Rattle.lists.specs.Two.{agreeb, oddsb, jointb}
+use Rattle.nodes.specs.Choose.{All, Pairs}
 use Rattle.lists.proofs.MergeSteps.{merge-left, merge-both, merge-right}
 use Rattle.lists.proofs.Faults.{Sound}
-use Rattle.lists.proofs.Taken.{Fine, Pairs, nested-read, agree-apart, agree-nested, agree-nests, agree-read, taken-iff}
+use Rattle.lists.proofs.Taken.{Fine, nested-read, agree-apart, agree-nested, agree-nests, agree-read, taken-iff}
 
 -- no node of the first list is at odds with one of the second
 abbrev pub Even : List Node → List Node → Type 0
@@ -91,7 +92,7 @@ module _ (x y : Node) where
   fine-even : Fine x y → oddsb x y ≡ false
   fine-even f = even-make (λ d. inr (f .agree d))
 
-  even-fine : afterb y x ≡ true → oddsb x y ≡ false → Fine x y
+  pub even-fine : afterb y x ≡ true → oddsb x y ≡ false → Fine x y
   even-fine h o = record {
     after = h;
     agree = λ d. ⊎-elim (λ s. absurd (never (rw (same-read x y s) at h) (after-self y))) (λ a. a) (even-read o d);

@@ -14,24 +14,20 @@ use Rattle.nodes.specs.Answer.{TAKEN}
 use Rattle.nodes.specs.Node.{insideb, apartb, afterb, openb}
 use Rattle.nodes.specs.Words.{NODE-WORDS, MOST-NODES, nodes, count}
 use Rattle.nodes.proofs.Tests.{either, never, not-so, and-read, and-make, or-read, or-left, or-right, not-read, not-none}
-use Rattle.nodes.proofs.Choices.{All, all-of, all-map, all-both, any-none, none-any}
+use Rattle.nodes.proofs.Choices.{all-of, all-map, all-both, any-none, none-any}
 use Rattle.nodes.proofs.NodeLaws.{within, apart-read, apart-ahead, after-starts, after-trans, open-read, shut-read}
 use Rattle.lists.specs.declared.verdict.Verdict.{Verdict}
 use Rattle.lists.specs.Check.{checkFrom, checkNodes, raggedb, longb, wordFault, checkWords}
 use Rattle.lists.specs.Fault.{levelb, spanb, orderb, crossb, depthb, fault}
 use Rattle.lists.specs.Two.{nestedb, agreeb}
 use Rattle.lists.specs.Verdict.{ANCESTORS, verdict}
+use Rattle.nodes.specs.Choose.{All, Pairs}
 use Rattle.lists.proofs.Faults.{Sound, skip, level-sound, span-sound, crosses, rises}
 
 -- of an earlier node e and a later one n, n stands after e, and within one document they agree
 pub record Fine (e n : Node) : Type 0 where
   pub after : afterb n e ≡ true
   pub agree : e .document ≡ n .document → agreeb e n ≡ true
-
--- R holds of every earlier and later element
-abbrev pub Pairs : {A : Type 0} → (A → A → Type 0) → List A → Type 0
-Pairs R [] = Unit {0}
-Pairs R (x ∷ xs) = All (R x) xs × Pairs R xs
 
 -- of a row with the last node first, each stands after all that follow
 abbrev pub Descends : List Node → Type 0

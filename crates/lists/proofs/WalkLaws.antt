@@ -12,12 +12,13 @@ use lib.ListN.{length, getD, set}
 use lib.Seq.{getD-set-same, getD-set-other}
 use Rattle.nodes.specs.declared.node.Node.{Node}
 use Rattle.nodes.specs.Node.{afterb, openb}
-use Rattle.nodes.specs.Words.{node, nodes, nodeAt}
-use Rattle.nodes.proofs.Choices.{All}
+use Rattle.nodes.specs.Words.{node, nodes, count, nodeAt, putNode}
 use Rattle.nodes.proofs.NodeLaws.{inside-after, after-starts, after-trans, open-read}
 use Rattle.nodes.proofs.Tests.{either, not-none}
+use Rattle.nodes.proofs.WordLaws.{length-nodes, nodes-put}
 use Rattle.lists.specs.Fault.{orderb}
 use Rattle.lists.specs.Walk.{firsts, unended, Behind, Chain}
+use Rattle.nodes.specs.Choose.{All}
 
 -- the head of the first k nodes is the one before index k
 pub head-at : (k : ℕ) (ws : List ℕ) → 0 < k → firsts k (nodes ws) ≡ nodeAt ws (k - 1) ∷ firsts (k - 1) (nodes ws)
@@ -39,11 +40,18 @@ firsts-set (suc k) ns i n h =
     ∙ ap (λ es. getD ns k (node 0 0 0 0) ∷ es) (firsts-set k ns i n (omega arith))
 
 -- storing a node at index k puts it at the head of the first k + 1
-pub firsts-push : (k : ℕ) (ns : List Node) (n : Node) → k < length ns → firsts (k + 1) (set ns k n) ≡ n ∷ firsts k ns
+firsts-push : (k : ℕ) (ns : List Node) (n : Node) → k < length ns → firsts (k + 1) (set ns k n) ≡ n ∷ firsts k ns
 unfolding firsts
 firsts-push k ns n h =
     rw (add-one k)
     (ap (λ e. e ∷ firsts k (set ns k n)) (getD-set-same ns k n (node 0 0 0 0) h) ∙ ap (λ es. n ∷ es) (firsts-set k ns k n (omega arith)))
+
+-- the same in words
+pub firsts-put : (ws us : List ℕ) (k : ℕ) (n : Node) → k < count ws → us ≡ putNode ws k n → firsts (k + 1) (nodes us) ≡ n ∷ firsts k (nodes ws)
+firsts-put ws us k n h e =
+    ap (λ vs. firsts (k + 1) (nodes vs)) e
+    ∙ ap (firsts (k + 1)) (nodes-put ws k n h)
+    ∙ firsts-push k (nodes ws) n (omega (arith, length-nodes ws))
 
 -- an open head ends the taking off; one that isn't open is taken off
 pub head-open : (k : ℕ) (ws : List ℕ) (n e : Node) → 0 < k → e ≡ nodeAt ws (k - 1) → openb n e ≡ true

@@ -4,6 +4,7 @@ pub mod Check
 pub mod Fault
 pub mod Merge
 pub mod Part
+pub mod Refusal
 pub mod Two
 pub mod Verdict
 pub mod Walk

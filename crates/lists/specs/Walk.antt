@@ -1,12 +1,13 @@
 -- Words of the contracts of private functions: what a walk along a list keeps. No public contract cites this file.
 use Prim.Native.Nat.{ℕ, zero, suc, _+_, _≤_, _<_}
 use mathlib.Core.Path.{_≡_}
-use mathlib.Core.Bool.{true, cond, not}
+use mathlib.Core.Bool.{Bool, true, cond, not}
 use mathlib.Core.List.{List, [], _∷_}
 use lib.Dec.{ltb}
 use lib.ListN.{getD}
 use Rattle.nodes.specs.declared.node.Node.{Node}
 use Rattle.nodes.specs.Answer.{TAKEN, LEVEL, SPAN, ORDER, CROSS, DEPTH}
+use Rattle.nodes.specs.Choose.{keep}
 use Rattle.nodes.specs.Node.{insideb, openb, MOST-LEVELS}
 use Rattle.nodes.specs.Words.{node, nodes}
 use Rattle.lists.specs.declared.walk.Place.{Place}
@@ -37,6 +38,11 @@ Upon e (f ∷ es) = (insideb e f ≡ true) × (f .level < e .level)
 abbrev pub Chain : List Node → Type 0
 Chain [] = Unit {0}
 Chain (e ∷ es) = (1 ≤ e .level) × Upon e es × Chain es
+
+-- a row s stands for the nodes before at every node that P lets come next: a test that only open nodes pass keeps the same of both
+pub record Stands (P : Node → Type 0) (before s : List Node) : Type 0 where
+  pub chain : Chain s
+  pub keeps : (n : Node) → P n → (test : Node → Bool) → ((e : Node) → test e ≡ true → openb n e ≡ true) → keep test before ≡ keep test s
 
 -- n stands in the document of a row's head, after it
 abbrev pub Behind : Node → List Node → Type 0

@@ -3,14 +3,9 @@
 use mathlib.Core.Path.{_≡_, refl, ap, _∙_, sym}
 use mathlib.Core.Logic.{inl, inr}
 use mathlib.Core.Bool.{Bool, true, false}
-use mathlib.Core.List.{List, [], _∷_}
-use Rattle.nodes.specs.Choose.{any, keep}
+use mathlib.Core.List.{List, [], _∷_, _++_}
+use Rattle.nodes.specs.Choose.{All, any, keep}
 use Rattle.nodes.proofs.Tests.{either, or-none}
-
--- P holds of every element
-abbrev pub All : {A : Type 0} → (A → Type 0) → List A → Type 0
-All P [] = Unit {0}
-All P (x ∷ xs) = P x × All P xs
 
 module _ {A : Type 0} where
   pub all-of : {P : A → Type 0} → ((x : A) → P x) → (xs : List A) → All P xs
@@ -53,3 +48,28 @@ module _ {A : Type 0} where
   pub keep-failed : (test : A → Bool) (x : A) (xs : List A) → test x ≡ false → keep test (x ∷ xs) ≡ keep test xs
   unfolding keep
   keep-failed test x xs h = rw h
+
+  -- what is kept of two lists in a row is what is kept of each
+  pub keep-append : (test : A → Bool) (xs ys : List A) → keep test (xs ++ ys) ≡ keep test xs ++ keep test ys
+  unfolding keep
+  keep-append test [] ys = refl
+  keep-append test (x ∷ xs) ys =
+      elim (either (test x)) [ inl h ↦ rw h (ap (λ zs. x ∷ zs) (keep-append test xs ys)) | inr h ↦ rw h (keep-append test xs ys) ]
+
+  -- a test that no element passes keeps nothing, and one that all pass keeps all
+  pub keep-none : (test : A → Bool) (xs : List A) → All (λ x. test x ≡ false) xs → keep test xs ≡ []
+  unfolding keep
+  keep-none test [] h = refl
+  keep-none test (x ∷ xs) h = rw (h .0) (keep-none test xs (h .1))
+
+  pub keep-all : (test : A → Bool) (xs : List A) → All (λ x. test x ≡ true) xs → keep test xs ≡ xs
+  unfolding keep
+  keep-all test [] h = refl
+  keep-all test (x ∷ xs) h = rw (h .0) (ap (λ zs. x ∷ zs) (keep-all test xs (h .1)))
+
+  -- what holds of all elements holds of all that are kept
+  pub keep-all-of : (P : A → Type 0) (test : A → Bool) (xs : List A) → All P xs → All P (keep test xs)
+  unfolding keep
+  keep-all-of P test [] h = tt
+  keep-all-of P test (x ∷ xs) h =
+      elim (either (test x)) [ inl t ↦ rw t (h .0, keep-all-of P test xs (h .1)) | inr t ↦ rw t (keep-all-of P test xs (h .1)) ]

@@ -9,7 +9,7 @@ use native.Mathlib.Nat.{lt-irrefl}
 use lib.Dec.{ltb, eqb}
 use borrow.Author.Tests.{ltb-true, ltb-false, leb-true, leb-false, eqb-true, lt-ltb, le-leb, eq-eqb}
 use Rattle.nodes.specs.declared.node.Node.{Node}
-use Rattle.nodes.specs.Node.{endsb, insideb, directlyb, apartb, afterb, openb, sameb}
+use Rattle.nodes.specs.Node.{endsb, insideb, deeperb, directlyb, apartb, afterb, openb, sameb}
 use Rattle.nodes.proofs.Tests.{not-so, and-read, and-make, or-read, or-left, or-right, or-none}
 
 -- the ends of nodes that end within one another; only here is the comparison known
@@ -55,7 +55,7 @@ pub inside-self : (x : Node) → insideb x x ≡ false
 inside-self x = not-so (λ h. lt-irrefl _ (within x x h .start))
 
 pub directly-inside : (y x : Node) → directlyb y x ≡ true → (insideb y x ≡ true) × (y .level ≡ x .level + 1)
-unfolding directlyb
+unfolding directlyb deeperb
 directly-inside y x h = let p = and-read (insideb y x) h in (p .0, eqb-true _ _ (p .1))
 
 pub apart-read : (x y : Node) → apartb x y ≡ true → (x .end < y .start) ⊎ (y .end < x .start)

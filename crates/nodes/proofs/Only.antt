@@ -6,6 +6,7 @@ use Rattle.nodes.proofs.answer.name_of.Reads as name-of
 use Rattle.nodes.proofs.node.ends_within.Reads as ends-within
 use Rattle.nodes.proofs.node.is_after.Reads as is-after
 use Rattle.nodes.proofs.node.is_inside.Reads as is-inside
+use Rattle.nodes.proofs.node.is_one_deeper.Reads as is-one-deeper
 use Rattle.nodes.proofs.node.is_open.Reads as is-open
 use Rattle.nodes.proofs.node.is_same.Reads as is-same
 use Rattle.nodes.proofs.node.node_at.Reads as node-at
@@ -21,6 +22,9 @@ ends-within-only κs a r r′ s s′ p q = only p q
 
 pub is-inside-only : (κs : _) (a : _) (r r′ : _) (s s′ : _) → is-inside.Post κs a r s → is-inside.Post κs a r′ s′ → r ≡ r′
 is-inside-only κs a r r′ s s′ p q = only p q
+
+pub is-one-deeper-only : (κs : _) (a : _) (r r′ : _) (s s′ : _) → is-one-deeper.Post κs a r s → is-one-deeper.Post κs a r′ s′ → r ≡ r′
+is-one-deeper-only κs a r r′ s s′ p q = only p q
 
 pub is-after-only : (κs : _) (a : _) (r r′ : _) (s s′ : _) → is-after.Post κs a r s → is-after.Post κs a r′ s′ → r ≡ r′
 is-after-only κs a r r′ s s′ p q = only p q

@@ -2,11 +2,11 @@
 -- A node read one word off, or written over its neighbour, falls here.
 use mathlib.Core.Path.{_≡_, refl, ap, sym, _∙_}
 use mathlib.Core.List.{List, [], _∷_}
-use Prim.Native.Nat.{ℕ, zero, suc, _+_, _*_, _≤_, _<_}
+use Prim.Native.Nat.{ℕ, zero, suc, _+_, _*_, _-_, _≤_, _<_}
 use native.Mathlib.Omega.{arith}
 use native.Mathlib.Nat.{not-suc-le-zero}
-use lib.ListN.{length, getD, set, drop, drop-of-length-le}
-use lib.Seq.{sets, drop-cons}
+use lib.ListN.{length, getD, set, take, drop, length-drop, drop-of-length-le}
+use lib.Seq.{sets, take-all, take-nil, drop-nil, drop-cons}
 use native.Mathlib.Numerals.{add-one, towards-suc}
 use borrow.Author.Tests.{lt-ltb}
 use Rattle.nodes.specs.declared.node.Node.{Node}
@@ -74,3 +74,43 @@ nodes-from ws i h = rw (add-one i) (drop-cons (nodes ws) i (node 0 0 0 0) (omega
 
 pub nodes-behind : (ws : List ℕ) (i : ℕ) → count ws ≤ i → drop i (nodes ws) ≡ []
 nodes-behind ws i h = drop-of-length-le (nodes ws) {i = i} (omega (arith, length-nodes ws))
+
+-- the nodes behind a node's words, and those before them
+behind-four : (d s e l : ℕ) (ws : List ℕ) {k m : ℕ} → m ≡ suc (suc (suc (suc k))) → drop m (d ∷ s ∷ e ∷ l ∷ ws) ≡ drop k ws
+behind-four d s e l ws q = rw q
+
+pub nodes-drop : (ws : List ℕ) (k : ℕ) → nodes (drop (4 * k) ws) ≡ drop k (nodes ws)
+unfolding nodes
+nodes-drop [] k = ap nodes (drop-nil (4 * k)) ∙ sym (drop-nil k)
+nodes-drop (d ∷ []) zero = refl
+nodes-drop (d ∷ []) (suc k) = ap nodes (drop-of-length-le (d ∷ []) {i = 4 * suc k} (omega arith))
+nodes-drop (d ∷ s ∷ []) zero = refl
+nodes-drop (d ∷ s ∷ []) (suc k) = ap nodes (drop-of-length-le (d ∷ s ∷ []) {i = 4 * suc k} (omega arith))
+nodes-drop (d ∷ s ∷ e ∷ []) zero = refl
+nodes-drop (d ∷ s ∷ e ∷ []) (suc k) = ap nodes (drop-of-length-le (d ∷ s ∷ e ∷ []) {i = 4 * suc k} (omega arith))
+nodes-drop (d ∷ s ∷ e ∷ l ∷ ws) zero = refl
+nodes-drop (d ∷ s ∷ e ∷ l ∷ ws) (suc k) = ap nodes (behind-four d s e l ws {k = 4 * k} {m = 4 * suc k} (omega arith)) ∙ nodes-drop ws k
+
+up-to-four : (d s e l : ℕ) (ws : List ℕ) {k m : ℕ} → m ≡ suc (suc (suc (suc k))) → take m (d ∷ s ∷ e ∷ l ∷ ws) ≡ d ∷ s ∷ e ∷ l ∷ take k ws
+up-to-four d s e l ws q = rw q
+
+pub nodes-take : (ws : List ℕ) (k : ℕ) → nodes (take (4 * k) ws) ≡ take k (nodes ws)
+unfolding nodes
+nodes-take [] k = ap nodes (take-nil (4 * k)) ∙ sym (take-nil k)
+nodes-take (d ∷ []) zero = refl
+nodes-take (d ∷ []) (suc k) = ap nodes (take-all (4 * suc k) (d ∷ []) (omega arith))
+nodes-take (d ∷ s ∷ []) zero = refl
+nodes-take (d ∷ s ∷ []) (suc k) = ap nodes (take-all (4 * suc k) (d ∷ s ∷ []) (omega arith))
+nodes-take (d ∷ s ∷ e ∷ []) zero = refl
+nodes-take (d ∷ s ∷ e ∷ []) (suc k) = ap nodes (take-all (4 * suc k) (d ∷ s ∷ e ∷ []) (omega arith))
+nodes-take (d ∷ s ∷ e ∷ l ∷ ws) zero = refl
+nodes-take (d ∷ s ∷ e ∷ l ∷ ws) (suc k) =
+    ap nodes (up-to-four d s e l ws {k = 4 * k} {m = 4 * suc k} (omega arith)) ∙ ap (λ ns. node d s e l ∷ ns) (nodes-take ws k)
+
+-- the nodes of a part of the words: from one index up to another, or to the end
+pub nodes-part : (ws : List ℕ) (from to m : ℕ) → m ≡ 4 * (to - from) → nodes (take m (drop (4 * from) ws)) ≡ take (to - from) (drop from (nodes ws))
+nodes-part ws from to m q = rw q (nodes-take (drop (4 * from) ws) (to - from) ∙ ap (take (to - from)) (nodes-drop ws from))
+
+pub nodes-rest : (ws : List ℕ) (k : ℕ) → nodes (take (length ws - 4 * k) (drop (4 * k) ws)) ≡ drop k (nodes ws)
+nodes-rest ws k =
+    ap nodes (take-all (length ws - 4 * k) (drop (4 * k) ws) (omega (arith, length-drop (4 * k) ws))) ∙ nodes-drop ws k

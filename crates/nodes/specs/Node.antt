@@ -16,9 +16,13 @@ endsb y x = ltb (y .end) (x .end)
 unfoldable pub insideb : Node → Node → Bool
 insideb y x = eqb (y .document) (x .document) && (ltb (x .start) (y .start) && endsb y x)
 
--- y is directly inside x
+-- y.level = x.level + 1
+unfoldable pub deeperb : Node → Node → Bool
+deeperb y x = eqb (y .level) (x .level + 1)
+
+-- y is directly inside x: it is inside, and y.level = x.level + 1
 unfoldable pub directlyb : Node → Node → Bool
-directlyb y x = insideb y x && eqb (y .level) (x .level + 1)
+directlyb y x = insideb y x && deeperb y x
 
 -- x and y, of one document, are apart: one ends before the other starts
 unfoldable pub apartb : Node → Node → Bool

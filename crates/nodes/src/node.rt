@@ -1,6 +1,6 @@
 // A node of a document, how it is read out of a list of words, and how two nodes lie to one another.
 ghost use mathlib.Core.Path.{_≡_};
-ghost use Rattle.nodes.specs.Node.{endsb, insideb, afterb, openb, sameb};
+ghost use Rattle.nodes.specs.Node.{endsb, insideb, deeperb, afterb, openb, sameb};
 ghost use Rattle.nodes.specs.Words.{nodeAt, putNode, count};
 
 // How many words a node takes in a list.
@@ -38,6 +38,13 @@ pub fn is_inside(y: Node, x: Node) -> bool
         return false;
     }
     ends_within(y, x)
+}
+
+// The caller learns whether y stands one level below x, as a node directly inside x does.
+pub fn is_one_deeper(y: Node, x: Node) -> bool
+    ensures { λ r. ⌜ r ≡ deeperb y x ⌝ }
+{
+    y.level as u64 == x.level as u64 + 1
 }
 
 // The caller learns whether y stands after x: in a later document, or later in the same one.

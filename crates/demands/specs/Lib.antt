@@ -1,0 +1,1 @@
+-- The demands are stated over the definitions of the layers below, so none is added here.

@@ -1,0 +1,7 @@
+-- What a page of a listing is, whatever is listed: `Key` orders the keys, `Page` says what a call hands out, `Calls` follows a sequence of
+-- calls, `Written` is an output on return; `Serve` is a word of private functions alone.
+pub mod Calls
+pub mod Key
+pub mod Page
+pub mod Serve
+pub mod Written

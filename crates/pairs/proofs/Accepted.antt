@@ -1,0 +1,78 @@
+-- Two lists that are accepted together are sound, ascend, and no node of one is at odds with a node of the other; so each earlier node is fine
+-- with each later one, at any index. An accepted pair of lists with a crossing would fall here.
+use mathlib.Core.Path.{_≡_, subst, sym}
+use mathlib.Core.Bool.{true, false}
+use mathlib.Core.List.{List, [], _∷_}
+use Prim.Native.Nat.{ℕ, zero, suc, _≤_, _<_}
+use native.Mathlib.Nat.{not-suc-le-zero}
+use native.Mathlib.Omega.{arith}
+use lib.ListN.{length, getD, drop}
+use lib.Seq.{drop-nil}
+use Rattle.nodes.specs.declared.node.Node.{Node}
+use Rattle.nodes.specs.Answer.{TAKEN}
+use Rattle.nodes.specs.Choose.{All, Pairs, In}
+use Rattle.nodes.specs.Node.{afterb}
+use Rattle.nodes.specs.Words.{node, nodes}
+use Rattle.nodes.proofs.Choices.{all-map, all-both}
+use Rattle.nodes.proofs.NodeLaws.{after-trans}
+use Rattle.nodes.proofs.Tests.{never, not-so}
+use Rattle.lists.specs.Two.{oddsb, checkTwo}
+use Rattle.lists.specs.Walk.{firsts}
+use Rattle.lists.proofs.Faults.{Sound}
+use Rattle.lists.proofs.Merging.{Even, even-fine}
+use Rattle.lists.proofs.Pairing.{two-taken-iff}
+use Rattle.lists.proofs.Taken.{Fine, words-taken-iff}
+
+-- what is known of two lists that are accepted together
+pub record Accepted (as′ ds : List Node) : Type 0 where
+  pub sound-as : All Sound as′
+  pub fine-as : Pairs Fine as′
+  pub sound-ds : All Sound ds
+  pub fine-ds : Pairs Fine ds
+  pub even : Even as′ ds
+
+pub accepted : (as′ ds : List ℕ) → checkTwo as′ ds .answer ≡ TAKEN → Accepted (nodes as′) (nodes ds)
+accepted as′ ds h =
+    let t = two-taken-iff as′ ds .0 h in
+    let p = words-taken-iff as′ .0 (t .0) in
+    let q = words-taken-iff ds .0 (t .1) in
+    record { sound-as = p .2; fine-as = p .3; sound-ds = q .2; fine-ds = q .3; even = t .2 }
+
+module _ {A : Type 0} where
+  -- what holds of all holds at an index, and of one that stands in the list
+  pub all-at : (P : A → Type 0) (xs : List A) (i : ℕ) (d : A) → i < length xs → All P xs → P (getD xs i d)
+  all-at P [] i d l h = absurd (not-suc-le-zero l)
+  all-at P (x ∷ xs) zero d l h = h .0
+  all-at P (x ∷ xs) (suc i) d l h = all-at P xs i d (omega arith) (h .1)
+
+  pub pairs-at : (R : A → A → Type 0) (xs : List A) (k i : ℕ) (d : A) → k < i → i < length xs → Pairs R xs → R (getD xs k d) (getD xs i d)
+  pairs-at R [] k i d l m h = absurd (not-suc-le-zero m)
+  pairs-at R (x ∷ xs) k zero d l m h = absurd (not-suc-le-zero l)
+  pairs-at R (x ∷ xs) zero (suc i) d l m h = all-at (R x) xs i d (omega arith) (h .0)
+  pairs-at R (x ∷ xs) (suc k) (suc i) d l m h = pairs-at R xs k i d (omega arith) (omega arith) (h .1)
+
+-- what holds at each index below k holds of the first k nodes
+all-firsts : (P : Node → Type 0) (k : ℕ) (ns : List Node) → ((i : ℕ) → i < k → P (getD ns i (node 0 0 0 0))) → All P (firsts k ns)
+unfolding firsts
+all-firsts P zero ns f = tt
+all-firsts P (suc k) ns f = (f k (omega arith), all-firsts P k ns (λ i l. f i (omega arith)))
+
+-- the nodes before an index are fine with the one there
+pub fine-before : (ns : List Node) → Pairs Fine ns → (i : ℕ) → i < length ns → All (λ e. Fine e (getD ns i (node 0 0 0 0))) (firsts i ns)
+fine-before ns f i l = all-firsts _ i ns (λ k m. pairs-at Fine ns k i (node 0 0 0 0) m l f)
+
+-- the first ancestors that stand before a descendant are fine with it
+pub fine-with : (as′ ds : List Node) → Even as′ ds → (i j : ℕ) → i ≤ length as′ → j < length ds
+    → All (λ e. afterb (getD ds j (node 0 0 0 0)) e ≡ true) (firsts i as′) → All (λ e. Fine e (getD ds j (node 0 0 0 0))) (firsts i as′)
+fine-with as′ ds even i j l m h =
+    all-both (λ e a o. even-fine e (getD ds j (node 0 0 0 0)) a o) (firsts i as′) h
+    (all-firsts _ i as′ (λ k n. all-at _ ds j (node 0 0 0 0) m (all-at _ as′ k (node 0 0 0 0) (omega arith) even)))
+
+-- of an ascending list, all that stand at or behind one that isn't before d aren't before d
+pub none-before : (d : Node) (ns : List Node) → Pairs Fine ns → (i : ℕ) → (i < length ns → afterb d (getD ns i (node 0 0 0 0)) ≡ false)
+    → All (λ a. afterb d a ≡ false) (drop i ns)
+none-before d [] f i h = rw (drop-nil {A = Node} i) tt
+none-before d (n ∷ ns) f zero h =
+    let p = h (omega arith) in
+    (p, all-map (λ a g. not-so (λ b. never (after-trans d a n b (g .after)) p)) ns (f .0))
+none-before d (n ∷ ns) f (suc i) h = none-before d ns (f .1) i (λ l. h (omega arith))

@@ -1,0 +1,117 @@
+-- A refused call has nothing to hand out, and an accepted one no more than fits, so what it writes stays within the output and ends where it counts.
+-- A refusal that moved the ticket, a word altered behind the last pair, or a first page that left out a pair in spite of room would fall here.
+use mathlib.Core.Path.{_≡_, refl, sym, ap, _∙_}
+use mathlib.Core.Logic.{inl, inr}
+use mathlib.Core.Bool.{true, false}
+use mathlib.Core.List.{List, [], _∷_, flatMap}
+use Prim.Native.Nat.{_*_, _≤_}
+use native.Mathlib.Omega.{arith}
+use lib.Dec.{eqb}
+use lib.ListN.{length, drop, length-append, length-take, length-drop}
+use lib.Seq.{take-all, drop-append-seam}
+use borrow.Author.Tests.{eqb-true, eq-eqb}
+use Rattle.nodes.specs.declared.node.Node.{Node}
+use Rattle.nodes.specs.Answer.{TAKEN}
+use Rattle.nodes.specs.Choose.{Pairs}
+use Rattle.nodes.specs.Node.{afterb}
+use Rattle.nodes.specs.Words.{nodes, wordsOf}
+use Rattle.nodes.proofs.Choices.{all-of, keep-all}
+use Rattle.nodes.proofs.Tests.{either, so, not-none}
+use Rattle.lists.specs.Two.{refusedb, checkTwo}
+use Rattle.lists.proofs.Taken.{Fine}
+use Rattle.paging.specs.Page.{fresh, pastb, remains, handed, doneb, reached}
+use Rattle.paging.specs.Written.{wordsIn, written}
+use Rattle.paging.proofs.PageLaws.{pairs-map}
+use Rattle.tickets.specs.declared.ticket.Order.{Order}
+use Rattle.tickets.specs.declared.ticket.Place.the-variants.{After}
+use Rattle.tickets.specs.declared.ticket.Relation.{Relation}
+use Rattle.tickets.specs.declared.ticket.Ticket.{Ticket}
+use Rattle.tickets.specs.Listing.{Pair, keyOf, sortKey}
+use Rattle.tickets.specs.Row.{PAIR-WORDS, pairWords, room}
+use Rattle.tickets.specs.Ticket.{ticket, spotOf}
+use Rattle.pairs.specs.Calls.{Call, AcceptedCall, fullListing, fresh-ticket, answer, output, shown}
+use Rattle.pairs.specs.Page.{listingOf, handedOut, saysDone, ticketAfter, pageOf, outputAfter}
+use Rattle.pairs.proofs.Accepted.{accepted}
+use Rattle.pairs.proofs.Shown.{shown-is}
+
+ascend : (ns : List Node) → Pairs Fine ns → Pairs (λ e n. afterb n e ≡ true) ns
+ascend ns h = pairs-map (λ e n f. f .after) ns h
+
+module _ (c : Call) where
+  -- a call is accepted exactly if it isn't refused
+  pub not-refused : AcceptedCall c → refusedb (checkTwo (c .ancestors) (c .descendants)) ≡ false
+  unfolding refusedb
+  not-refused a = rw (eq-eqb (checkTwo (c .ancestors) (c .descendants) .answer) TAKEN a)
+
+  pub is-accepted : refusedb (checkTwo (c .ancestors) (c .descendants)) ≡ false → AcceptedCall c
+  unfolding refusedb
+  is-accepted h = eqb-true _ _ (not-none (eqb (checkTwo (c .ancestors) (c .descendants) .answer) TAKEN) h)
+
+  -- each of two accepted lists ascends
+  pub lists-ascend : AcceptedCall c
+      → Pairs (λ e n. afterb n e ≡ true) (nodes (c .ancestors)) × Pairs (λ e n. afterb n e ≡ true) (nodes (c .descendants))
+  lists-ascend a =
+      let t = accepted (c .ancestors) (c .descendants) a in
+      (ascend (nodes (c .ancestors)) (t .fine-as), ascend (nodes (c .descendants)) (t .fine-ds))
+
+words-length : (ps : List Pair) → length (wordsIn pairWords ps) ≡ PAIR-WORDS * length ps
+unfolding wordsIn flatMap pairWords wordsOf
+words-length [] = refl
+words-length (p ∷ ps) = let h = words-length ps in omega arith
+
+module _ (t : Ticket) (c : Call) where
+  -- what the call hands out
+  abbrev given : List Pair
+  given = handedOut (c .ancestors) (c .descendants) t (c .out)
+
+  nothing : (AcceptedCall c → ⊥) → given ≡ []
+  unfolding handedOut
+  nothing f = rw (so (λ h. f (is-accepted c h)))
+
+  -- a refused call counts nothing, isn't done, returns its ticket, and leaves the output as it was
+  pub refusal : (AcceptedCall c → ⊥) → (answer t c .count ≡ 0) × (answer t c .done ≡ false) × (answer t c .ticket ≡ t) × (output t c ≡ c .out)
+  unfolding pageOf saysDone ticketAfter outputAfter written wordsIn flatMap reached
+  refusal f = (
+    ap length (nothing f),
+    rw (so (λ h. f (is-accepted c h))),
+    ap (λ ps. ticket (t .relation) (t .order) (reached (λ p. After (keyOf (t .order) p)) (t .place) ps)) (nothing f),
+    ap (λ ps. written (wordsIn pairWords ps) (c .out)) (nothing f),
+  )
+
+  given-fits : length given ≤ room (c .out)
+  unfolding handedOut handed
+  given-fits =
+      let left = remains (sortKey (t .order)) (spotOf (t .place)) (listingOf t (c .ancestors) (c .descendants)) in
+      elim (either (refusedb (checkTwo (c .ancestors) (c .descendants)))) [
+        | inl h ↦ rw h (omega arith)
+        | inr h ↦ rw h (omega (arith, length-take (room (c .out)) left))
+      ]
+
+  -- behind the pairs that it counts, the output's words are those it had
+  pub beyond-kept : drop (PAIR-WORDS * answer t c .count) (output t c) ≡ drop (PAIR-WORDS * answer t c .count) (c .out)
+  unfolding pageOf outputAfter written
+  beyond-kept =
+      rw (sym (words-length given)) (drop-append-seam (wordsIn pairWords given) (drop (length (wordsIn pairWords given)) (c .out)))
+
+  pub output-length : length (output t c) ≡ length (c .out)
+  unfolding outputAfter written
+  output-length =
+      let ws = wordsIn pairWords given in
+      omega (arith, length-append ws (drop (length ws) (c .out)), length-drop (length ws) (c .out), words-length given, given-fits)
+
+module _ (relation : Relation) (order : Order) (c : Call) where
+  abbrev listed : List Pair
+  listed = fullListing relation order c
+
+  all-handed : length listed ≤ room (c .out) → handed (sortKey order) fresh (room (c .out)) listed ≡ listed
+  unfolding handed remains pastb
+  all-handed l = rw (keep-all (λ p. true) listed (all-of (λ p. refl) listed)) (take-all (room (c .out)) listed l)
+
+  -- a first call with room for the full listing hands out exactly it, and is done
+  pub whole-listing : AcceptedCall c → length listed ≤ room (c .out)
+      → (shown (fresh-ticket relation order) c ≡ listed) × (answer (fresh-ticket relation order) c .done ≡ true)
+  unfolding pageOf handedOut saysDone doneb remains pastb
+  whole-listing a l = (
+    shown-is (fresh-ticket relation order) c ∙ rw (not-refused c a) (all-handed l),
+    rw (not-refused c a, all-handed l, keep-all (λ p. true) listed (all-of (λ p. refl) listed)) (eq-eqb (length listed) (length listed) refl),
+  )

@@ -1,0 +1,151 @@
+-- The ticket keeps relation, order and the last pair's key, so a sequence of calls is one of paging's, with the listing of each call's own lists.
+-- Were a pair lost or handed out twice between pages, for any edits in between, this would fall.
+use mathlib.Core.Path.{_≡_, refl, sym, ap, subst, _∙_}
+use mathlib.Core.Logic.{inl, inr}
+use mathlib.Core.Bool.{true, false, cond}
+use mathlib.Core.List.{List, [], _∷_, _++_, map, map-append}
+use Rattle.nodes.specs.Choose.{All, Pairs, In}
+use Rattle.nodes.specs.Words.{nodes}
+use Rattle.nodes.proofs.Choices.{all-of, all-map}
+use Rattle.nodes.proofs.Tests.{either}
+use Rattle.lists.specs.Two.{refusedb, checkTwo}
+use Rattle.paging.specs.Calls.{Call as PagingCall, refused, accepted, given, moved, placeAfter, allGiven}
+use Rattle.paging.specs.Page.{after, handed, doneb, reached}
+use Rattle.paging.proofs.Demand.{Ascending, Stood, none-lost as none-lost-of, no-key-twice, own-listing, fills-room as fills-room-of}
+use Rattle.paging.proofs.PageLaws.{reached-map, pairs-map}
+use Rattle.tickets.specs.declared.ticket.Order.{Order}
+use Rattle.tickets.specs.declared.ticket.Order.the-variants.{Descendant, Ancestor}
+use Rattle.tickets.specs.declared.ticket.Place.{Place}
+use Rattle.tickets.specs.declared.ticket.Place.the-variants.{Fresh, After}
+use Rattle.tickets.specs.declared.ticket.Relation.{Relation}
+use Rattle.tickets.specs.declared.ticket.Ticket.{Ticket}
+use Rattle.tickets.specs.Listing.{Pair, relatedb, keyOf, sortKey}
+use Rattle.tickets.specs.Row.{room}
+use Rattle.tickets.specs.Ticket.{ticket, spotOf}
+use Rattle.tickets.proofs.Listed.{listed-iff, related-document, all-append, pairs-passed, listing-ascends}
+use Rattle.pairs.specs.Calls.{Call, AcceptedCall, fullListing, Stands, SameStarts, fresh-ticket, answer, shown, ticketThrough, shownThrough}
+use Rattle.pairs.specs.Page.{listingOf, handedOut, saysDone, ticketAfter, pageOf}
+use Rattle.pairs.proofs.Answered.{not-refused, is-accepted, lists-ascend}
+use Rattle.pairs.proofs.Shown.{shown-is}
+
+module _ {A B : Type 0} where
+  all-mapped : (P : B → Type 0) (f : A → B) (xs : List A) → All (λ x. P (f x)) xs → All P (map f xs)
+  all-mapped P f [] h = tt
+  all-mapped P f (x ∷ xs) h = (h .0, all-mapped P f xs (h .1))
+
+-- of related pairs, the same starts are the same key
+same-key : (relation : Relation) (order : Order) (p q : Pair) → relatedb relation p ≡ true → relatedb relation q ≡ true → SameStarts p q
+    → sortKey order p ≡ sortKey order q
+unfolding keyOf
+same-key relation Descendant p q r s e =
+    let d : p .descendant .document ≡ q .descendant .document = related-document relation p r ∙ e .0 ∙ sym (related-document relation q s) in
+    λ i. d i ∷ e .2 i ∷ e .1 i ∷ []
+same-key relation Ancestor p q r s e = λ i. e .0 i ∷ e .1 i ∷ e .2 i ∷ []
+
+handed-own : (t : Ticket) (c : Call)
+    → All (λ p. Stands p c × (relatedb (t .relation) p ≡ true)) (handedOut (c .ancestors) (c .descendants) t (c .out))
+unfolding handedOut
+handed-own t c =
+    let xs = listingOf t (c .ancestors) (c .descendants) in
+    let own : (p : Pair) → In p xs → Stands p c × (relatedb (t .relation) p ≡ true) = λ p m.
+    let l = listed-iff (t .relation) (t .order) (nodes (c .ancestors)) (nodes (c .descendants)) p .0 m in ((l .0, l .1), l .2) in
+    elim (either (refusedb (checkTwo (c .ancestors) (c .descendants)))) [
+      | inl h ↦ rw h tt
+      | inr h ↦ rw h (all-map own (handed (sortKey (t .order)) (spotOf (t .place)) (room (c .out)) xs)
+          (own-listing (sortKey (t .order)) (spotOf (t .place)) xs (room (c .out))))
+    ]
+
+-- a call hands out related pairs of its own two lists alone
+pub own-lists : (t : Ticket) (c : Call) → All (λ p. Stands p c × (relatedb (t .relation) p ≡ true)) (shown t c)
+own-lists t c = subst (All (λ p. Stands p c × (relatedb (t .relation) p ≡ true))) (sym (shown-is t c)) (handed-own t c)
+
+-- an accepted call that isn't done fills its room
+pub fills-room : (t : Ticket) (c : Call) → AcceptedCall c → answer t c .done ≡ false → answer t c .count ≡ room (c .out)
+unfolding pageOf saysDone handedOut
+fills-room t c a d =
+    rw (not-refused c a) (fills-room-of (sortKey (t .order)) (spotOf (t .place)) (listingOf t (c .ancestors) (c .descendants)) (room (c .out))
+    (rw (not-refused c a) at d))
+
+module _ (relation : Relation) (order : Order) where
+  -- a call as paging knows it
+  callOf : Call → PagingCall Pair
+  callOf c = cond (refusedb (checkTwo (c .ancestors) (c .descendants))) refused (accepted (fullListing relation order c) (room (c .out)))
+
+  called : (c : Call) → AcceptedCall c → callOf c ≡ accepted (fullListing relation order c) (room (c .out))
+  unfolding callOf
+  called c a = rw (not-refused c a)
+
+  ascending : (c : Call) → Ascending (sortKey order) (callOf c)
+  unfolding callOf
+  ascending c =
+      elim (either (refusedb (checkTwo (c .ancestors) (c .descendants)))) [
+        | inl h ↦ rw h tt
+        | inr h ↦ let p = lists-ascend c (is-accepted c h) in
+            rw h (listing-ascends relation order (nodes (c .ancestors)) (nodes (c .descendants)) (p .0) (p .1))
+      ]
+
+  stood : (p : Pair) → relatedb relation p ≡ true → (c : Call) → (AcceptedCall c → Stands p c) → Stood (sortKey order) p (callOf c)
+  unfolding callOf
+  stood p r c s =
+      elim (either (refusedb (checkTwo (c .ancestors) (c .descendants)))) [
+        | inl h ↦ rw h tt
+        | inr h ↦ let m = s (is-accepted c h) in rw h (listed-iff relation order _ _ p .1 (m .0, m .1, r))
+      ]
+
+  module _ (place : Place) (c : Call) where
+    handed-given : handedOut (c .ancestors) (c .descendants) (ticket relation order place) (c .out) ≡ given (sortKey order) (spotOf place) (callOf c)
+    unfolding callOf handedOut given
+    handed-given = elim (either (refusedb (checkTwo (c .ancestors) (c .descendants)))) [ inl h ↦ rw h refl | inr h ↦ rw h refl ]
+
+    -- a call moves the ticket as it moves paging's place
+    moves : spotOf (answer (ticket relation order place) c .ticket .place) ≡ moved (sortKey order) (spotOf place) (callOf c)
+    unfolding pageOf ticketAfter moved
+    moves =
+        reached-map spotOf (λ p. After (keyOf order p)) place (handedOut (c .ancestors) (c .descendants) (ticket relation order place) (c .out))
+        ∙ ap (reached (λ p. after (sortKey order p)) (spotOf place)) handed-given
+
+  -- what a sequence of calls shows is what paging's calls hand out
+  shown-through : (place : Place) (cs : List Call)
+      → shownThrough (ticket relation order place) cs ≡ allGiven (sortKey order) (spotOf place) (map callOf cs)
+  unfolding shownThrough pageOf ticketAfter allGiven
+  shown-through place [] = refl
+  shown-through place (c ∷ cs) =
+      let t = ticket relation order place in
+      (λ i. (shown-is t c ∙ handed-given place c) i ++ shown-through (answer t c .ticket .place) cs i)
+      ∙ ap (λ s. given (sortKey order) (spotOf place) (callOf c) ++ allGiven (sortKey order) s (map callOf cs)) (moves place c)
+
+  done-through : (place : Place) (cs : List Call) (c : Call) → AcceptedCall c → answer (ticketThrough (ticket relation order place) cs) c .done
+      ≡ doneb (sortKey order) (placeAfter (sortKey order) (spotOf place) (map callOf cs)) (room (c .out)) (fullListing relation order c)
+  unfolding ticketThrough pageOf ticketAfter saysDone placeAfter
+  done-through place [] c a = rw (not-refused c a)
+  done-through place (k ∷ cs) c a =
+      done-through (answer (ticket relation order place) k .ticket .place) cs c a
+      ∙ ap (λ s. doneb (sortKey order) (placeAfter (sortKey order) s (map callOf cs)) (room (c .out)) (fullListing relation order c)) (moves place k)
+
+  related-through : (place : Place) (cs : List Call) → All (λ p. relatedb relation p ≡ true) (shownThrough (ticket relation order place) cs)
+  unfolding shownThrough pageOf ticketAfter
+  related-through place [] = tt
+  related-through place (c ∷ cs) =
+      let t = ticket relation order place in
+      let own : All (λ p. relatedb relation p ≡ true) (shown t c) =
+      all-map {P = λ p. Stands p c × (relatedb relation p ≡ true)} (λ p h. h .1) (shown t c) (own-lists t c) in
+      all-append (λ p. relatedb relation p ≡ true) (shown t c) _ own (related-through (answer t c .ticket .place) cs)
+
+  -- a related pair that stands unaltered in the lists of every accepted call, up to one that is done, has been handed out
+  pub none-lost : (cs : List Call) (c : Call) → AcceptedCall c → answer (ticketThrough (fresh-ticket relation order) cs) c .done ≡ true
+      → (p : Pair) → relatedb relation p ≡ true → All (λ k. AcceptedCall k → Stands p k) cs → Stands p c
+      → In p (shownThrough (fresh-ticket relation order) (cs ++ c ∷ []))
+  none-lost cs c a d p r s m =
+      rw (shown-through Fresh (cs ++ c ∷ []), map-append callOf cs (c ∷ []), called c a)
+      (none-lost-of (sortKey order) (map callOf cs) (fullListing relation order c) (room (c .out)) (all-mapped _ callOf cs (all-of ascending cs))
+      (sym (done-through Fresh cs c a) ∙ d) p (all-mapped _ callOf cs (all-map (stood p r) cs s))
+      (listed-iff relation order _ _ p .1 (m .0, m .1, r)))
+
+  -- no two pairs with the same starts are handed out
+  pub none-twice : (cs : List Call) → Pairs (λ p q. SameStarts p q → ⊥) (shownThrough (fresh-ticket relation order) cs)
+  none-twice cs =
+      let ps = shownThrough (fresh-ticket relation order) cs in
+      let keys = no-key-twice (sortKey order) (map callOf cs) (all-mapped _ callOf cs (all-of ascending cs)) in
+      pairs-passed (λ p. relatedb relation p ≡ true) (λ p q. SameStarts p q → ⊥) ps (related-through Fresh cs)
+      (pairs-map (λ p q h r s e. h (same-key relation order p q r s e)) ps
+      (subst (Pairs (λ p q. sortKey order p ≡ sortKey order q → ⊥)) (sym (shown-through Fresh cs)) keys))

@@ -1,0 +1,13 @@
+pub mod Accepted
+pub mod Answered
+pub mod Following
+pub mod Matching
+pub mod Opening
+pub mod Openings
+pub mod Rowing
+pub mod Running
+pub mod Shown
+pub mod Swept
+pub mod Tops
+pub mod Turns
+pub mod Paged

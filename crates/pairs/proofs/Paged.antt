@@ -1,0 +1,78 @@
+-- Serving what remains from the beginning shows the first of it that fits, and the place of the last pair can be read off the output.
+-- A call that is done because its room is full, or whose place lies past what it wrote, would fall here.
+use mathlib.Core.Path.{_≡_, refl, ap, _∙_}
+use mathlib.Core.Bool.{Bool, false}
+use mathlib.Core.List.{List, [], flatMap}
+use Prim.Native.Nat.{ℕ, _≤_, zero-le}
+use lib.Dec.{eqb}
+use lib.ListN.{length, take}
+use borrow.Author.Tests.{eq-eqb, ne-eqb}
+use Rattle.nodes.specs.Answer.{TAKEN}
+use Rattle.nodes.specs.Words.{nodes, wordsOf}
+use Rattle.lists.specs.declared.verdict.Verdict.{Verdict}
+use Rattle.lists.specs.Two.{refusedb, checkTwo}
+use Rattle.paging.specs.Page.{remains, handed, doneb, reached}
+use Rattle.paging.specs.Serve.{serve}
+use Rattle.paging.specs.Written.{wordsIn, written}
+use Rattle.paging.proofs.Serving.{serve-count, serve-length, serve-shows}
+use Rattle.tickets.specs.declared.ticket.Ticket.{Ticket}
+use Rattle.tickets.specs.Listing.{Pair, sortKey}
+use Rattle.tickets.specs.Row.{PAIR-WORDS, pairWords, room}
+use Rattle.tickets.specs.Ticket.{ticket, spotOf}
+use Rattle.pairs.specs.declared.page.Page.{Page}
+use Rattle.pairs.specs.Page.{listingOf, handedOut, saysDone, ticketAfter, pageOf, outputAfter}
+use Rattle.pairs.specs.Sweep.{placeIn}
+use Rattle.pairs.proofs.Shown.{last-place}
+
+abbrev pub answered : Verdict → ℕ → Bool → Ticket → Page
+answered v count done t = record { verdict = v; count = count; done = done; ticket = t }
+
+module _ (as′ ds : List ℕ) (t : Ticket) (out : List ℕ) where
+  -- what remains for the ticket
+  abbrev pub remaining : List Pair
+  remaining = remains (sortKey (t .order)) (spotOf (t .place)) (listingOf t as′ ds)
+
+  -- a refused call answers nothing but the verdict
+  pub page-refused : (v : Verdict) → v ≡ checkTwo as′ ds → (v .answer ≡ TAKEN → ⊥)
+      → (answered v 0 false t ≡ pageOf as′ ds t out) × (out ≡ outputAfter as′ ds t out)
+  unfolding pageOf outputAfter handedOut saysDone ticketAfter refusedb reached wordsIn written flatMap
+  page-refused v q h =
+      let r = ne-eqb (checkTwo as′ ds .answer) TAKEN (λ e. h (ap (λ w. w .answer) q ∙ e)) in
+      (ap (λ w. answered w 0 false t) q ∙ rw r refl, rw r refl)
+
+  module _ (taken : checkTwo as′ ds .answer ≡ TAKEN) where
+    -- an accepted call hands out the first that remain, as many as fit, and is done if that is all
+    handed-first : handedOut as′ ds t out ≡ take (room out) remaining
+    unfolding handedOut refusedb handed
+    handed-first = rw (eq-eqb (checkTwo as′ ds .answer) TAKEN taken) refl
+
+    done-all : saysDone as′ ds t out ≡ eqb (length (take (room out) remaining)) (length remaining)
+    unfolding saysDone refusedb doneb handed
+    done-all = rw (eq-eqb (checkTwo as′ ds .answer) TAKEN taken) refl
+
+    -- the place read off the output is the one that the pairs reach
+    place-read : (u : Ticket) → u ≡ ticket (t .relation) (t .order) (placeIn (t .order) (t .place) (nodes (outputAfter as′ ds t out)) (length (handedOut as′ ds t out)))
+        → u ≡ ticketAfter as′ ds t out
+    unfolding outputAfter ticketAfter written
+    place-read u p = p ∙ ap (ticket (t .relation) (t .order)) (last-place (t .order) (t .place) (handedOut as′ ds t out) _)
+
+  module _ (out′ : List ℕ) (count : ℕ) (done : Bool) (s : (out′, count, done) ≡ serve pairWords PAIR-WORDS out 0 remaining) where
+    -- no more was written than there is room for
+    pub written-in : count ≤ room out′
+    written-in =
+        let kept : length out′ ≡ length out = ap (λ r. length (r .0)) s ∙ serve-length pairWords PAIR-WORDS out 0 remaining in
+        rw (kept, ap (λ r. r .1) s) (serve-count pairWords PAIR-WORDS out 0 remaining zero-le)
+
+    module _ (taken : checkTwo as′ ds .answer ≡ TAKEN) where
+      all-shown : _≡_ {A = List ℕ × ℕ × Bool} (out′, count, done) (outputAfter as′ ds t out, length (handedOut as′ ds t out), saysDone as′ ds t out)
+      unfolding outputAfter pairWords wordsOf
+      all-shown = s ∙ serve-shows pairWords PAIR-WORDS (λ p. refl) out remaining ∙ rw (handed-first taken, done-all taken) refl
+
+      pub page-made : (v : Verdict) (u : Ticket) → v ≡ checkTwo as′ ds
+          → u ≡ ticket (t .relation) (t .order) (placeIn (t .order) (t .place) (nodes out′) count)
+          → (answered v count done u ≡ pageOf as′ ds t out) × (out′ ≡ outputAfter as′ ds t out)
+      unfolding pageOf
+      page-made v u q p =
+          let e = all-shown in
+          let w = place-read taken u (p ∙ ap (λ r. ticket (t .relation) (t .order) (placeIn (t .order) (t .place) (nodes (r .0)) (r .1))) e) in
+          (λ i. answered (q i) (e i .1) (e i .2) (w i), ap (λ r. r .0) e)

@@ -1,0 +1,42 @@
+-- The row that comes to be is a chain no longer than its head is deep, so there is a place for the head on the stack.
+-- An ancestor stored one place off, or one whose level does not rise, falls at the return.
+use borrow.Author.Needs.{needs}
+use mathlib.Core.Path.{_≡_, sym, ap, _∙_}
+use mathlib.Core.List.{List, _∷_}
+use Prim.Native.Nat.{ℕ, suc, _+_, _≤_, _<_}
+use native.Mathlib.Omega.{arith}
+use denote.Ref.{now}
+use lib.ListN.{length}
+use Rattle.nodes.specs.declared.node.Node.{Node}
+use Rattle.nodes.specs.Node.{MOST-LEVELS}
+use Rattle.nodes.specs.Words.{nodes}
+use Rattle.lists.specs.Walk.{firsts, unended, Chain}
+use Rattle.lists.proofs.WalkLaws.{length-firsts, firsts-put, chain-length}
+use Rattle.pairs.proofs.open.put_on_top.Statement.{statement}
+use Rattle.pairs.proofs.open.put_on_top.Tie as tie
+
+left-below : (ws : List ℕ) (depth left : ℕ) (n : Node) → n .level ≤ MOST-LEVELS → Chain (n ∷ unended n (firsts depth (nodes ws)))
+    → firsts left (nodes ws) ≡ unended n (firsts depth (nodes ws)) → left < MOST-LEVELS
+left-below ws depth left n l c e =
+    let h = chain-length n (unended n (firsts depth (nodes ws))) c in
+    omega (arith, h, sym (length-firsts left (nodes ws)) ∙ ap length e)
+
+still-open-requires : tie.Need-still-open-requires
+still-open-requires c κs = search needs
+
+put-node-requires : tie.Need-put-node-requires
+put-node-requires c κs = search needs
+
+add-result : tie.Need-add-result
+add-result c = let h = left-below _ _ _ _ (c .before .before .before .before .pre .0) (c .before .before .before .before .pre .1) (c .before .before .still-open .ensures .1) in omega arith
+
+returns : tie.Need-returns
+returns c =
+    let a = c .before .before .before .before .args in
+    let p = c .before .before .before .before .pre in
+    let e = c .before .before .still-open .ensures .1 in
+    let h = left-below (now (a .stack)) (a .depth) _ (a .ancestor) (p .0) (p .1) e in
+    (omega arith, firsts-put (now (a .stack)) _ _ (a .ancestor) (omega (arith, c .before .put-node-arg .given)) (c .put-node .ensures) ∙ ap (λ es. a .ancestor ∷ es) e)
+
+pub put-on-top-spec : {M : Type 1} → statement M
+put-on-top-spec = tie.close (tie.spec still-open-requires put-node-requires add-result returns)

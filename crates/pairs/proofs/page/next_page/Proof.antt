@@ -1,0 +1,45 @@
+-- A refused call returns before anything is written; an accepted one serves what remains, and what was served is the page.
+-- A call that is done when its room is full, moves no place, or touches a refused output falls at a return.
+use borrow.Author.Needs.{needs}
+use mathlib.Core.Path.{ap, sym, _∙_}
+use native.Mathlib.Omega.{arith}
+use denote.Ref.{now}
+use Rattle.pairs.proofs.Paged.{page-refused, written-in, page-made}
+use Rattle.pairs.proofs.page.next_page.Statement.{statement}
+use Rattle.pairs.proofs.page.next_page.Tie as tie
+
+check-two-requires : tie.Need-check-two-requires
+check-two-requires c κs = search needs
+
+returns : tie.Need-returns
+returns c =
+    let a = c .before .before .before .before .before .before .args in
+    page-refused (now (a .ancestors)) (now (a .descendants)) (a .ticket) (now (a .out)) _ (c .before .before .check-two .ensures) (λ h. omega arith)
+
+sweep-requires : tie.Need-sweep-requires
+sweep-requires c κs = sym (ap (λ v. v .answer) (c .before .before .before .check-two .ensures)) ∙ omega arith
+
+ticket-after-requires : tie.Need-ticket-after-requires
+ticket-after-requires c κs =
+    let a = c .before .before .before .before .before .before .before .before .before .before .before .args in
+    written-in (now (a .ancestors)) (now (a .descendants)) (a .ticket) (now (a .out)) _ _ _ (c .before .before .before .sweep .ensures)
+
+same-length : tie.Need-same-length
+same-length c = search needs
+
+returns-2 : tie.Need-returns-2
+returns-2 c =
+    let a = c .before .before .before .before .before .before .before .before .before .before .before .before .args in
+    let v = c .before .before .before .before .before .before .before .before .check-two .ensures in
+    page-made (now (a .ancestors)) (now (a .descendants)) (a .ticket) (now (a .out)) _ _ _ (c .before .before .before .before .sweep .ensures) (sym (ap (λ w. w .answer) v) ∙ omega arith) _ _ v (c .ticket-after .ensures)
+
+pub next-page-spec : {M : Type 1} → statement M
+next-page-spec =
+    tie.close
+    (tie.spec
+    check-two-requires
+    returns
+    sweep-requires
+    ticket-after-requires
+    same-length
+    returns-2)

@@ -1,0 +1,47 @@
+-- The place is the old one where nothing was written, and else the key of the last pair.
+-- A place that stays although pairs were written, or one of another pair, falls at a return.
+use borrow.Author.Needs.{needs}
+use mathlib.Core.Path.{_≡_, refl, ap, sym, _∙_}
+use mathlib.Core.List.{List}
+use Prim.Native.Nat.{ℕ, _-_}
+use native.Mathlib.Omega.{arith}
+use denote.Ref.{now}
+use borrow.Author.Tests.{eq-eqb, ne-eqb}
+use Rattle.nodes.specs.declared.node.Node.{Node}
+use Rattle.nodes.specs.Words.{nodes}
+use Rattle.tickets.specs.declared.ticket.Key.{Key}
+use Rattle.tickets.specs.declared.ticket.Place.the-variants.{After}
+use Rattle.tickets.specs.declared.ticket.Ticket.{Ticket}
+use Rattle.tickets.specs.Ticket.{ticket}
+use Rattle.pairs.specs.Sweep.{keyIn, placeIn}
+use Rattle.pairs.proofs.page.ticket_after.Statement.{statement}
+use Rattle.pairs.proofs.page.ticket_after.Tie as tie
+
+stays : (old : Ticket) (ns : List Node) (count : ℕ) → count ≡ 0
+    → old ≡ ticket (old .relation) (old .order) (placeIn (old .order) (old .place) ns count)
+unfolding placeIn
+stays old ns count q = rw (eq-eqb count 0 q) refl
+
+moves : (old : Ticket) (ns : List Node) (count : ℕ) (k : Key) → (count ≡ 0 → ⊥) → k ≡ keyIn (old .order) ns (count - 1)
+    → ticket (old .relation) (old .order) (After k) ≡ ticket (old .relation) (old .order) (placeIn (old .order) (old .place) ns count)
+unfolding placeIn
+moves old ns count k h q = rw (ne-eqb count 0 h) (ap (λ j. ticket (old .relation) (old .order) (After j)) q)
+
+returns : tie.Need-returns
+returns c =
+    let a = c .before .before .args in
+    stays (a .old) (nodes (now (a .out))) (a .count) (omega arith)
+
+sub-key-at : tie.Need-sub-key-at
+sub-key-at c = search needs
+
+key-at-requires : tie.Need-key-at-requires
+key-at-requires c κs = search needs
+
+returns-2 : tie.Need-returns-2
+returns-2 c =
+    let a = c .before .before .before .args in
+    moves (a .old) (nodes (now (a .out))) (a .count) _ (omega arith) (c .key-at .ensures)
+
+pub ticket-after-spec : {M : Type 1} → statement M
+ticket-after-spec = tie.close (tie.spec returns sub-key-at key-at-requires returns-2)

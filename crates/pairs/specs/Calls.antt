@@ -1,0 +1,72 @@
+-- One listing followed through calls, as its caller sees it: by the answers, and by the outputs on return.
+use Prim.Native.Nat.{ℕ}
+use mathlib.Core.Path.{_≡_}
+use mathlib.Core.List.{List, [], _∷_, _++_}
+use lib.ListN.{take}
+use Rattle.nodes.specs.declared.node.Node.{Node}
+use Rattle.nodes.specs.Answer.{TAKEN}
+use Rattle.nodes.specs.Choose.{In}
+use Rattle.nodes.specs.Words.{nodes}
+use Rattle.lists.specs.Two.{checkTwo}
+use Rattle.tickets.specs.declared.ticket.Order.{Order}
+use Rattle.tickets.specs.declared.ticket.Place.the-variants.{Fresh}
+use Rattle.tickets.specs.declared.ticket.Relation.{Relation}
+use Rattle.tickets.specs.declared.ticket.Ticket.{Ticket}
+use Rattle.tickets.specs.Listing.{Pair, listing}
+use Rattle.tickets.specs.Ticket.{ticket}
+use Rattle.pairs.specs.declared.page.Page.{Page}
+use Rattle.pairs.specs.Page.{pageOf, outputAfter}
+
+-- what a call is lent beside its ticket: two lists and an output
+pub record Call : Type 0 where
+  pub ancestors : List ℕ
+  pub descendants : List ℕ
+  pub out : List ℕ
+
+-- the two lists are accepted
+abbrev pub AcceptedCall : Call → Type 0
+AcceptedCall c = checkTwo (c .ancestors) (c .descendants) .answer ≡ TAKEN
+
+-- the full listing of the two lists
+abbrev pub fullListing : Relation → Order → Call → List Pair
+fullListing relation order c = listing relation order (nodes (c .ancestors)) (nodes (c .descendants))
+
+-- a pair stands unaltered in the two lists, each node in its own
+abbrev pub Stands : Pair → Call → Type 0
+Stands p c = In (p .ancestor) (nodes (c .ancestors)) × In (p .descendant) (nodes (c .descendants))
+
+-- two pairs have one document, and their ancestors and descendants start at the same places
+abbrev pub SameStarts : Pair → Pair → Type 0
+SameStarts p q =
+    (p .ancestor .document ≡ q .ancestor .document) × (p .ancestor .start ≡ q .ancestor .start) × (p .descendant .start ≡ q .descendant .start)
+
+-- a ticket with which a listing begins
+abbrev pub fresh-ticket : Relation → Order → Ticket
+fresh-ticket relation order = ticket relation order Fresh
+
+-- nodes read in twos, an ancestor and then a descendant
+unfoldable pub pairsIn : List Node → List Pair
+pairsIn [] = []
+pairsIn (x ∷ []) = []
+pairsIn (x ∷ y ∷ ns) = record { ancestor = x; descendant = y } ∷ pairsIn ns
+
+-- what a call answers, and its output on return
+abbrev pub answer : Ticket → Call → Page
+answer t c = pageOf (c .ancestors) (c .descendants) t (c .out)
+
+abbrev pub output : Ticket → Call → List ℕ
+output t c = outputAfter (c .ancestors) (c .descendants) t (c .out)
+
+-- the pairs that a call hands out: the first of its output, as many as it counts
+abbrev pub shown : Ticket → Call → List Pair
+shown t c = take (answer t c .count) (pairsIn (nodes (output t c)))
+
+-- the ticket after a sequence of calls, each of which takes the ticket that the last one returned
+unfoldable pub ticketThrough : Ticket → List Call → Ticket
+ticketThrough t [] = t
+ticketThrough t (c ∷ cs) = ticketThrough (answer t c .ticket) cs
+
+-- all pairs that a sequence of calls hands out, in the order in which they came
+unfoldable pub shownThrough : Ticket → List Call → List Pair
+shownThrough t [] = []
+shownThrough t (c ∷ cs) = shown t c ++ shownThrough (answer t c .ticket) cs

@@ -1,0 +1,45 @@
+-- Document 01, "Listings and tickets": what a page call answers and writes.
+use Prim.Native.Nat.{ℕ}
+use mathlib.Core.Bool.{Bool, false, cond}
+use mathlib.Core.List.{List, []}
+use lib.ListN.{length}
+use Rattle.nodes.specs.Words.{nodes}
+use Rattle.lists.specs.Two.{refusedb, checkTwo}
+use Rattle.paging.specs.Page.{handed, doneb, reached}
+use Rattle.paging.specs.Written.{wordsIn, written}
+use Rattle.tickets.specs.declared.ticket.Place.the-variants.{After}
+use Rattle.tickets.specs.declared.ticket.Ticket.{Ticket}
+use Rattle.tickets.specs.Listing.{Pair, keyOf, sortKey, listing}
+use Rattle.tickets.specs.Row.{pairWords, room}
+use Rattle.tickets.specs.Ticket.{ticket, spotOf}
+use Rattle.pairs.specs.declared.page.Page.{Page}
+
+-- the full listing that a ticket asks for
+abbrev pub listingOf : Ticket → List ℕ → List ℕ → List Pair
+listingOf t ancestors descendants = listing (t .relation) (t .order) (nodes ancestors) (nodes descendants)
+
+-- one call: its two lists, its ticket and its output
+module _ (ancestors descendants : List ℕ) (t : Ticket) (out : List ℕ) where
+  -- the pairs that the call hands out: a refused one none, an accepted one the first that remain, as many as fit
+  unfoldable pub handedOut : List Pair
+  handedOut =
+      cond (refusedb (checkTwo ancestors descendants)) []
+      (handed (sortKey (t .order)) (spotOf (t .place)) (room out) (listingOf t ancestors descendants))
+
+  -- done: the call is accepted and wrote all that remained
+  unfoldable pub saysDone : Bool
+  saysDone =
+      cond (refusedb (checkTwo ancestors descendants)) false
+      (doneb (sortKey (t .order)) (spotOf (t .place)) (room out) (listingOf t ancestors descendants))
+
+  -- the ticket that comes back: its place is the key of the last pair written, or the old place when none was
+  unfoldable pub ticketAfter : Ticket
+  ticketAfter = ticket (t .relation) (t .order) (reached (λ p. After (keyOf (t .order) p)) (t .place) handedOut)
+
+  -- the answer
+  unfoldable pub pageOf : Page
+  pageOf = record { verdict = checkTwo ancestors descendants; count = length handedOut; done = saysDone; ticket = ticketAfter }
+
+  -- the output on return
+  unfoldable pub outputAfter : List ℕ
+  outputAfter = written (wordsIn pairWords handedOut) out

@@ -1,0 +1,111 @@
+// A page of a listing.
+use crate::ancestors::sweep_ancestors;
+use crate::descendants::sweep_descendants;
+use lists::two::check_two;
+use lists::verdict::Verdict;
+use nodes::answer::TAKEN;
+use nodes::node::node_at;
+use tickets::row::Handed;
+use tickets::ticket::Key;
+use tickets::ticket::Order;
+use tickets::ticket::Place;
+use tickets::ticket::Ticket;
+ghost use mathlib.Core.Path.{_≡_};
+ghost use Prim.Native.Nat.{_≤_};
+ghost use Rattle.nodes.specs.Answer.{TAKEN};
+ghost use Rattle.nodes.specs.Words.{nodes};
+ghost use Rattle.lists.specs.Two.{checkTwo};
+ghost use Rattle.paging.specs.Page.{remains};
+ghost use Rattle.paging.specs.Serve.{serve};
+ghost use Rattle.tickets.specs.Listing.{sortKey};
+ghost use Rattle.tickets.specs.Row.{PAIR-WORDS, pairWords, room};
+ghost use Rattle.tickets.specs.Ticket.{ticket, spotOf};
+ghost use Rattle.pairs.specs.Page.{listingOf, pageOf, outputAfter};
+ghost use Rattle.pairs.specs.Sweep.{keyIn, placeIn};
+
+// What a page call answers: the verdict on its two lists, how many pairs it wrote, whether that was all that remained, and the ticket for
+// the next page.
+pub struct Page {
+    pub verdict: Verdict,
+    pub count: usize,
+    pub done: bool,
+    pub ticket: Ticket,
+}
+
+// What remains of the listing that a ticket asks for is handed out, as much as fits.
+fn sweep(ancestors: &[u32], descendants: &[u32], ticket: Ticket, out: &mut [u32]) -> Handed
+    requires { ⌜ checkTwo (now ancestors) (now descendants) .answer ≡ TAKEN ⌝ }
+    ensures { λ r. ⌜ (now (out .exit), r .count, r .done) ≡ serve pairWords PAIR-WORDS (now (out .entry)) 0
+        (remains (sortKey (ticket .order)) (spotOf (ticket .place)) (listingOf ticket (now (ancestors .entry)) (now (descendants .entry)))) ⌝ }
+{
+    let relation = ticket.relation;
+    let order = ticket.order;
+    let place = ticket.place;
+    match order {
+        Order::Descendant => sweep_descendants(ancestors, descendants, relation, place, out),
+        Order::Ancestor => sweep_ancestors(ancestors, descendants, relation, place, out),
+    }
+}
+
+// The key of a pair at an index of the output.
+fn key_at(order: Order, out: &[u32], index: usize) -> Key
+    requires { ⌜ index ≤ room (now out) ⌝ }
+    ensures { λ r. ⌜ r ≡ keyIn order (nodes (now (out .entry))) index ⌝ }
+{
+    let ancestor = node_at(out, 2 * index);
+    let descendant = node_at(out, 2 * index + 1);
+    match order {
+        Order::Descendant => Key {
+            document: descendant.document,
+            leader: descendant.start,
+            follower: ancestor.start,
+        },
+        Order::Ancestor => Key {
+            document: ancestor.document,
+            leader: ancestor.start,
+            follower: descendant.start,
+        },
+    }
+}
+
+// The ticket after so many pairs were written: its place is the key of the last of them, or the old place when there was none.
+fn ticket_after(old: Ticket, out: &[u32], count: usize) -> Ticket
+    requires { ⌜ count ≤ room (now out) ⌝ }
+    ensures { λ r. ⌜ r ≡ ticket (old .relation) (old .order) (placeIn (old .order) (old .place) (nodes (now (out .entry))) count) ⌝ }
+{
+    if count == 0 {
+        return old;
+    }
+    let relation = old.relation;
+    let order = old.order;
+    let key = key_at(order, out, count - 1);
+    Ticket {
+        relation: relation,
+        order: order,
+        place: Place::After(key),
+    }
+}
+
+// The caller gets the next page of a listing: the first pairs past the ticket's place, as many as the output holds, and a ticket for what is
+// left. A call whose lists are refused hands out nothing, returns its ticket and alters no word of the output.
+pub fn next_page(ancestors: &[u32], descendants: &[u32], ticket: Ticket, out: &mut [u32]) -> Page
+    ensures { λ r. ⌜ (r ≡ pageOf (now (ancestors .entry)) (now (descendants .entry)) ticket (now (out .entry)))
+        × (now (out .exit) ≡ outputAfter (now (ancestors .entry)) (now (descendants .entry)) ticket (now (out .entry))) ⌝ }
+{
+    let verdict = check_two(ancestors, descendants);
+    if verdict.answer != TAKEN {
+        return Page {
+            verdict: verdict,
+            count: 0,
+            done: false,
+            ticket: ticket,
+        };
+    }
+    let handed = sweep(ancestors, descendants, ticket, out);
+    Page {
+        verdict: verdict,
+        count: handed.count,
+        done: handed.done,
+        ticket: ticket_after(ticket, out, handed.count),
+    }
+}

@@ -1,0 +1,8 @@
+-- Theorems for the reader: `Listed` says which pairs are listed, that they ascend, and that none comes twice; `Only` says that no second
+-- answer satisfies a public contract. Laws for the code: `First` is what a search through nodes has passed, `Places` how a leader's pairs lie
+-- to a place, `Rows` what remains of a listing row by row.
+pub mod First
+pub mod Listed
+pub mod Only
+pub mod Places
+pub mod Rows

@@ -1,0 +1,55 @@
+-- Document 01, "Listings and tickets": the full listing, over both orders and both relations.
+use Prim.Native.Nat.{ℕ}
+use mathlib.Core.Bool.{Bool}
+use mathlib.Core.List.{List, [], _∷_, _++_, map}
+use Rattle.nodes.specs.declared.node.Node.{Node}
+use Rattle.nodes.specs.Choose.{keep}
+use Rattle.nodes.specs.Node.{insideb, directlyb}
+use Rattle.tickets.specs.declared.ticket.Key.{Key}
+use Rattle.tickets.specs.declared.ticket.Order.{Order}
+use Rattle.tickets.specs.declared.ticket.Order.the-variants.{Descendant, Ancestor}
+use Rattle.tickets.specs.declared.ticket.Relation.{Relation}
+use Rattle.tickets.specs.declared.ticket.Relation.the-variants.{Inside, Directly}
+use Rattle.tickets.specs.Ticket.{keyWith, numbersOf}
+
+pub record Pair : Type 0 where
+  pub ancestor : Node
+  pub descendant : Node
+
+-- the pair has the relation asked for
+unfoldable pub relatedb : Relation → Pair → Bool
+relatedb Inside p = insideb (p .descendant) (p .ancestor)
+relatedb Directly p = directlyb (p .descendant) (p .ancestor)
+
+-- descendant order sorts by (document, descendant's start, ancestor's start), ancestor order by (document, ancestor's start, descendant's start)
+unfoldable pub keyOf : Order → Pair → Key
+keyOf Descendant p = keyWith (p .descendant .document) (p .descendant .start) (p .ancestor .start)
+keyOf Ancestor p = keyWith (p .ancestor .document) (p .ancestor .start) (p .descendant .start)
+
+-- the same as a list of numbers
+abbrev pub sortKey : Order → Pair → List ℕ
+sortKey order p = numbersOf (keyOf order p)
+
+-- the list whose nodes come first in the order, and the other one
+unfoldable pub leaders : {A : Type 0} → Order → A → A → A
+leaders Descendant ancestors descendants = descendants
+leaders Ancestor ancestors descendants = ancestors
+
+unfoldable pub followers : {A : Type 0} → Order → A → A → A
+followers Descendant ancestors descendants = ancestors
+followers Ancestor ancestors descendants = descendants
+
+-- the pair of a leader and a follower
+unfoldable pub pairOf : Order → Node → Node → Pair
+pairOf Descendant x y = record { ancestor = y; descendant = x }
+pairOf Ancestor x y = record { ancestor = x; descendant = y }
+
+-- each leader in turn with each follower
+unfoldable pub everyPair : Order → List Node → List Node → List Pair
+everyPair order [] ys = []
+everyPair order (x ∷ xs) ys = map (pairOf order x) ys ++ everyPair order xs ys
+
+-- every pair of an ancestor and a descendant with the relation asked for
+unfoldable pub listing : Relation → Order → List Node → List Node → List Pair
+listing relation order ancestors descendants =
+    keep (relatedb relation) (everyPair order (leaders order ancestors descendants) (followers order ancestors descendants))

@@ -1,0 +1,56 @@
+-- The part of a listing that one leader gives, and how it lies to a ticket's place.
+use Prim.Native.Nat.{ℕ, _/_}
+use mathlib.Core.Bool.{Bool, false, not}
+use mathlib.Core.List.{List, [], _∷_, _++_, map}
+use lib.ListN.{length, drop}
+use Rattle.nodes.specs.declared.node.Node.{Node}
+use Rattle.nodes.specs.Choose.{keep, firstAt}
+use Rattle.nodes.specs.Words.{wordsOf}
+use Rattle.paging.specs.Key.{aboveb}
+use Rattle.paging.specs.Page.{pastb}
+use Rattle.tickets.specs.declared.ticket.Order.{Order}
+use Rattle.tickets.specs.declared.ticket.Place.{Place}
+use Rattle.tickets.specs.declared.ticket.Place.the-variants.{Fresh, After}
+use Rattle.tickets.specs.declared.ticket.Relation.{Relation}
+use Rattle.tickets.specs.Listing.{Pair, relatedb, pairOf}
+use Rattle.tickets.specs.Ticket.{spotOf}
+
+-- how many words a pair takes: the ancestor's four and then the descendant's
+abbrev pub PAIR-WORDS : ℕ
+PAIR-WORDS = 8
+
+unfoldable pub pairWords : Pair → List ℕ
+pairWords p = wordsOf (p .ancestor) ++ wordsOf (p .descendant)
+
+-- the room of an output: its whole eights of words
+abbrev pub room : List ℕ → ℕ
+room out = length out / PAIR-WORDS
+
+-- a leader with each follower
+unfoldable pub row : Order → Node → List Node → List Pair
+row order leader ns = map (pairOf order leader) ns
+
+-- the followers that have the relation asked for with a leader
+unfoldable pub matches : Relation → Order → Node → List Node → List Node
+matches relation order leader ns = keep (λ n. relatedb relation (pairOf order leader n)) ns
+
+-- the pair of a leader and a follower lies past a place: its document and two starts do, the leader's first
+unfoldable pub aheadb : Place → Node → Node → Bool
+aheadb place leader follower = pastb (spotOf place) (leader .document ∷ leader .start ∷ follower .start ∷ [])
+
+-- the index of the first follower whose pair lies past a place
+unfoldable pub firstAhead : Place → Node → List Node → ℕ
+firstAhead place leader ns = firstAt (aheadb place leader) ns
+
+-- a leader with each follower from the first one past a place on
+unfoldable pub rowPast : Order → Place → Node → List Node → List Pair
+rowPast order place leader ns = row order leader (drop (firstAhead place leader ns) ns)
+
+-- a leader stands before the leader of a place, so that none of its pairs lies past it
+unfoldable pub servedb : Place → Node → Bool
+servedb Fresh leader = false
+servedb (After k) leader = aboveb (k .document ∷ k .leader ∷ []) (leader .document ∷ leader .start ∷ [])
+
+-- how many leaders stand before the leader of a place
+unfoldable pub servedIn : Place → List Node → ℕ
+servedIn place ns = firstAt (λ x. not (servedb place x)) ns

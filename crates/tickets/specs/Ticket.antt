@@ -1,0 +1,25 @@
+-- Document 01, "Listings and tickets": a ticket holds the relation, the order and the place reached.
+use Prim.Native.Nat.{ℕ}
+use mathlib.Core.List.{List, [], _∷_}
+use Rattle.paging.specs.Page.{Spot, fresh, after}
+use Rattle.tickets.specs.declared.ticket.Key.{Key}
+use Rattle.tickets.specs.declared.ticket.Order.{Order}
+use Rattle.tickets.specs.declared.ticket.Place.{Place}
+use Rattle.tickets.specs.declared.ticket.Place.the-variants.{Fresh, After}
+use Rattle.tickets.specs.declared.ticket.Relation.{Relation}
+use Rattle.tickets.specs.declared.ticket.Ticket.{Ticket}
+
+abbrev pub ticket : Relation → Order → Place → Ticket
+ticket relation order place = record { relation = relation; order = order; place = place }
+
+abbrev pub keyWith : ℕ → ℕ → ℕ → Key
+keyWith document leader follower = record { document = document; leader = leader; follower = follower }
+
+-- the three numbers of a key
+abbrev pub numbersOf : Key → List ℕ
+numbersOf k = k .document ∷ k .leader ∷ k .follower ∷ []
+
+-- the values of each case of a place: fresh, or three numbers
+abbrev pub spotOf : Place → Spot
+spotOf Fresh = fresh
+spotOf (After k) = after (numbersOf k)

@@ -1,0 +1,46 @@
+// A ticket: what is listed, in which order, and how far the listing has been handed out.
+ghost use mathlib.Core.Path.{_≡_};
+ghost use Rattle.tickets.specs.Ticket.{ticket};
+
+// Which pairs are listed.
+pub enum Relation {
+    Inside,
+    Directly,
+}
+
+// In which order they come: by the descendants first, or by the ancestors first.
+pub enum Order {
+    Descendant,
+    Ancestor,
+}
+
+// The sort key of a pair: its document, where the node starts that comes first in the order, and where the other one starts.
+pub struct Key {
+    pub document: u32,
+    pub leader: u32,
+    pub follower: u32,
+}
+
+// The place reached: none yet, or the key of the last pair handed out.
+pub enum Place {
+    Fresh,
+    After(Key),
+}
+
+// What a caller keeps between two pages of a listing. Every ticket is usable, made up or not.
+pub struct Ticket {
+    pub relation: Relation,
+    pub order: Order,
+    pub place: Place,
+}
+
+// The caller gets the ticket that starts a listing.
+pub fn fresh(relation: Relation, order: Order) -> Ticket
+    ensures { λ r. ⌜ r ≡ ticket relation order Place.Fresh ⌝ }
+{
+    Ticket {
+        relation: relation,
+        order: order,
+        place: Place::Fresh,
+    }
+}
