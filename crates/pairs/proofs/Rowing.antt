@@ -24,9 +24,9 @@ use Rattle.tickets.specs.declared.ticket.Order.the-variants.{Descendant, Ancest
 use Rattle.tickets.specs.declared.ticket.Place.{Place}
 use Rattle.tickets.specs.declared.ticket.Relation.{Relation}
 use Rattle.tickets.specs.Listing.{relatedb, sortKey, pairOf}
-use Rattle.tickets.specs.Row.{PAIR-WORDS, pairWords, row, rowPast, matches}
+use Rattle.tickets.specs.Row.{PAIR-WORDS, pairWords, row, matches}
 use Rattle.tickets.specs.Ticket.{spotOf}
-use Rattle.tickets.proofs.Rows.{rest-of, rest-next, row-ahead}
+use Rattle.tickets.proofs.Rows.{rowPast, rest-of, rest-next, row-ahead}
 use Rattle.pairs.proofs.Matching.{related-inside}
 
 -- a leader and a follower of which one lies inside the other are of one document
@@ -70,7 +70,6 @@ pub stretch-served : (out : List ℕ) (written : ℕ) (order : Order) (place : P
     → Pairs (λ y z. y .start < z .start) zs → zs ≡ take (to - from) (drop from (nodes ws))
     → serve pairWords PAIR-WORDS out written (rowPast order place x (nodes (take (4 * to - 4 * from) (drop (4 * from) ws))))
     ≡ serve pairWords PAIR-WORDS out written (remains (sortKey order) (spotOf place) (row order x zs))
-unfolding rowPast
 stretch-served out written order place x zs ws from to rise q =
     ap (λ ns. serve pairWords PAIR-WORDS out written (rowPast order place x ns)) (nodes-part ws from to (4 * to - 4 * from) (omega arith) ∙ sym q)
     ∙ ap (serve pairWords PAIR-WORDS out written) (sym (row-ahead order place x zs rise))

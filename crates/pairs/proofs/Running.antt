@@ -29,10 +29,10 @@ use Rattle.tickets.specs.declared.ticket.Place.{Place}
 use Rattle.tickets.specs.declared.ticket.Relation.{Relation}
 use Rattle.tickets.specs.declared.ticket.Relation.the-variants.{Inside, Directly}
 use Rattle.tickets.specs.Listing.{Pair, relatedb, sortKey, leaders, followers, pairOf, everyPair, listing}
-use Rattle.tickets.specs.Row.{row, matches, rowPast, servedIn}
+use Rattle.tickets.specs.Row.{row, matches, servedIn}
 use Rattle.tickets.specs.Ticket.{spotOf}
 use Rattle.tickets.proofs.First.{first-in, first-failed, first-from, first-earlier}
-use Rattle.tickets.proofs.Rows.{rest-of, rest-served, row-ahead}
+use Rattle.tickets.proofs.Rows.{rowPast, rest-of, rest-served, row-ahead}
 use Rattle.pairs.specs.Sweep.{Running}
 use Rattle.pairs.proofs.Accepted.{accepted, all-at, pairs-at}
 use Rattle.pairs.proofs.Matching.{related-inside}

@@ -7,7 +7,9 @@ use nodes::node::is_open;
 use nodes::node::node_at;
 use nodes::node::node_count;
 use tickets::row::Handed;
-use tickets::row::hand_past;
+use tickets::row::first_ahead;
+use tickets::row::hand_row;
+use tickets::row::is_ahead;
 use tickets::row::served_count;
 use tickets::ticket::Order;
 use tickets::ticket::Place;
@@ -74,13 +76,14 @@ fn hand_run(
         (matches Relation.Inside Order.Ancestor ancestor (drop from (nodes (now (descendants .entry))))))) ⌝ }
 {
     let to = run_end(descendants, from, ancestor);
-    hand_past(
+    let run = &descendants[NODE_WORDS * from..NODE_WORDS * to];
+    let ahead = first_ahead(place, ancestor, run);
+    hand_row(
         out,
         written,
         Order::Ancestor,
-        place,
         ancestor,
-        &descendants[NODE_WORDS * from..NODE_WORDS * to],
+        &run[NODE_WORDS * ahead..],
     )
 }
 
@@ -104,11 +107,16 @@ fn hand_child(
             done: true,
         };
     }
-    hand_past(
+    if !is_ahead(place, ancestor, node_at(descendants, k)) {
+        return Handed {
+            count: written,
+            done: true,
+        };
+    }
+    hand_row(
         out,
         written,
         Order::Ancestor,
-        place,
         ancestor,
         &descendants[NODE_WORDS * k..NODE_WORDS * (k + 1)],
     )

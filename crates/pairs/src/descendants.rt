@@ -8,7 +8,8 @@ use nodes::node::is_one_deeper;
 use nodes::node::node_at;
 use nodes::node::node_count;
 use tickets::row::Handed;
-use tickets::row::hand_past;
+use tickets::row::first_ahead;
+use tickets::row::hand_row;
 use tickets::row::served_count;
 use tickets::ticket::Order;
 use tickets::ticket::Place;
@@ -51,17 +52,41 @@ fn first_match(relation: Relation, stack: &[u32], depth: usize, descendant: Node
 }
 
 // The pairs of one descendant with a stretch of the stack are handed out past the place.
-fn hand_stretch(out: &mut [u32], written: usize, place: Place, descendant: Node, stack: &[u32], from: usize, to: usize) -> Handed
+fn hand_stretch(
+    out: &mut [u32],
+    written: usize,
+    place: Place,
+    descendant: Node,
+    stack: &[u32],
+    from: usize,
+    to: usize,
+) -> Handed
     requires { ⌜ (from ≤ to) × (to ≤ count (now stack)) × Pairs (λ x y. x .start < y .start) (take (to - from) (drop from (nodes (now stack)))) ⌝ }
     ensures { λ r. ⌜ (now (out .exit), r .count, r .done) ≡ serve pairWords PAIR-WORDS (now (out .entry)) written
         (remains (sortKey Order.Descendant) (spotOf place)
         (row Order.Descendant descendant (take (to - from) (drop from (nodes (now (stack .entry))))))) ⌝ }
 {
-    hand_past(out, written, Order::Descendant, place, descendant, &stack[NODE_WORDS * from..NODE_WORDS * to])
+    let stretch = &stack[NODE_WORDS * from..NODE_WORDS * to];
+    let ahead = first_ahead(place, descendant, stretch);
+    hand_row(
+        out,
+        written,
+        Order::Descendant,
+        descendant,
+        &stretch[NODE_WORDS * ahead..],
+    )
 }
 
 // The pairs of one descendant with the ancestors on the stack, all of which contain it, are handed out past the place.
-fn hand_descendant(out: &mut [u32], written: usize, relation: Relation, place: Place, descendant: Node, stack: &[u32; STACK_WORDS], depth: usize) -> Handed
+fn hand_descendant(
+    out: &mut [u32],
+    written: usize,
+    relation: Relation,
+    place: Place,
+    descendant: Node,
+    stack: &[u32; STACK_WORDS],
+    depth: usize,
+) -> Handed
     requires { ⌜ (depth ≤ MOST-LEVELS) × Chain (firsts depth (nodes (now stack))) × Upon descendant (firsts depth (nodes (now stack)))
         × Pairs (λ x y. x .start < y .start) (reverse (matches relation Order.Descendant descendant (firsts depth (nodes (now stack))))) ⌝ }
     ensures { λ r. ⌜ (now (out .exit), r .count, r .done) ≡ serve pairWords PAIR-WORDS (now (out .entry)) written
@@ -74,7 +99,13 @@ fn hand_descendant(out: &mut [u32], written: usize, relation: Relation, place: P
 
 // What remains of the listing is handed out in descendant order. The sweep begins at the first descendant that may have pairs past the
 // place, and each descendant finds on the stack the ancestors that started before it and have not ended.
-pub(crate) fn sweep_descendants(ancestors: &[u32], descendants: &[u32], relation: Relation, place: Place, out: &mut [u32]) -> Handed
+pub(crate) fn sweep_descendants(
+    ancestors: &[u32],
+    descendants: &[u32],
+    relation: Relation,
+    place: Place,
+    out: &mut [u32],
+) -> Handed
     requires { ⌜ checkTwo (now ancestors) (now descendants) .answer ≡ TAKEN ⌝ }
     ensures { λ r. ⌜ (now (out .exit), r .count, r .done) ≡ serve pairWords PAIR-WORDS (now (out .entry)) 0
         (remains (sortKey Order.Descendant) (spotOf place)
@@ -93,7 +124,15 @@ pub(crate) fn sweep_descendants(ancestors: &[u32], descendants: &[u32], relation
         let opened = open_before(&mut stack, depth, passed, ancestors, descendant);
         depth = still_open(&stack, opened.depth, descendant);
         passed = opened.passed;
-        handed = hand_descendant(out, handed.count, relation, place, descendant, &stack, depth);
+        handed = hand_descendant(
+            out,
+            handed.count,
+            relation,
+            place,
+            descendant,
+            &stack,
+            depth,
+        );
         if !handed.done {
             return handed;
         }

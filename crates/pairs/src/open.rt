@@ -57,7 +57,13 @@ fn put_on_top(stack: &mut [u32; STACK_WORDS], depth: usize, ancestor: Node) -> u
 }
 
 // The ancestors that stand before the descendant are put onto the stack, one after the other.
-pub(crate) fn open_before(stack: &mut [u32; STACK_WORDS], depth: usize, passed: usize, ancestors: &[u32], descendant: Node) -> Opened
+pub(crate) fn open_before(
+    stack: &mut [u32; STACK_WORDS],
+    depth: usize,
+    passed: usize,
+    ancestors: &[u32],
+    descendant: Node,
+) -> Opened
     requires { ⌜ (checkWords (now ancestors) .answer ≡ TAKEN) × Opening (now ancestors) descendant depth passed (now stack) ⌝ }
     ensures { λ r. ⌜ Opening (now (ancestors .entry)) descendant (r .depth) (r .passed) (now (stack .exit))
         × All (λ a. afterb descendant a ≡ false) (drop (r .passed) (nodes (now (ancestors .entry)))) ⌝ }

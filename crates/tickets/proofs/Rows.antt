@@ -1,15 +1,18 @@
 -- What remains of a listing is what remains of its rows, and a row remains from its first follower past the place on.
 -- A row passed over that had a pair past the place, or a follower taken too early, would fall here.
-use Prim.Native.Nat.{_<_}
+use Prim.Native.Nat.{ℕ, _*_, _-_, _≤_, _<_}
 use mathlib.Core.Path.{_≡_, refl, ap, _∙_}
 use mathlib.Core.Bool.{Bool, true, false, cond}
 use mathlib.Core.List.{List, [], _∷_, _++_}
 use mathlib.Core.Logic.{inl, inr}
-use lib.ListN.{drop}
+use native.Mathlib.Omega.{arith}
+use lib.ListN.{length, take, drop}
 use Rattle.nodes.specs.declared.node.Node.{Node}
 use Rattle.nodes.specs.Choose.{All, Pairs, firstAt, keep}
 use Rattle.nodes.proofs.Choices.{all-map, all-of, keep-failed, keep-append, keep-none, keep-all, keep-all-of}
+use Rattle.nodes.specs.Words.{nodes, count}
 use Rattle.nodes.proofs.Tests.{either}
+use Rattle.nodes.proofs.WordLaws.{length-nodes, nodes-rest}
 use Rattle.paging.specs.Page.{pastb, remains}
 use Rattle.paging.proofs.PageLaws.{remains-append}
 use Rattle.tickets.specs.declared.ticket.Order.{Order}
@@ -17,8 +20,9 @@ use Rattle.tickets.specs.declared.ticket.Order.the-variants.{Descendant,
 use Rattle.tickets.specs.declared.ticket.Place.{Place}
 use Rattle.tickets.specs.declared.ticket.Relation.{Relation}
 use Rattle.tickets.specs.Listing.{Pair, relatedb, keyOf, sortKey, pairOf, everyPair}
-use Rattle.tickets.specs.Row.{row, aheadb, firstAhead, rowPast, servedb, servedIn}
+use Rattle.tickets.specs.Row.{row, aheadb, firstAhead, servedb, servedIn}
 use Rattle.tickets.specs.Ticket.{spotOf}
+use Rattle.tickets.proofs.First.{first-in}
 use Rattle.tickets.proofs.Places.{served-none, ahead-later}
 
 -- in either order the key is the leader's document and start and the follower's start
@@ -72,10 +76,14 @@ rest-served relation order place (x ∷ xs) ys =
       | inr s ↦ rw s refl
     ]
 
+-- a leader with each follower from the first one past a place on
+abbrev pub rowPast : Order → Place → Node → List Node → List Pair
+rowPast order place x ns = row order x (drop (firstAhead place x ns) ns)
+
 -- the followers' starts rise, so from the first that lies past the place on all do
 pub row-ahead : (order : Order) (place : Place) (x : Node) (zs : List Node) → Pairs (λ y z. y .start < z .start) zs
     → remains (sortKey order) (spotOf place) (row order x zs) ≡ rowPast order place x zs
-unfolding rowPast firstAhead firstAt remains keep row
+unfolding firstAhead firstAt remains keep row
 row-ahead order place x [] h = refl
 row-ahead order place x (y ∷ zs) h =
     elim (either (aheadb place x y)) [
@@ -88,3 +96,12 @@ pub row-one : (order : Order) (place : Place) (x y : Node)
     → remains (sortKey order) (spotOf place) (row order x (y ∷ [])) ≡ cond (aheadb place x y) (row order x (y ∷ [])) []
 unfolding remains keep row
 row-one order place x y = rw (row-past order place x y) refl
+
+-- the first follower past a place, found in words, stands in the list or at its end, and the rest of the words from there on has its nodes
+pub ahead-in : (place : Place) (x : Node) (ws : List ℕ) (k : ℕ) → k ≡ firstAhead place x (nodes ws) → k ≤ count ws
+unfolding firstAhead
+ahead-in place x ws k q = let h = first-in (aheadb place x) (nodes ws) in omega (arith, length-nodes ws)
+
+pub past-rest : (order : Order) (place : Place) (x : Node) (ws : List ℕ) (k : ℕ) → k ≡ firstAhead place x (nodes ws)
+    → row order x (nodes (take (length ws - 4 * k) (drop (4 * k) ws))) ≡ rowPast order place x (nodes ws)
+past-rest order place x ws k q = rw (nodes-rest ws k, q) refl

@@ -2,7 +2,7 @@
 use Prim.Native.Nat.{ℕ, _/_}
 use mathlib.Core.Bool.{Bool, false, not}
 use mathlib.Core.List.{List, [], _∷_, _++_, map}
-use lib.ListN.{length, drop}
+use lib.ListN.{length}
 use Rattle.nodes.specs.declared.node.Node.{Node}
 use Rattle.nodes.specs.Choose.{keep, firstAt}
 use Rattle.nodes.specs.Words.{wordsOf}
@@ -41,10 +41,6 @@ aheadb place leader follower = pastb (spotOf place) (leader .document ∷ leader
 -- the index of the first follower whose pair lies past a place
 unfoldable pub firstAhead : Place → Node → List Node → ℕ
 firstAhead place leader ns = firstAt (aheadb place leader) ns
-
--- a leader with each follower from the first one past a place on
-unfoldable pub rowPast : Order → Place → Node → List Node → List Pair
-rowPast order place leader ns = row order leader (drop (firstAhead place leader ns) ns)
 
 -- a leader stands before the leader of a place, so that none of its pairs lies past it
 unfoldable pub servedb : Place → Node → Bool

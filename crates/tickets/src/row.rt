@@ -6,11 +6,11 @@ use nodes::node::Node;
 use nodes::node::node_at;
 use nodes::node::node_count;
 ghost use mathlib.Core.Path.{_≡_};
-ghost use Prim.Native.Nat.{_-_, _<_, min};
+ghost use Prim.Native.Nat.{_<_};
 ghost use Rattle.nodes.specs.Words.{nodes};
 ghost use Rattle.paging.specs.Serve.{serve, store};
 ghost use Rattle.tickets.specs.Listing.{pairOf};
-ghost use Rattle.tickets.specs.Row.{PAIR-WORDS, pairWords, room, row, aheadb, firstAhead, rowPast, servedb, servedIn};
+ghost use Rattle.tickets.specs.Row.{PAIR-WORDS, pairWords, room, row, aheadb, firstAhead, servedb, servedIn};
 
 // How many words a pair takes in an output: the ancestor's and then the descendant's.
 pub const PAIR_WORDS: usize = 2 * NODE_WORDS;
@@ -48,19 +48,6 @@ fn put_pair(out: &mut [u32], index: usize, order: Order, leader: Node, follower:
     }
 }
 
-// How many of so many pairs find room behind those written.
-fn fitting(written: usize, most: usize, wanted: usize) -> usize
-    ensures { λ r. ⌜ r ≡ min wanted (most - written) ⌝ }
-{
-    if most <= written {
-        return 0;
-    }
-    if most - written < wanted {
-        return most - written;
-    }
-    wanted
-}
-
 // The caller gets the pairs of a leader with all followers written behind those that the output holds already, as many as fit.
 pub fn hand_row(
     out: &mut [u32],
@@ -71,15 +58,22 @@ pub fn hand_row(
 ) -> Handed
     ensures { λ r. ⌜ (now (out .exit), r .count, r .done) ≡ serve pairWords PAIR-WORDS (now (out .entry)) written (row order leader (nodes (now (followers .entry)))) ⌝ }
 {
-    let fit = fitting(written, out.len() / PAIR_WORDS, node_count(followers));
+    let mut count = written;
     let mut k = 0;
-    while k < fit {
-        put_pair(out, written + k, order, leader, node_at(followers, k));
+    while k < node_count(followers) {
+        if out.len() / PAIR_WORDS <= count {
+            return Handed {
+                count: count,
+                done: false,
+            };
+        }
+        put_pair(out, count, order, leader, node_at(followers, k));
+        count += 1;
         k += 1;
     }
     Handed {
-        count: written + fit,
-        done: fit == node_count(followers),
+        count: count,
+        done: true,
     }
 }
 
@@ -151,14 +145,4 @@ pub fn served_count(place: Place, leaders: &[u32]) -> usize
         k += 1;
     }
     k
-}
-
-// The caller gets the pairs of a leader with those followers that come from the first one past a place on, written behind those that the
-// output holds already, as many as fit.
-pub fn hand_past(out: &mut [u32], written: usize, order: Order, place: Place, leader: Node, followers: &[u32]) -> Handed
-    ensures { λ r. ⌜ (now (out .exit), r .count, r .done)
-        ≡ serve pairWords PAIR-WORDS (now (out .entry)) written (rowPast order place leader (nodes (now (followers .entry)))) ⌝ }
-{
-    let ahead = first_ahead(place, leader, followers);
-    hand_row(out, written, order, leader, &followers[NODE_WORDS * ahead..])
 }

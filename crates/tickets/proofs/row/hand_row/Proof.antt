@@ -1,99 +1,77 @@
 -- The invariant: handing out what is left of the row gives what handing out all of it gives. A follower that fits is stored behind those
--- before; the turns end where the room does or the followers do. A pair stored one off, or a follower skipped, falls at the next turn.
-use Prim.Native.Nat.{ℕ, _+_, _-_, _≤_, _<_, min, zero-le}
-use mathlib.Core.Path.{_≡_, refl, ap, _∙_}
-use mathlib.Core.Bool.{Bool, true}
-use mathlib.Core.List.{List, [], _∷_}
-use mathlib.Core.Logic.{inl, inr}
+-- before, and one that does not ends it. A pair stored one off, or a follower skipped, falls at the next turn.
+use borrow.Author.Needs.{needs}
+use Prim.Native.Nat.{ℕ, _+_, _-_, _≤_, _<_}
+use mathlib.Core.Path.{_≡_, refl, sym, _∙_}
+use mathlib.Core.Bool.{Bool, true, false}
+use mathlib.Core.List.{List}
 use native.Mathlib.Omega.{arith}
-use native.Mathlib.Nat.{add-zero, eq-or-lt-of-le}
-use lib.Dec.{eqb}
 use lib.ListN.{length, drop}
 use denote.Ref.{now}
-use borrow.Author.Needs.{needs}
-use borrow.Author.Tests.{eq-eqb, ne-eqb}
 use Rattle.nodes.specs.declared.node.Node.{Node}
 use Rattle.nodes.specs.Words.{nodes, count, nodeAt}
-use Rattle.nodes.proofs.WordLaws.{nodes-from, nodes-behind}
 use Rattle.paging.specs.Serve.{serve, store}
+use Rattle.nodes.proofs.WordLaws.{nodes-from, nodes-behind}
 use Rattle.paging.proofs.Serving.{serve-next, serve-full}
 use Rattle.tickets.specs.declared.ticket.Order.{Order}
-use Rattle.tickets.specs.Listing.{Pair, pairOf}
+use Rattle.tickets.specs.Listing.{pairOf}
 use Rattle.tickets.specs.Row.{PAIR-WORDS, pairWords, room, row}
 use Rattle.tickets.proofs.row.hand_row.Statement.{statement}
 use Rattle.tickets.proofs.row.hand_row.Tie as tie
 
-abbrev served : List ℕ → ℕ → List Pair → List ℕ × ℕ × Bool
-served out written ps = serve pairWords PAIR-WORDS out written ps
-
-serve-none : (out : List ℕ) (n : ℕ) → served out n [] ≡ (out, n, true)
-unfolding serve
-serve-none out n = refl
-
 module _ (order : Order) (x : Node) (ws : List ℕ) where
-  -- the row of the followers from an index on
-  rest : ℕ → List Pair
-  rest k = row order x (drop k (nodes ws))
-
-  rest-from : (k : ℕ) (y : Node) → k < count ws → y ≡ nodeAt ws k → rest k ≡ pairOf order x y ∷ rest (k + 1)
-  unfolding row rest
-  rest-from k y h q = rw (nodes-from ws k h, ← q) refl
-
-  rest-behind : (k : ℕ) → count ws ≤ k → rest k ≡ []
-  unfolding row rest
-  rest-behind k h = rw (nodes-behind ws k h) refl
-
-  started : (out : List ℕ) (written : ℕ) → served out (written + 0) (rest 0) ≡ served out written (row order x (nodes ws))
-  unfolding rest
-  started out written = ap (λ n. served out n (row order x (nodes ws))) (add-zero written)
+  -- the output, the count and whether all found room, once the followers from an index on are served
+  abbrev served : List ℕ → ℕ → ℕ → List ℕ × ℕ × Bool
+  served out written k = serve pairWords PAIR-WORDS out written (row order x (drop k (nodes ws)))
 
   -- a follower that fits is stored
-  turned : (out us : List ℕ) (written k : ℕ) (y : Node) → k < count ws → y ≡ nodeAt ws k → written + k < room out
-      → us ≡ store pairWords PAIR-WORDS out (written + k) (pairOf order x y)
-      → served us (written + (k + 1)) (rest (k + 1)) ≡ served out (written + k) (rest k)
+  turned : (out us : List ℕ) (written k : ℕ) (y : Node) → k < count ws → y ≡ nodeAt ws k → written < room out
+      → us ≡ store pairWords PAIR-WORDS out written (pairOf order x y) → served us (written + 1) (k + 1) ≡ served out written k
+  unfolding row
   turned out us written k y h q r e =
-      let n : written + (k + 1) ≡ written + k + 1 = omega arith in
-      rw (rest-from k y h q, serve-next pairWords PAIR-WORDS out (written + k) (pairOf order x y) (rest (k + 1)) r, e, n) refl
+      rw (nodes-from ws k h, ← q, e) (sym (serve-next pairWords PAIR-WORDS out written (pairOf order x y) (row order x (drop (k + 1) (nodes ws))) r))
 
-  -- all followers are stored, or there is no room for the next
-  ended : (out : List ℕ) (written fit k n : ℕ) → n ≡ count ws → fit ≡ min (count ws) (room out - written) → k ≤ fit → fit ≤ k
-      → _≡_ {A = List ℕ × ℕ × Bool} (out, written + fit, eqb fit n) (served out (written + k) (rest k))
-  ended out written fit k n q f h l =
-      let e : fit ≡ k = omega arith in
-      let below : k ≤ count ws = omega arith in
-      elim (eq-or-lt-of-le below) [
-        | inl p ↦ rw (rest-behind k (omega arith), serve-none out (written + k), q, e, eq-eqb _ _ p) refl
-        | inr p ↦ rw (rest-from k _ p refl, serve-full pairWords PAIR-WORDS out (written + k) (pairOf order x (nodeAt ws k)) (rest (k + 1)) (omega arith))
-            (rw (q, e, ne-eqb k (count ws) (omega arith)) refl)
-      ]
+  -- one that doesn't fit ends the row, and so does the last
+  full : (out : List ℕ) (written k : ℕ) → k < count ws → room out ≤ written
+      → _≡_ {A = List ℕ × ℕ × Bool} (out, written, false) (served out written k)
+  unfolding row
+  full out written k h r =
+      rw (nodes-from ws k h) (sym (serve-full pairWords PAIR-WORDS out written (pairOf order x (nodeAt ws k)) (row order x (drop (k + 1) (nodes ws))) r))
+
+  ended : (out : List ℕ) (written k : ℕ) → count ws ≤ k → _≡_ {A = List ℕ × ℕ × Bool} (out, written, true) (served out written k)
+  unfolding row serve
+  ended out written k h = rw (nodes-behind ws k h) refl
 
 abbrev Inv-loop : tie.InvT-loop
-Inv-loop out₀ written order leader followers fit k₀ out k =
-    (k ≤ fit) × (length out ≡ length out₀)
-    × (served out (written + k) (rest order leader followers k) ≡ served out₀ written (row order leader (nodes followers)))
+Inv-loop out₀ written order leader followers count₀ k₀ out n k =
+    (length out ≡ length out₀) × (served order leader followers out n k ≡ served order leader followers out₀ written 0)
 
 abbrev μ-loop : tie.MeasureT-loop
-μ-loop out₀ written order leader followers fit k₀ out k = fit - k
+μ-loop out₀ written order leader followers count₀ k₀ out n k = count followers - k
+
+loop-holds : tie.Need-loop-holds Inv-loop μ-loop
+loop-holds c = (refl, refl)
 
 node-count-requires : tie.Need-node-count-requires Inv-loop μ-loop
 node-count-requires c κs = search needs
 
-fitting-requires : tie.Need-fitting-requires Inv-loop μ-loop
-fitting-requires c κs = search needs
+same-length : tie.Need-same-length Inv-loop μ-loop
+same-length c = search needs
 
-loop-holds : tie.Need-loop-holds Inv-loop μ-loop
-loop-holds c =
-    let a = c .before .before .before .before .args in
-    (zero-le, refl, started (a .order) (a .leader) (now (a .followers)) (now (a .out)) (a .written))
-
-add-put-pair : tie.Need-add-put-pair Inv-loop μ-loop
-add-put-pair c = search needs
+returns : tie.Need-returns Inv-loop μ-loop
+returns c =
+    let a = c .before .before .before .before .before .before .args in
+    let l = c .before .before .before .loop in
+    full (a .order) (a .leader) (now (a .followers)) (l .out) (l .count) (l .k) (omega arith) (omega arith) ∙ l .inv .1
 
 node-at-requires : tie.Need-node-at-requires Inv-loop μ-loop
 node-at-requires c κs = search needs
 
 put-pair-requires : tie.Need-put-pair-requires Inv-loop μ-loop
 put-pair-requires c κs = omega arith
+
+add-count : tie.Need-add-count Inv-loop μ-loop
+add-count c = search needs
 
 add-k : tie.Need-add-k Inv-loop μ-loop
 add-k c = search needs
@@ -104,26 +82,18 @@ loop-less c = search needs
 loop-again : tie.Need-loop-again Inv-loop μ-loop
 loop-again c =
     let a = c .before .before .before .before .before .before .before .before .before .before .before .args in
-    let l = c .before .before .before .before .before .before .loop in
-    let node = c .before .before .before .node-at .ensures in
-    let t = turned (a .order) (a .leader) (now (a .followers)) (l .out) _ (a .written) (l .k) _ (omega arith) node (omega arith) (c .before .before .put-pair .ensures) in
-    (omega arith, omega arith, t ∙ l .inv .2)
+    let l = c .before .before .before .before .before .before .before .before .loop in
+    let t = turned (a .order) (a .leader) (now (a .followers)) (l .out) _ (l .count) (l .k) _ (omega arith) (c .before .before .before .node-at .ensures) (omega arith) (c .before .before .put-pair .ensures) in
+    (omega arith, t ∙ l .inv .1)
 
-add-t8 : tie.Need-add-t8 Inv-loop μ-loop
-add-t8 c = search needs
+same-length-2 : tie.Need-same-length-2 Inv-loop μ-loop
+same-length-2 c = search needs
 
-node-count-requires-2 : tie.Need-node-count-requires-2 Inv-loop μ-loop
-node-count-requires-2 c κs = search needs
-
-same-length : tie.Need-same-length Inv-loop μ-loop
-same-length c = search needs
-
-returns : tie.Need-returns Inv-loop μ-loop
-returns c =
-    let a = c .before .before .before .before .before .before .before .args in
+returns-2 : tie.Need-returns-2 Inv-loop μ-loop
+returns-2 c =
+    let a = c .before .before .before .before .before .args in
     let l = c .before .before .loop in
-    let n = c .node-count2 .ensures in
-    ended (a .order) (a .leader) (now (a .followers)) (l .out) (a .written) _ (l .k) _ n (omega (arith, l .inv .1)) (omega arith) (omega arith) ∙ l .inv .2
+    ended (a .order) (a .leader) (now (a .followers)) (l .out) (l .count) (l .k) (omega arith) ∙ l .inv .1
 
 pub hand-row-spec : {M : Type 1} → statement M
 hand-row-spec =
@@ -131,16 +101,15 @@ hand-row-spec =
     (tie.spec
     Inv-loop
     μ-loop
-    node-count-requires
-    fitting-requires
     loop-holds
-    add-put-pair
+    node-count-requires
+    same-length
+    returns
     node-at-requires
     put-pair-requires
+    add-count
     add-k
     loop-less
     loop-again
-    add-t8
-    node-count-requires-2
-    same-length
-    returns)
+    same-length-2
+    returns-2)
