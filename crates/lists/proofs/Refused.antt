@@ -13,6 +13,7 @@ use Rattle.nodes.specs.declared.node.Node.{Node}
 use Rattle.nodes.specs.Answer.{TAKEN}
 use Rattle.nodes.specs.Node.{insideb, apartb, afterb, openb, sameb, MOST-LEVELS}
 use Rattle.nodes.specs.Words.{NODE-WORDS, MOST-NODES, nodes, count}
+use Rattle.nodes.proofs.Choices.{all-in}
 use Rattle.nodes.proofs.Tests.{either, never, not-so, and-read, or-read, or-none, not-read}
 use Rattle.nodes.proofs.NodeLaws.{within, open-read, same-read, same-self}
 use Rattle.lists.specs.Check.{checkFrom, checkNodes, checkWords}
@@ -35,12 +36,8 @@ any-some test [] h f = absurd (never h refl)
 any-some test (x ∷ xs) h f =
     elim (or-read (test x) h) [ inl t ↦ f x (List·Memᴰ·head refl) t | inr k ↦ any-some test xs k (λ y m. f y (List·Memᴰ·tail m)) ]
 
--- what holds of all elements holds of one, and what holds of all pairs of one pair
-all-in : (P : Node → Type 0) {x : Node} (xs : List Node) → All P xs → In x xs → P x
-all-in P [] h m = absurd (List·Memᴰ·not-nil m)
-all-in P (y ∷ xs) h m = elim (List·Memᴰ·cases-cons m) [ inl e ↦ subst P (sym e) (h .0) | inr k ↦ all-in P xs (h .1) k ]
-
 module _ {e n : Node} where
+  -- what holds of all pairs holds of one
   pair-in : (R : Node → Node → Type 0) {ns : List Node} → Pairs R ns → Behind e n ns → R e n
   pair-in R h (here {x = x} {ns = ns} p m) = subst (λ z. R z n) (sym p) (all-in (R x) ns (h .0) m)
   pair-in R h (later b) = pair-in R (h .1) b

@@ -1,10 +1,10 @@
 -- `any` and `keep` go along a list once, so each fact is one short recursion.
 -- Nothing here knows a node; a test that passed over an element would fall here.
-use mathlib.Core.Path.{_≡_, refl, ap, _∙_, sym}
+use mathlib.Core.Path.{_≡_, refl, ap, sym, subst, _∙_}
 use mathlib.Core.Logic.{inl, inr}
 use mathlib.Core.Bool.{Bool, true, false}
-use mathlib.Core.List.{List, [], _∷_, _++_}
-use Rattle.nodes.specs.Choose.{All, any, keep}
+use mathlib.Core.List.{List, [], _∷_, _++_, List·Memᴰ·not-nil, List·Memᴰ·cases-cons}
+use Rattle.nodes.specs.Choose.{All, In, any, keep}
 use Rattle.nodes.proofs.Tests.{either, or-none}
 
 module _ {A : Type 0} where
@@ -19,6 +19,11 @@ module _ {A : Type 0} where
   pub all-both : {P Q R : A → Type 0} → ((x : A) → P x → Q x → R x) → (xs : List A) → All P xs → All Q xs → All R xs
   all-both f [] h k = tt
   all-both f (x ∷ xs) h k = (f x (h .0) (k .0), all-both f xs (h .1) (k .1))
+
+  -- what holds of all holds of one that stands in the list
+  pub all-in : (P : A → Type 0) {x : A} (xs : List A) → All P xs → In x xs → P x
+  all-in P [] h m = absurd (List·Memᴰ·not-nil m)
+  all-in P (y ∷ xs) h m = elim (List·Memᴰ·cases-cons m) [ inl e ↦ subst P (sym e) (h .0) | inr k ↦ all-in P xs (h .1) k ]
 
   -- no element passes a test that fails of the list
   pub any-none : (test : A → Bool) (xs : List A) → any test xs ≡ false → All (λ x. test x ≡ false) xs

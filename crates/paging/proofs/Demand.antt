@@ -11,13 +11,13 @@ use lib.ListN.{length, take, length-take}
 use lib.Seq.{take-all}
 use borrow.Author.Tests.{eqb-true, eqb-false}
 use Rattle.nodes.specs.Choose.{All, Pairs, In, keep}
-use Rattle.nodes.proofs.Choices.{all-map, keep-all-of}
+use Rattle.nodes.proofs.Choices.{all-in, all-map, keep-all-of}
 use Rattle.nodes.proofs.Tests.{never}
 use Rattle.paging.specs.Calls.{Call, refused, accepted, given, moved, placeAfter, allGiven}
 use Rattle.paging.specs.Key.{aboveb}
 use Rattle.paging.specs.Page.{Spot, fresh, after, pastb, remains, handed, doneb, reached}
 use Rattle.paging.proofs.KeyLaws.{above-self, above-trans}
-use Rattle.paging.proofs.PageLaws.{all-at, all-in, take-all-of, keep-in, keep-past, keep-pairs, pairs-map}
+use Rattle.paging.proofs.PageLaws.{each-in, take-all-of, keep-in, keep-past, keep-pairs, pairs-map}
 
 module _ {A : Type 0} (key : A → List ℕ) where
   -- strictly ascending by key
@@ -82,7 +82,7 @@ module _ {A : Type 0} (key : A → List ℕ) where
   run-split : (place : Spot) (n : ℕ) (xs : List A) → Run place xs → (x : A) → In x xs
       → In x (take n xs) ⊎ (pastb (reached (λ y. after (key y)) place (take n xs)) (key x) ≡ true)
   unfolding reached
-  run-split place zero xs r x m = inr (all-at (λ y. pastb place (key y) ≡ true) xs (run-past place xs r) x m)
+  run-split place zero xs r x m = inr (all-in (λ y. pastb place (key y) ≡ true) xs (run-past place xs r) m)
   run-split place (suc n) [] r x m = absurd (List·Memᴰ·not-nil m)
   run-split place (suc n) (y ∷ xs) r x m =
       elim (List·Memᴰ·cases-cons m) [
@@ -148,7 +148,7 @@ module _ {A : Type 0} (key : A → List ℕ) where
   pub own-listing : (place : Spot) (xs : List A) (room : ℕ) → All (λ x. In x xs) (handed key place room xs)
   unfolding handed remains
   own-listing place xs room =
-      take-all-of (λ x. In x xs) room (remains key place xs) (keep-all-of (λ x. In x xs) (λ x. pastb place (key x)) xs (all-in xs))
+      take-all-of (λ x. In x xs) room (remains key place xs) (keep-all-of (λ x. In x xs) (λ x. pastb place (key x)) xs (each-in xs))
 
   -- a call that isn't done fills its room
   pub fills-room : (place : Spot) (xs : List A) (room : ℕ) → doneb key place room xs ≡ false → length (handed key place room xs) ≡ room
@@ -157,8 +157,3 @@ module _ {A : Type 0} (key : A → List ℕ) where
       let kept = remains key place xs in
       let short : length (take room kept) ≡ length kept → ⊥ = eqb-false (length (take room kept)) (length kept) d in
       omega (arith, short, length-take room kept)
-
-  -- a refused call hands out nothing and leaves the place
-  pub refused-nothing : (place : Spot) → (given key place refused ≡ []) × (moved key place refused ≡ place)
-  unfolding given moved reached
-  refused-nothing place = (refl, refl)

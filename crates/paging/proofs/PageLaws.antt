@@ -1,6 +1,6 @@
 -- What remains is chosen item by item, so it follows the listing's parts, and the place reached follows the items handed out.
 -- An item that remained for what stands beside it, or a place that was not the last item's, would fall here.
-use mathlib.Core.Path.{_≡_, refl, sym, subst}
+use mathlib.Core.Path.{_≡_, refl, subst}
 use mathlib.Core.Logic.{inl, inr}
 use mathlib.Core.Bool.{Bool, true}
 use mathlib.Core.List.{List, [], _∷_, _++_, List·Memᴰ·head, List·Memᴰ·tail, List·Memᴰ·cases-cons, List·Memᴰ·not-nil}
@@ -25,15 +25,10 @@ reached-map f mark place [] = refl
 reached-map f mark place (x ∷ xs) = reached-map f mark (mark x) xs
 
 module _ {A : Type 0} where
-  -- what holds of all items holds of each
-  pub all-at : (P : A → Type 0) (xs : List A) → All P xs → (x : A) → In x xs → P x
-  all-at P [] h x m = absurd (List·Memᴰ·not-nil m)
-  all-at P (y ∷ xs) h x m = elim (List·Memᴰ·cases-cons m) [ inl e ↦ subst P (sym e) (h .0) | inr k ↦ all-at P xs (h .1) x k ]
-
   -- each item of a list stands in it
-  pub all-in : (xs : List A) → All (λ x. In x xs) xs
-  all-in [] = tt
-  all-in (x ∷ xs) = (List·Memᴰ·head refl, all-map (λ y m. List·Memᴰ·tail m) xs (all-in xs))
+  pub each-in : (xs : List A) → All (λ x. In x xs) xs
+  each-in [] = tt
+  each-in (x ∷ xs) = (List·Memᴰ·head refl, all-map (λ y m. List·Memᴰ·tail m) xs (each-in xs))
 
   -- what holds of all items holds of the first n
   pub take-all-of : (P : A → Type 0) (n : ℕ) (xs : List A) → All P xs → All P (take n xs)

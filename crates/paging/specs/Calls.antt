@@ -1,8 +1,7 @@
 -- One listing followed through calls: each call has its own listing and room, or is refused, and takes the place that the last one reached.
 use Prim.Native.Nat.{ℕ}
-use mathlib.Core.Bool.{Bool, false}
 use mathlib.Core.List.{List, [], _∷_, _++_}
-use Rattle.paging.specs.Page.{Spot, after, handed, doneb, reached}
+use Rattle.paging.specs.Page.{Spot, after, handed, reached}
 
 -- a call: refused, or accepted with its full listing and its room
 pub data Call (A : Type 0) : Type 0 where

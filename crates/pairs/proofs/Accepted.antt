@@ -1,6 +1,6 @@
 -- Two lists that are accepted together are sound, ascend, and no node of one is at odds with a node of the other; so each earlier node is fine
 -- with each later one, at any index. An accepted pair of lists with a crossing would fall here.
-use mathlib.Core.Path.{_≡_, subst, sym}
+use mathlib.Core.Path.{_≡_}
 use mathlib.Core.Bool.{true, false}
 use mathlib.Core.List.{List, [], _∷_}
 use Prim.Native.Nat.{ℕ, zero, suc, _≤_, _<_}
@@ -10,13 +10,13 @@ use lib.ListN.{length, getD, drop}
 use lib.Seq.{drop-nil}
 use Rattle.nodes.specs.declared.node.Node.{Node}
 use Rattle.nodes.specs.Answer.{TAKEN}
-use Rattle.nodes.specs.Choose.{All, Pairs, In}
+use Rattle.nodes.specs.Choose.{All, Pairs}
 use Rattle.nodes.specs.Node.{afterb}
 use Rattle.nodes.specs.Words.{node, nodes}
 use Rattle.nodes.proofs.Choices.{all-map, all-both}
 use Rattle.nodes.proofs.NodeLaws.{after-trans}
 use Rattle.nodes.proofs.Tests.{never, not-so}
-use Rattle.lists.specs.Two.{oddsb, checkTwo}
+use Rattle.lists.specs.Two.{checkTwo}
 use Rattle.lists.specs.Walk.{firsts}
 use Rattle.lists.proofs.Faults.{Sound}
 use Rattle.lists.proofs.Merging.{Even, even-fine}

@@ -9,5 +9,4 @@ pub mod Running
 pub mod Shown
 pub mod Swept
 pub mod Tops
-pub mod Turns
 pub mod Paged

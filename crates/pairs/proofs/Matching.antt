@@ -10,7 +10,7 @@ use lib.ListN.{length, getD, take, drop, take-append-drop}
 use lib.Seq.{take-suc}
 use Rattle.nodes.specs.declared.node.Node.{Node}
 use Rattle.nodes.specs.Choose.{All, keep}
-use Rattle.nodes.specs.Node.{insideb, deeperb, directlyb, afterb, openb}
+use Rattle.nodes.specs.Node.{insideb, deeperb, directlyb, afterb}
 use Rattle.nodes.specs.Words.{node}
 use Rattle.nodes.proofs.Choices.{all-map, keep-append, keep-none, keep-all}
 use Rattle.nodes.proofs.NodeLaws.{directly-inside, inside-after, inside-open}

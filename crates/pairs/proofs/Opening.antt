@@ -3,24 +3,19 @@
 use mathlib.Core.Path.{_≡_, refl, subst, sym}
 use mathlib.Core.Logic.{inl, inr, ⊎-elim}
 use mathlib.Core.Bool.{true, false}
-use mathlib.Core.List.{List, [], _∷_, List·Memᴰ·head, List·Memᴰ·tail, List·Memᴰ·cases-cons}
+use mathlib.Core.List.{List, [], _∷_, List·Memᴰ·head, List·Memᴰ·tail}
 use native.Mathlib.Omega.{arith}
 use Rattle.nodes.specs.declared.node.Node.{Node}
 use Rattle.nodes.specs.Choose.{All, In}
 use Rattle.nodes.specs.Node.{afterb, openb}
-use Rattle.nodes.proofs.Choices.{all-map, all-both}
+use Rattle.nodes.proofs.Choices.{all-in, all-map}
 use Rattle.nodes.proofs.NodeLaws.{after-trans, open-read, shut-later}
 use Rattle.nodes.proofs.Tests.{either}
 use Rattle.lists.specs.Walk.{unended, Upon}
 use Rattle.lists.proofs.Faults.{Sound}
 use Rattle.lists.proofs.Keeping.{stands-later, stands-push, stands-left}
 use Rattle.lists.proofs.Taken.{Fine, nested-read, fine-settles}
-use Rattle.pairs.specs.Sweep.{From, Open}
-
--- what holds of all holds of one that stands in the list
-all-in : (P : Node → Type 0) {x : Node} (xs : List Node) → All P xs → In x xs → P x
-all-in P [] h m = elim m [ ]
-all-in P (y ∷ xs) h m = elim (List·Memᴰ·cases-cons m) [ inl e ↦ subst P (sym e) (h .0) | inr k ↦ all-in P xs (h .1) k ]
+use Rattle.pairs.specs.Sweep.{Open}
 
 -- what holds of all ancestors before holds of the row
 pub all-among : (P : Node → Type 0) {d : Node} {before s : List Node} → Open d before s → All P before → All P s

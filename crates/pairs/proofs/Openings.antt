@@ -1,6 +1,6 @@
 -- A sweep passes the ancestors in their order, and each that stands before the descendant fits onto those that are open at it.
 -- A stack that could overflow, or an ancestor that is passed without being put on it, would fall here.
-use mathlib.Core.Path.{_≡_, refl, sym, subst}
+use mathlib.Core.Path.{_≡_}
 use mathlib.Core.Bool.{true, false}
 use mathlib.Core.List.{List, _∷_}
 use Prim.Native.Nat.{ℕ, _+_, _-_, _≤_, _<_}

@@ -2,7 +2,7 @@
 -- A call that is done because its room is full, or whose place lies past what it wrote, would fall here.
 use mathlib.Core.Path.{_≡_, refl, ap, _∙_}
 use mathlib.Core.Bool.{Bool, false}
-use mathlib.Core.List.{List, [], flatMap}
+use mathlib.Core.List.{List, flatMap}
 use Prim.Native.Nat.{ℕ, _≤_, zero-le}
 use lib.Dec.{eqb}
 use lib.ListN.{length, take}

@@ -2,7 +2,7 @@
 use Prim.Native.Nat.{ℕ, _+_, _*_, _-_, _≤_}
 use mathlib.Core.Path.{_≡_}
 use mathlib.Core.Logic.{_⊎_}
-use mathlib.Core.Bool.{true, false, cond}
+use mathlib.Core.Bool.{Bool, true, false, cond}
 use mathlib.Core.List.{List}
 use lib.Dec.{eqb}
 use lib.ListN.{getD, drop}
@@ -14,11 +14,26 @@ use Rattle.nodes.specs.Words.{node, nodes, count}
 use Rattle.lists.specs.Check.{checkWords}
 use Rattle.lists.specs.Two.{oddsb}
 use Rattle.lists.specs.Walk.{firsts, Stands}
+use Rattle.paging.specs.Page.{remains}
+use Rattle.paging.specs.Serve.{serve}
 use Rattle.tickets.specs.declared.ticket.Key.{Key}
 use Rattle.tickets.specs.declared.ticket.Order.{Order}
 use Rattle.tickets.specs.declared.ticket.Place.{Place}
 use Rattle.tickets.specs.declared.ticket.Place.the-variants.{After}
-use Rattle.tickets.specs.Listing.{keyOf}
+use Rattle.tickets.specs.declared.ticket.Relation.{Relation}
+use Rattle.tickets.specs.Listing.{keyOf, sortKey, listing}
+use Rattle.tickets.specs.Row.{PAIR-WORDS, pairWords, row}
+use Rattle.tickets.specs.Ticket.{spotOf}
+
+-- the output, the count and whether all found room, once what remains of a leader's row is served from a count on
+abbrev pub served : Order → Place → List ℕ → ℕ → Node → List Node → List ℕ × ℕ × Bool
+served order place out written leader ns =
+    serve pairWords PAIR-WORDS out written (remains (sortKey order) (spotOf place) (row order leader ns))
+
+-- the same, once what remains of the whole listing is served from the beginning
+abbrev pub servedAll : Relation → Order → Place → List ℕ → List ℕ → List ℕ → List ℕ × ℕ × Bool
+servedAll relation order place out ancestors descendants =
+    serve pairWords PAIR-WORDS out 0 (remains (sortKey order) (spotOf place) (listing relation order (nodes ancestors) (nodes descendants)))
 
 -- n comes from d on: it is d, or stands after it
 abbrev pub From : Node → Node → Type 0

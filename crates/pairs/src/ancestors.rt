@@ -25,11 +25,9 @@ ghost use Rattle.nodes.specs.Node.{deeperb, afterb, openb};
 ghost use Rattle.nodes.specs.Words.{nodes, count, nodeAt};
 ghost use Rattle.lists.specs.Two.{checkTwo};
 ghost use Rattle.paging.specs.Page.{remains};
-ghost use Rattle.paging.specs.Serve.{serve};
-ghost use Rattle.tickets.specs.Listing.{sortKey, listing};
-ghost use Rattle.tickets.specs.Row.{PAIR-WORDS, pairWords, row, matches};
-ghost use Rattle.tickets.specs.Ticket.{spotOf};
-ghost use Rattle.pairs.specs.Sweep.{Running};
+ghost use Rattle.tickets.specs.Listing.{listing};
+ghost use Rattle.tickets.specs.Row.{row, matches};
+ghost use Rattle.pairs.specs.Sweep.{Running, served, servedAll};
 
 // The first descendant from an index on that stands after the ancestor.
 fn first_after(descendants: &[u32], from: usize, ancestor: Node) -> usize
@@ -71,9 +69,8 @@ fn hand_run(
     from: usize,
 ) -> Handed
     requires { ⌜ Running (now descendants) ancestor from ⌝ }
-    ensures { λ r. ⌜ (now (out .exit), r .count, r .done) ≡ serve pairWords PAIR-WORDS (now (out .entry)) written
-        (remains (sortKey Order.Ancestor) (spotOf place) (row Order.Ancestor ancestor
-        (matches Relation.Inside Order.Ancestor ancestor (drop from (nodes (now (descendants .entry))))))) ⌝ }
+    ensures { λ r. ⌜ (now (out .exit), r .count, r .done) ≡ served Order.Ancestor place (now (out .entry)) written ancestor
+        (matches Relation.Inside Order.Ancestor ancestor (drop from (nodes (now (descendants .entry))))) ⌝ }
 {
     let to = run_end(descendants, from, ancestor);
     let run = &descendants[NODE_WORDS * from..NODE_WORDS * to];
@@ -97,9 +94,8 @@ fn hand_child(
     k: usize,
 ) -> Handed
     requires { ⌜ k < count (now descendants) ⌝ }
-    ensures { λ r. ⌜ (now (out .exit), r .count, r .done) ≡ serve pairWords PAIR-WORDS (now (out .entry)) written
-        (remains (sortKey Order.Ancestor) (spotOf place) (row Order.Ancestor ancestor
-        (cond (deeperb (nodeAt (now (descendants .entry)) k) ancestor) (nodeAt (now (descendants .entry)) k ∷ []) []))) ⌝ }
+    ensures { λ r. ⌜ (now (out .exit), r .count, r .done) ≡ served Order.Ancestor place (now (out .entry)) written ancestor
+        (cond (deeperb (nodeAt (now (descendants .entry)) k) ancestor) (nodeAt (now (descendants .entry)) k ∷ []) []) ⌝ }
 {
     if !is_one_deeper(node_at(descendants, k), ancestor) {
         return Handed {
@@ -132,9 +128,8 @@ fn hand_children(
     from: usize,
 ) -> Handed
     requires { ⌜ Running (now descendants) ancestor from ⌝ }
-    ensures { λ r. ⌜ (now (out .exit), r .count, r .done) ≡ serve pairWords PAIR-WORDS (now (out .entry)) written
-        (remains (sortKey Order.Ancestor) (spotOf place) (row Order.Ancestor ancestor
-        (matches Relation.Directly Order.Ancestor ancestor (drop from (nodes (now (descendants .entry))))))) ⌝ }
+    ensures { λ r. ⌜ (now (out .exit), r .count, r .done) ≡ served Order.Ancestor place (now (out .entry)) written ancestor
+        (matches Relation.Directly Order.Ancestor ancestor (drop from (nodes (now (descendants .entry))))) ⌝ }
 {
     let mut handed = Handed {
         count: written,
@@ -165,9 +160,8 @@ fn hand_ancestor(
     from: usize,
 ) -> Handed
     requires { ⌜ Running (now descendants) ancestor from ⌝ }
-    ensures { λ r. ⌜ (now (out .exit), r .count, r .done) ≡ serve pairWords PAIR-WORDS (now (out .entry)) written
-        (remains (sortKey Order.Ancestor) (spotOf place) (row Order.Ancestor ancestor
-        (matches relation Order.Ancestor ancestor (drop from (nodes (now (descendants .entry))))))) ⌝ }
+    ensures { λ r. ⌜ (now (out .exit), r .count, r .done) ≡ served Order.Ancestor place (now (out .entry)) written ancestor
+        (matches relation Order.Ancestor ancestor (drop from (nodes (now (descendants .entry))))) ⌝ }
 {
     match relation {
         Relation::Inside => hand_run(out, written, place, ancestor, descendants, from),
@@ -185,9 +179,7 @@ pub(crate) fn sweep_ancestors(
     out: &mut [u32],
 ) -> Handed
     requires { ⌜ checkTwo (now ancestors) (now descendants) .answer ≡ TAKEN ⌝ }
-    ensures { λ r. ⌜ (now (out .exit), r .count, r .done) ≡ serve pairWords PAIR-WORDS (now (out .entry)) 0
-        (remains (sortKey Order.Ancestor) (spotOf place)
-        (listing relation Order.Ancestor (nodes (now (ancestors .entry))) (nodes (now (descendants .entry))))) ⌝ }
+    ensures { λ r. ⌜ (now (out .exit), r .count, r .done) ≡ servedAll relation Order.Ancestor place (now (out .entry)) (now (ancestors .entry)) (now (descendants .entry)) ⌝ }
 {
     let mut handed = Handed {
         count: 0,

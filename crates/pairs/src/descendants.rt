@@ -25,10 +25,9 @@ ghost use Rattle.nodes.specs.Words.{nodes, count};
 ghost use Rattle.lists.specs.Two.{checkTwo};
 ghost use Rattle.lists.specs.Walk.{firsts, Chain, Upon};
 ghost use Rattle.paging.specs.Page.{remains};
-ghost use Rattle.paging.specs.Serve.{serve};
-ghost use Rattle.tickets.specs.Listing.{sortKey, listing};
-ghost use Rattle.tickets.specs.Row.{PAIR-WORDS, pairWords, row, matches};
-ghost use Rattle.tickets.specs.Ticket.{spotOf};
+ghost use Rattle.tickets.specs.Listing.{listing};
+ghost use Rattle.tickets.specs.Row.{row, matches};
+ghost use Rattle.pairs.specs.Sweep.{served, servedAll};
 
 // Where on the stack the ancestors begin that have the relation with a descendant which lies inside all of them. Directly inside it can
 // only lie in the innermost, as the levels rise towards it.
@@ -62,9 +61,8 @@ fn hand_stretch(
     to: usize,
 ) -> Handed
     requires { ⌜ (from ≤ to) × (to ≤ count (now stack)) × Pairs (λ x y. x .start < y .start) (take (to - from) (drop from (nodes (now stack)))) ⌝ }
-    ensures { λ r. ⌜ (now (out .exit), r .count, r .done) ≡ serve pairWords PAIR-WORDS (now (out .entry)) written
-        (remains (sortKey Order.Descendant) (spotOf place)
-        (row Order.Descendant descendant (take (to - from) (drop from (nodes (now (stack .entry))))))) ⌝ }
+    ensures { λ r. ⌜ (now (out .exit), r .count, r .done) ≡ served Order.Descendant place (now (out .entry)) written descendant
+        (take (to - from) (drop from (nodes (now (stack .entry))))) ⌝ }
 {
     let stretch = &stack[NODE_WORDS * from..NODE_WORDS * to];
     let ahead = first_ahead(place, descendant, stretch);
@@ -89,9 +87,8 @@ fn hand_descendant(
 ) -> Handed
     requires { ⌜ (depth ≤ MOST-LEVELS) × Chain (firsts depth (nodes (now stack))) × Upon descendant (firsts depth (nodes (now stack)))
         × Pairs (λ x y. x .start < y .start) (reverse (matches relation Order.Descendant descendant (firsts depth (nodes (now stack))))) ⌝ }
-    ensures { λ r. ⌜ (now (out .exit), r .count, r .done) ≡ serve pairWords PAIR-WORDS (now (out .entry)) written
-        (remains (sortKey Order.Descendant) (spotOf place) (row Order.Descendant descendant
-        (reverse (matches relation Order.Descendant descendant (firsts depth (nodes (now (stack .entry)))))))) ⌝ }
+    ensures { λ r. ⌜ (now (out .exit), r .count, r .done) ≡ served Order.Descendant place (now (out .entry)) written descendant
+        (reverse (matches relation Order.Descendant descendant (firsts depth (nodes (now (stack .entry)))))) ⌝ }
 {
     let from = first_match(relation, stack, depth, descendant);
     hand_stretch(out, written, place, descendant, stack, from, depth)
@@ -107,9 +104,7 @@ pub(crate) fn sweep_descendants(
     out: &mut [u32],
 ) -> Handed
     requires { ⌜ checkTwo (now ancestors) (now descendants) .answer ≡ TAKEN ⌝ }
-    ensures { λ r. ⌜ (now (out .exit), r .count, r .done) ≡ serve pairWords PAIR-WORDS (now (out .entry)) 0
-        (remains (sortKey Order.Descendant) (spotOf place)
-        (listing relation Order.Descendant (nodes (now (ancestors .entry))) (nodes (now (descendants .entry))))) ⌝ }
+    ensures { λ r. ⌜ (now (out .exit), r .count, r .done) ≡ servedAll relation Order.Descendant place (now (out .entry)) (now (ancestors .entry)) (now (descendants .entry)) ⌝ }
 {
     let mut stack = [0u32; STACK_WORDS];
     let mut depth = 0;

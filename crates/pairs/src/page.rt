@@ -16,12 +16,10 @@ ghost use Rattle.nodes.specs.Answer.{TAKEN};
 ghost use Rattle.nodes.specs.Words.{nodes};
 ghost use Rattle.lists.specs.Two.{checkTwo};
 ghost use Rattle.paging.specs.Page.{remains};
-ghost use Rattle.paging.specs.Serve.{serve};
-ghost use Rattle.tickets.specs.Listing.{sortKey};
-ghost use Rattle.tickets.specs.Row.{PAIR-WORDS, pairWords, room};
-ghost use Rattle.tickets.specs.Ticket.{ticket, spotOf};
-ghost use Rattle.pairs.specs.Page.{listingOf, pageOf, outputAfter};
-ghost use Rattle.pairs.specs.Sweep.{keyIn, placeIn};
+ghost use Rattle.tickets.specs.Row.{room};
+ghost use Rattle.tickets.specs.Ticket.{ticket};
+ghost use Rattle.pairs.specs.Page.{pageOf, outputAfter};
+ghost use Rattle.pairs.specs.Sweep.{keyIn, placeIn, servedAll};
 
 // What a page call answers: the verdict on its two lists, how many pairs it wrote, whether that was all that remained, and the ticket for
 // the next page.
@@ -35,8 +33,7 @@ pub struct Page {
 // What remains of the listing that a ticket asks for is handed out, as much as fits.
 fn sweep(ancestors: &[u32], descendants: &[u32], ticket: Ticket, out: &mut [u32]) -> Handed
     requires { ⌜ checkTwo (now ancestors) (now descendants) .answer ≡ TAKEN ⌝ }
-    ensures { λ r. ⌜ (now (out .exit), r .count, r .done) ≡ serve pairWords PAIR-WORDS (now (out .entry)) 0
-        (remains (sortKey (ticket .order)) (spotOf (ticket .place)) (listingOf ticket (now (ancestors .entry)) (now (descendants .entry)))) ⌝ }
+    ensures { λ r. ⌜ (now (out .exit), r .count, r .done) ≡ servedAll (ticket .relation) (ticket .order) (ticket .place) (now (out .entry)) (now (ancestors .entry)) (now (descendants .entry)) ⌝ }
 {
     let relation = ticket.relation;
     let order = ticket.order;

@@ -11,12 +11,12 @@ use borrow.Author.Tests.{eq-eqb, lt-ltb}
 use Rattle.nodes.specs.declared.node.Node.{Node}
 use Rattle.nodes.specs.Choose.{All, Pairs, In, keep}
 use Rattle.nodes.specs.Node.{afterb}
-use Rattle.nodes.proofs.Choices.{all-map, all-both, keep-all-of}
+use Rattle.nodes.proofs.Choices.{all-in, all-map, all-both, keep-all-of}
 use Rattle.nodes.proofs.NodeLaws.{within, directly-inside, after-read, after-starts}
 use Rattle.nodes.proofs.Tests.{never, and-make, or-left, or-right}
 use Rattle.paging.specs.Key.{aboveb}
 use Rattle.paging.proofs.KeyLaws.{above-self}
-use Rattle.paging.proofs.PageLaws.{all-at, all-in, keep-in, keep-past, keep-pairs, pairs-map}
+use Rattle.paging.proofs.PageLaws.{each-in, keep-in, keep-past, keep-pairs, pairs-map}
 use Rattle.tickets.specs.declared.ticket.Order.{Order}
 use Rattle.tickets.specs.declared.ticket.Order.the-variants.{Descendant, Ancestor}
 use Rattle.tickets.specs.declared.ticket.Relation.{Relation}
@@ -97,9 +97,9 @@ listed-iff relation order as′ ds p =
     let kept = keep (relatedb relation) every in
     let met = sides order as′ ds p in (
       λ m.
-          let i = all-at (λ q. In q every) kept (keep-all-of (λ q. In q every) (relatedb relation) every (all-in every)) p m in
+          let i = all-in (λ q. In q every) kept (keep-all-of (λ q. In q every) (relatedb relation) every (each-in every)) m in
           let s = met .0 (every-in order xs ys p i) in
-          (s .0, s .1, all-at (λ q. relatedb relation q ≡ true) kept (keep-past (relatedb relation) every) p m),
+          (s .0, s .1, all-in (λ q. relatedb relation q ≡ true) kept (keep-past (relatedb relation) every) m),
       λ h.
           let s = met .1 (h .0, h .1) in
           keep-in (relatedb relation) every p (Memᴰ·cast (pair-of order p) (in-every order (leader order p) (follower order p) xs ys (s .0) (s .1))) (h .2),

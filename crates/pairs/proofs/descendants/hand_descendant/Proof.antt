@@ -1,7 +1,7 @@
 -- What matches the descendant is a stretch of the stack that ends at its top.
 -- A stretch that leaves out the innermost ancestor, or takes in one that doesn't match, falls at the return.
 use borrow.Author.Needs.{needs}
-use mathlib.Core.Path.{_≡_, ap, sym, subst, _∙_}
+use mathlib.Core.Path.{ap, sym, subst, _∙_}
 use Prim.Native.Nat.{_<_}
 use native.Mathlib.Omega.{arith}
 use denote.Ref.{now}

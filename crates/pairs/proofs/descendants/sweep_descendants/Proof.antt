@@ -1,22 +1,29 @@
--- The invariant: what is left to serve is the whole, and the stack stands for the ancestors passed. Each descendant's row is served from the
--- stack; a row lost, served twice or served after the room has run out falls at the next turn or at the return.
+-- The invariant: handing out the rows of the descendants from j on gives what handing out all that remains gives, and the stack stands for the
+-- ancestors passed. A row lost, served twice or served after the room has run out falls at a return or at the next turn.
 use borrow.Author.Needs.{needs}
+use mathlib.Core.Path.{_≡_, refl, ap}
+use mathlib.Core.Bool.{true}
 use Prim.Native.Nat.{_-_}
-use mathlib.Core.Path.{_≡_, refl, _∙_}
-use lib.ListN.{length}
 use native.Mathlib.Omega.{arith}
+use lib.ListN.{length, drop}
 use denote.Ref.{now}
-use borrow.Author.Tests.{not-true, not-false}
 use Rattle.nodes.specs.Words.{nodes, count}
+use Rattle.paging.specs.Serve.{serve}
 use Rattle.tickets.specs.declared.ticket.Order.the-variants.{Descendant}
-use Rattle.pairs.proofs.Turns.{row-length}
-use Rattle.pairs.proofs.Swept.{Swept, swept-start, swept-row, swept-end, first-taken, at-descendant, at-rises, swept-on, swept-stop}
+use Rattle.tickets.specs.Row.{PAIR-WORDS, pairWords}
+use Rattle.nodes.proofs.Tests.{not-read, not-none}
+use Rattle.paging.proofs.Serving.{left-on, left-stop, left-end}
+use Rattle.tickets.proofs.Rows.{rest-of}
+use Rattle.pairs.specs.Sweep.{servedAll}
+use Rattle.pairs.proofs.Swept.{Ready, ready-start, ready-at, ready-next, first-taken, at-descendant, at-rises, descend-start, descend-end, descend-row}
 use Rattle.pairs.proofs.descendants.sweep_descendants.Statement.{statement}
 use Rattle.pairs.proofs.descendants.sweep_descendants.Tie as tie
 
 abbrev Inv-loop : tie.InvT-loop
 Inv-loop ancestors descendants relation place out₀ stack₀ depth₀ passed₀ handed₀ j₀ out stack depth passed handed j =
-    (length out ≡ length out₀) × Swept ancestors descendants relation place out₀ out stack depth passed (handed .count) (handed .done) j
+    (length out ≡ length out₀) × Ready ancestors descendants j depth passed stack × (handed .done ≡ true)
+    × (serve pairWords PAIR-WORDS out (handed .count) (rest-of relation Descendant place (drop j (nodes descendants)) (nodes ancestors))
+    ≡ servedAll relation Descendant place out₀ ancestors descendants)
 
 abbrev μ-loop : tie.MeasureT-loop
 μ-loop ancestors descendants relation place out₀ stack₀ depth₀ passed₀ handed₀ j₀ out stack depth passed handed j = count descendants - j
@@ -25,7 +32,10 @@ served-count-requires : tie.Need-served-count-requires Inv-loop μ-loop
 served-count-requires c κs = search needs
 
 loop-holds : tie.Need-loop-holds Inv-loop μ-loop
-loop-holds c = let a = c .before .before .before .before .args in (refl, swept-start (now (a .ancestors)) (now (a .descendants)) (a .relation) (a .place) (now (a .out)) _ _ (c .served-count .ensures))
+loop-holds c =
+    let a = c .before .before .before .before .args in
+    let start = descend-start (now (a .ancestors)) (now (a .descendants)) (a .relation) (a .place) _ (c .served-count .ensures) in
+    (refl, ready-start (now (a .ancestors)) (now (a .descendants)) _ _, refl, ap (serve pairWords PAIR-WORDS (now (a .out)) 0) start)
 
 node-count-requires : tie.Need-node-count-requires Inv-loop μ-loop
 node-count-requires c κs = search needs
@@ -35,36 +45,44 @@ node-at-requires c κs = search needs
 
 open-before-requires : tie.Need-open-before-requires Inv-loop μ-loop
 open-before-requires c κs =
-    let a = c .before .before .before .before .before .before .before .before .before .args in
-    let i = c .before .before .before .before .loop .inv .1 in
-    (first-taken (now (a .ancestors)) (now (a .descendants)) (c .before .before .before .before .before .before .before .before .before .pre), swept-row (now (a .ancestors)) (now (a .descendants)) _ _ _ _ _ _ _ _ _ _ _ i (omega arith) (c .before .node-at .ensures))
+    let given = c .before .before .before .before .before .before .before .before .before in
+    let a = given .args in
+    let l = c .before .before .before .before .loop in (
+      first-taken (now (a .ancestors)) (now (a .descendants)) (given .pre),
+      ready-at (now (a .ancestors)) (now (a .descendants)) (l .j) _ _ _ _ (l .inv .1) (omega arith) (c .before .node-at .ensures),
+    )
 
 still-open-requires : tie.Need-still-open-requires Inv-loop μ-loop
 still-open-requires c κs = search needs
 
 hand-descendant-requires : tie.Need-hand-descendant-requires Inv-loop μ-loop
 hand-descendant-requires c κs =
-    let a = c .before .before .before .before .before .before .before .before .before .before .before .before .before .before .args in
-    let p = c .before .before .before .before .before .before .before .before .before .before .before .before .before .before .pre in
-    let n = c .before .before .before .before .before .before .node-at .ensures in
-    let o = c .before .before .before .before .open-before .ensures in
-    let s = c .before .before .still-open .ensures in
-    let t = at-descendant (now (a .ancestors)) (now (a .descendants)) p _ _ (omega arith) n _ _ _ _ (o .0) (o .1) (s .0) (s .1) in
-    (t .opening .depth-in, t .opening .row .stands .chain, t .upon, at-rises (now (a .ancestors)) (now (a .descendants)) p _ _ (omega arith) n (a .relation) _ _ _ t)
+    let here = c .before .before in
+    let given = here .before .before .before .before .before .before .before .before .before .before .before .before in
+    let a = given .args in
+    let l = here .before .before .before .before .before .before .before .loop in
+    let n = here .before .before .before .before .node-at .ensures in
+    let o = here .before .before .open-before .ensures in
+    let s = here .still-open .ensures in
+    let t = at-descendant (now (a .ancestors)) (now (a .descendants)) (given .pre) (l .j) _ (omega arith) n _ _ _ _ (o .0) (o .1) (s .0) (s .1) in
+    let rises = at-rises (now (a .ancestors)) (now (a .descendants)) (given .pre) (l .j) _ (omega arith) n _ _ _ t (a .relation) in
+    (t .opening .depth-in, t .opening .row .stands .chain, t .upon, rises)
 
 same-length : tie.Need-same-length Inv-loop μ-loop
 same-length c = search needs
 
 returns : tie.Need-returns Inv-loop μ-loop
 returns c =
-    let a = c .before .before .before .before .before .before .before .before .before .before .before .before .before .before .before .before .before .before .before .args in
-    let w = c .before .before .before .before .before .before .before .before .before .before .before .before .before .before .loop .inv .1 in
-    let p = c .before .before .before .before .before .before .before .before .before .before .before .before .before .before .before .before .before .before .before .pre in
-    let n = c .before .before .before .before .before .before .before .before .before .before .before .node-at .ensures in
-    let o = c .before .before .before .before .before .before .before .before .before .open-before .ensures in
-    let s = c .before .before .before .before .before .before .before .still-open .ensures in
-    let t = at-descendant (now (a .ancestors)) (now (a .descendants)) p _ _ (omega arith) n _ _ _ _ (o .0) (o .1) (s .0) (s .1) in
-    swept-stop (now (a .ancestors)) (now (a .descendants)) p _ _ (omega arith) n (a .relation) _ _ _ t (a .place) (now (a .out)) _ _ _ _ _ (c .before .before .before .before .hand-descendant .ensures) _ _ _ _ w (not-true _ (c .if2 .taken))
+    let here = c .before .before .before .before .before .before .before in
+    let given = here .before .before .before .before .before .before .before .before .before .before .before .before in
+    let a = given .args in
+    let l = here .before .before .before .before .before .before .before .loop in
+    let n = here .before .before .before .before .node-at .ensures in
+    let o = here .before .before .open-before .ensures in
+    let s = here .still-open .ensures in
+    let t = at-descendant (now (a .ancestors)) (now (a .descendants)) (given .pre) (l .j) _ (omega arith) n _ _ _ _ (o .0) (o .1) (s .0) (s .1) in
+    let row = descend-row (now (a .ancestors)) (now (a .descendants)) (given .pre) (l .j) _ (omega arith) n _ _ _ t (a .relation) (a .place) in
+    left-stop pairWords PAIR-WORDS _ _ _ _ (c .before .before .before .before .hand-descendant .ensures) (not-read _ (c .if2 .taken)) row (l .inv .3)
 
 add-j : tie.Need-add-j Inv-loop μ-loop
 add-j c = search needs
@@ -74,14 +92,21 @@ loop-less c = search needs
 
 loop-again : tie.Need-loop-again Inv-loop μ-loop
 loop-again c =
-    let a = c .before .before .before .before .before .before .before .before .before .before .before .before .before .before .before .before .before .before .before .args in
-    let w = c .before .before .before .before .before .before .before .before .before .before .before .before .before .before .loop .inv .1 in
-    let p = c .before .before .before .before .before .before .before .before .before .before .before .before .before .before .before .before .before .before .before .pre in
-    let n = c .before .before .before .before .before .before .before .before .before .before .before .node-at .ensures in
-    let o = c .before .before .before .before .before .before .before .before .before .open-before .ensures in
-    let s = c .before .before .before .before .before .before .before .still-open .ensures in
-    let t = at-descendant (now (a .ancestors)) (now (a .descendants)) p _ _ (omega arith) n _ _ _ _ (o .0) (o .1) (s .0) (s .1) in
-    (row-length (a .relation) Descendant (a .place) (nodes (now (a .ancestors))) _ _ _ _ _ _ _ (c .before .before .before .before .hand-descendant .ensures) ∙ c .before .before .before .before .before .before .before .before .before .before .before .before .before .before .loop .inv .0, swept-on (now (a .ancestors)) (now (a .descendants)) p _ _ (omega arith) n (a .relation) _ _ _ t (a .place) (now (a .out)) _ _ _ _ _ (c .before .before .before .before .hand-descendant .ensures) _ _ _ _ w (not-false _ (c .if2 .left)))
+    let here = c .before .before .before .before .before .before .before in
+    let given = here .before .before .before .before .before .before .before .before .before .before .before .before in
+    let a = given .args in
+    let l = here .before .before .before .before .before .before .before .loop in
+    let n = here .before .before .before .before .node-at .ensures in
+    let o = here .before .before .open-before .ensures in
+    let s = here .still-open .ensures in
+    let t = at-descendant (now (a .ancestors)) (now (a .descendants)) (given .pre) (l .j) _ (omega arith) n _ _ _ _ (o .0) (o .1) (s .0) (s .1) in
+    let row = descend-row (now (a .ancestors)) (now (a .descendants)) (given .pre) (l .j) _ (omega arith) n _ _ _ t (a .relation) (a .place) in
+    let done = not-none _ (c .if2 .left) in (
+      omega arith,
+      ready-next (now (a .ancestors)) (now (a .descendants)) (given .pre) (l .j) _ (omega arith) n _ _ _ t,
+      done,
+      left-on pairWords PAIR-WORDS _ _ _ _ (c .before .before .before .before .hand-descendant .ensures) done row (l .inv .3),
+    )
 
 same-length-2 : tie.Need-same-length-2 Inv-loop μ-loop
 same-length-2 c = search needs
@@ -89,7 +114,9 @@ same-length-2 c = search needs
 returns-2 : tie.Need-returns-2 Inv-loop μ-loop
 returns-2 c =
     let a = c .before .before .before .before .before .before .before .args in
-    swept-end (now (a .ancestors)) (now (a .descendants)) (a .relation) (a .place) (now (a .out)) _ _ _ _ _ _ _ (c .before .before .loop .inv .1) (omega arith)
+    let l = c .before .before .loop in
+    let none = descend-end (now (a .ancestors)) (now (a .descendants)) (a .relation) (a .place) (l .j) (omega arith) in
+    left-end pairWords PAIR-WORDS _ _ (l .inv .2) none (l .inv .3)
 
 pub sweep-descendants-spec : {M : Type 1} → statement M
 sweep-descendants-spec =

@@ -1,7 +1,7 @@
 -- The place is the old one where nothing was written, and else the key of the last pair.
 -- A place that stays although pairs were written, or one of another pair, falls at a return.
 use borrow.Author.Needs.{needs}
-use mathlib.Core.Path.{_≡_, refl, ap, sym, _∙_}
+use mathlib.Core.Path.{_≡_, refl, ap}
 use mathlib.Core.List.{List}
 use Prim.Native.Nat.{ℕ, _-_}
 use native.Mathlib.Omega.{arith}
