@@ -18,8 +18,9 @@ use Rattle.tickets.specs.declared.ticket.Relation.{Relation}
 use Rattle.tickets.specs.declared.ticket.Ticket.{Ticket}
 use Rattle.tickets.specs.Listing.{Pair, relatedb, sortKey}
 use Rattle.tickets.specs.Row.{PAIR-WORDS, room}
+use Rattle.tickets.specs.Ticket.{freshTicket}
 use Rattle.tickets.proofs.Listed.{listed-iff, listing-ascends, listed-once}
-use Rattle.pairs.specs.Calls.{Call, AcceptedCall, fullListing, Stands, SameStarts, fresh-ticket, answer, output, shown, ticketThrough, shownThrough}
+use Rattle.pairs.specs.Calls.{Call, AcceptedCall, fullListing, Stands, SameStarts, answer, output, shown, ticketThrough, shownThrough}
 use Rattle.pairs.specs.Page.{pageOf}
 use Rattle.pairs.proofs.Answered.{lists-ascend, refusal, beyond-kept, output-length, whole-listing}
 use Rattle.pairs.proofs.Following.{none-lost, none-twice, own-lists, fills-room}
@@ -85,19 +86,19 @@ module _ (relation : Relation) (order : Order) (c : Call) where
 
   -- what is listed is what a call hands out: with a fresh ticket and room for the full listing, exactly that, and it is done
   pub listing-is-handed-out : AcceptedCall c → length (fullListing relation order c) ≤ room (c .out)
-      → (shown (fresh-ticket relation order) c ≡ fullListing relation order c) × (answer (fresh-ticket relation order) c .done ≡ true)
+      → (shown (freshTicket relation order) c ≡ fullListing relation order c) × (answer (freshTicket relation order) c .done ≡ true)
   listing-is-handed-out a l = whole-listing relation order c a l
 
 -- Demand 3. A listing followed from a fresh ticket, each call with the ticket that the last one returned and with lists edited at will in between.
 module _ (relation : Relation) (order : Order) where
   -- once an accepted call is done, every related pair that stood unaltered in the lists of each accepted call has been handed out
-  pub no-pair-lost : (cs : List Call) (c : Call) → AcceptedCall c → answer (ticketThrough (fresh-ticket relation order) cs) c .done ≡ true
+  pub no-pair-lost : (cs : List Call) (c : Call) → AcceptedCall c → answer (ticketThrough (freshTicket relation order) cs) c .done ≡ true
       → (p : Pair) → relatedb relation p ≡ true → All (λ k. AcceptedCall k → Stands p k) cs → Stands p c
-      → In p (shownThrough (fresh-ticket relation order) (cs ++ c ∷ []))
+      → In p (shownThrough (freshTicket relation order) (cs ++ c ∷ []))
   no-pair-lost cs c a d p r s m = none-lost relation order cs c a d p r s m
 
   -- no pair is handed out twice, nor two with the same document and starts
-  pub no-pair-handed-out-twice : (cs : List Call) → Pairs (λ p q. SameStarts p q → ⊥) (shownThrough (fresh-ticket relation order) cs)
+  pub no-pair-handed-out-twice : (cs : List Call) → Pairs (λ p q. SameStarts p q → ⊥) (shownThrough (freshTicket relation order) cs)
   no-pair-handed-out-twice cs = none-twice relation order cs
 
 module _ (t : Ticket) (c : Call) where

@@ -28,8 +28,8 @@ use Rattle.tickets.specs.declared.ticket.Relation.{Relation}
 use Rattle.tickets.specs.declared.ticket.Ticket.{Ticket}
 use Rattle.tickets.specs.Listing.{Pair, keyOf, sortKey}
 use Rattle.tickets.specs.Row.{PAIR-WORDS, pairWords, room}
-use Rattle.tickets.specs.Ticket.{ticket, spotOf}
-use Rattle.pairs.specs.Calls.{Call, AcceptedCall, fullListing, fresh-ticket, answer, output, shown}
+use Rattle.tickets.specs.Ticket.{freshTicket, ticket, spotOf}
+use Rattle.pairs.specs.Calls.{Call, AcceptedCall, fullListing, answer, output, shown}
 use Rattle.pairs.specs.Page.{listingOf, handedOut, saysDone, ticketAfter, pageOf, outputAfter}
 use Rattle.pairs.proofs.Accepted.{accepted}
 use Rattle.pairs.proofs.Shown.{shown-is}
@@ -109,9 +109,9 @@ module _ (relation : Relation) (order : Order) (c : Call) where
 
   -- a first call with room for the full listing hands out exactly it, and is done
   pub whole-listing : AcceptedCall c → length listed ≤ room (c .out)
-      → (shown (fresh-ticket relation order) c ≡ listed) × (answer (fresh-ticket relation order) c .done ≡ true)
+      → (shown (freshTicket relation order) c ≡ listed) × (answer (freshTicket relation order) c .done ≡ true)
   unfolding pageOf handedOut saysDone doneb remains pastb
   whole-listing a l = (
-    shown-is (fresh-ticket relation order) c ∙ rw (not-refused c a) (all-handed l),
+    shown-is (freshTicket relation order) c ∙ rw (not-refused c a) (all-handed l),
     rw (not-refused c a, all-handed l, keep-all (λ p. true) listed (all-of (λ p. refl) listed)) (eq-eqb (length listed) (length listed) refl),
   )

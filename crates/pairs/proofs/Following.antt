@@ -21,9 +21,9 @@ use Rattle.tickets.specs.declared.ticket.Relation.{Relation}
 use Rattle.tickets.specs.declared.ticket.Ticket.{Ticket}
 use Rattle.tickets.specs.Listing.{Pair, relatedb, keyOf, sortKey}
 use Rattle.tickets.specs.Row.{room}
-use Rattle.tickets.specs.Ticket.{ticket, spotOf}
+use Rattle.tickets.specs.Ticket.{freshTicket, ticket, spotOf}
 use Rattle.tickets.proofs.Listed.{listed-iff, related-document, all-append, pairs-passed, listing-ascends}
-use Rattle.pairs.specs.Calls.{Call, AcceptedCall, fullListing, Stands, SameStarts, fresh-ticket, answer, shown, ticketThrough, shownThrough}
+use Rattle.pairs.specs.Calls.{Call, AcceptedCall, fullListing, Stands, SameStarts, answer, shown, ticketThrough, shownThrough}
 use Rattle.pairs.specs.Page.{listingOf, handedOut, saysDone, ticketAfter, pageOf}
 use Rattle.pairs.proofs.Answered.{not-refused, is-accepted, lists-ascend}
 use Rattle.pairs.proofs.Shown.{shown-is}
@@ -132,9 +132,9 @@ module _ (relation : Relation) (order : Order) where
       all-append (λ p. relatedb relation p ≡ true) (shown t c) _ own (related-through (answer t c .ticket .place) cs)
 
   -- a related pair that stands unaltered in the lists of every accepted call, up to one that is done, has been handed out
-  pub none-lost : (cs : List Call) (c : Call) → AcceptedCall c → answer (ticketThrough (fresh-ticket relation order) cs) c .done ≡ true
+  pub none-lost : (cs : List Call) (c : Call) → AcceptedCall c → answer (ticketThrough (freshTicket relation order) cs) c .done ≡ true
       → (p : Pair) → relatedb relation p ≡ true → All (λ k. AcceptedCall k → Stands p k) cs → Stands p c
-      → In p (shownThrough (fresh-ticket relation order) (cs ++ c ∷ []))
+      → In p (shownThrough (freshTicket relation order) (cs ++ c ∷ []))
   none-lost cs c a d p r s m =
       rw (shown-through Fresh (cs ++ c ∷ []), map-append callOf cs (c ∷ []), called c a)
       (none-lost-of (sortKey order) (map callOf cs) (fullListing relation order c) (room (c .out)) (all-mapped _ callOf cs (all-of ascending cs))
@@ -142,9 +142,9 @@ module _ (relation : Relation) (order : Order) where
       (listed-iff relation order _ _ p .1 (m .0, m .1, r)))
 
   -- no two pairs with the same starts are handed out
-  pub none-twice : (cs : List Call) → Pairs (λ p q. SameStarts p q → ⊥) (shownThrough (fresh-ticket relation order) cs)
+  pub none-twice : (cs : List Call) → Pairs (λ p q. SameStarts p q → ⊥) (shownThrough (freshTicket relation order) cs)
   none-twice cs =
-      let ps = shownThrough (fresh-ticket relation order) cs in
+      let ps = shownThrough (freshTicket relation order) cs in
       let keys = no-key-twice (sortKey order) (map callOf cs) (all-mapped _ callOf cs (all-of ascending cs)) in
       pairs-passed (λ p. relatedb relation p ≡ true) (λ p q. SameStarts p q → ⊥) ps (related-through Fresh cs)
       (pairs-map (λ p q h r s e. h (same-key relation order p q r s e)) ps

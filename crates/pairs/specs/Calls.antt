@@ -9,7 +9,6 @@ use Rattle.nodes.specs.Choose.{In}
 use Rattle.nodes.specs.Words.{nodes}
 use Rattle.lists.specs.Two.{checkTwo}
 use Rattle.tickets.specs.declared.ticket.Order.{Order}
-use Rattle.tickets.specs.declared.ticket.Place.the-variants.{Fresh}
 use Rattle.tickets.specs.declared.ticket.Relation.{Relation}
 use Rattle.tickets.specs.declared.ticket.Ticket.{Ticket}
 use Rattle.tickets.specs.Listing.{Pair, listing}
@@ -39,10 +38,6 @@ Stands p c = In (p .ancestor) (nodes (c .ancestors)) × In (p .descendant) (node
 abbrev pub SameStarts : Pair → Pair → Type 0
 SameStarts p q =
     (p .ancestor .document ≡ q .ancestor .document) × (p .ancestor .start ≡ q .ancestor .start) × (p .descendant .start ≡ q .descendant .start)
-
--- a ticket with which a listing begins
-abbrev pub fresh-ticket : Relation → Order → Ticket
-fresh-ticket relation order = ticket relation order Fresh
 
 -- nodes read in twos, an ancestor and then a descendant
 unfoldable pub pairsIn : List Node → List Pair

@@ -23,3 +23,7 @@ numbersOf k = k .document ∷ k .leader ∷ k .follower ∷ []
 abbrev pub spotOf : Place → Spot
 spotOf Fresh = fresh
 spotOf (After k) = after (numbersOf k)
+
+-- the ticket that starts a listing
+abbrev pub freshTicket : Relation → Order → Ticket
+freshTicket relation order = ticket relation order Fresh

@@ -1,6 +1,6 @@
 // A ticket: what is listed, in which order, and how far the listing has been handed out.
 ghost use mathlib.Core.Path.{_≡_};
-ghost use Rattle.tickets.specs.Ticket.{ticket};
+ghost use Rattle.tickets.specs.Ticket.{freshTicket};
 
 // Which pairs are listed.
 pub enum Relation {
@@ -36,7 +36,7 @@ pub struct Ticket {
 
 // The caller gets the ticket that starts a listing.
 pub fn fresh(relation: Relation, order: Order) -> Ticket
-    ensures { λ r. ⌜ r ≡ ticket relation order Place.Fresh ⌝ }
+    ensures { λ r. ⌜ r ≡ freshTicket relation order ⌝ }
 {
     Ticket {
         relation: relation,
