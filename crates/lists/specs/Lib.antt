@@ -1,5 +1,5 @@
--- What the contracts of `lists` cite: document 01's checks in `Fault`, `Check`, `Two` and `Part`; `Merge` and `Walk` are words of private
--- functions alone.
+-- What the contracts of `lists` cite: document 01's checks in `Fault`, `Check`, `Two` and `Part`; `Refusal` says the same table by the nodes
+-- that draw an answer; `Merge` and `Walk` are words of private functions alone.
 pub mod Check
 pub mod Fault
 pub mod Merge

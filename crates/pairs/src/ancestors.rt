@@ -24,8 +24,6 @@ ghost use Rattle.nodes.specs.Choose.{firstAt};
 ghost use Rattle.nodes.specs.Node.{deeperb, afterb, openb};
 ghost use Rattle.nodes.specs.Words.{nodes, count, nodeAt};
 ghost use Rattle.lists.specs.Two.{checkTwo};
-ghost use Rattle.paging.specs.Page.{remains};
-ghost use Rattle.tickets.specs.Listing.{listing};
 ghost use Rattle.tickets.specs.Row.{row, matches};
 ghost use Rattle.pairs.specs.Sweep.{Running, served, servedAll};
 

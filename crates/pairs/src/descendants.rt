@@ -24,8 +24,6 @@ ghost use Rattle.nodes.specs.Node.{MOST-LEVELS};
 ghost use Rattle.nodes.specs.Words.{nodes, count};
 ghost use Rattle.lists.specs.Two.{checkTwo};
 ghost use Rattle.lists.specs.Walk.{firsts, Chain, Upon};
-ghost use Rattle.paging.specs.Page.{remains};
-ghost use Rattle.tickets.specs.Listing.{listing};
 ghost use Rattle.tickets.specs.Row.{row, matches};
 ghost use Rattle.pairs.specs.Sweep.{served, servedAll};
 

@@ -15,7 +15,6 @@ ghost use Prim.Native.Nat.{_≤_};
 ghost use Rattle.nodes.specs.Answer.{TAKEN};
 ghost use Rattle.nodes.specs.Words.{nodes};
 ghost use Rattle.lists.specs.Two.{checkTwo};
-ghost use Rattle.paging.specs.Page.{remains};
 ghost use Rattle.tickets.specs.Row.{room};
 ghost use Rattle.tickets.specs.Ticket.{ticket};
 ghost use Rattle.pairs.specs.Page.{pageOf, outputAfter};

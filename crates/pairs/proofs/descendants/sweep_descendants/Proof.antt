@@ -15,7 +15,7 @@ use Rattle.nodes.proofs.Tests.{not-read, not-none}
 use Rattle.paging.proofs.Serving.{left-on, left-stop, left-end}
 use Rattle.tickets.proofs.Rows.{rest-of}
 use Rattle.pairs.specs.Sweep.{servedAll}
-use Rattle.pairs.proofs.Swept.{Ready, ready-start, ready-at, ready-next, first-taken, at-descendant, at-rises, descend-start, descend-end, descend-row}
+use Rattle.pairs.proofs.Descending.{Ready, ready-start, ready-at, ready-next, first-taken, at-descendant, at-rises, descend-start, descend-end, descend-row}
 use Rattle.pairs.proofs.descendants.sweep_descendants.Statement.{statement}
 use Rattle.pairs.proofs.descendants.sweep_descendants.Tie as tie
 

@@ -8,7 +8,7 @@ use denote.Ref.{now}
 use borrow.Author.Tests.{not-true, not-false}
 use Rattle.nodes.specs.Words.{count}
 use Rattle.pairs.specs.Sweep.{Opening}
-use Rattle.pairs.proofs.Openings.{next-fits, next-passed, passing-ends, passing-done}
+use Rattle.pairs.proofs.OpenStack.{next-fits, next-passed, passing-ends, passing-done}
 use Rattle.pairs.proofs.open.open_before.Statement.{statement}
 use Rattle.pairs.proofs.open.open_before.Tie as tie
 

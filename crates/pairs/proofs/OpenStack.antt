@@ -19,7 +19,7 @@ use Rattle.lists.proofs.Faults.{Sound}
 use Rattle.lists.proofs.Taken.{words-taken-iff}
 use Rattle.pairs.specs.Sweep.{Open, Opening}
 use Rattle.pairs.proofs.Accepted.{all-at, fine-before, none-before}
-use Rattle.pairs.proofs.Opening.{open-push}
+use Rattle.pairs.proofs.OpenRow.{open-push}
 
 module _ (ws : List ℕ) (d : Node) (taken : checkWords ws .answer ≡ TAKEN) where
   -- the next ancestor, which stands before d, fits onto the stack

@@ -29,7 +29,7 @@ use Rattle.tickets.proofs.Rows.{rest-of, rest-served}
 use Rattle.pairs.specs.Sweep.{Opening}
 use Rattle.pairs.proofs.Accepted.{accepted, all-at, pairs-at, fine-with}
 use Rattle.pairs.proofs.Matching.{matches-open}
-use Rattle.pairs.proofs.Opening.{all-among, upon-left, open-none, open-left, open-later}
+use Rattle.pairs.proofs.OpenRow.{all-among, upon-left, open-none, open-left, open-later}
 use Rattle.pairs.proofs.Rowing.{matches-rise, rest-row}
 
 module _ (as′ ds : List ℕ) where
