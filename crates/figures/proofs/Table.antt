@@ -2,16 +2,23 @@
 -- A row that states anything else than what the definitions compute is refused here.
 use mathlib.Core.Path.{_≡_, refl}
 use mathlib.Core.Bool.{true}
-use mathlib.Core.List.{List, [], _∷_}
+use mathlib.Core.List.{List, [], _∷_, flatMap}
 use Prim.Native.Nat.{ℕ}
 use lib.Dec.{eqb}
 use borrow.Author.Tests.{eqb-true}
-use Rattle.nodes.specs.Choose.{All, any}
-use Rattle.nodes.specs.Node.{endsb, insideb, apartb, afterb, openb, sameb}
-use Rattle.nodes.specs.Words.{nodes}
+use Rattle.nodes.specs.Choose.{All, any, keep}
+use Rattle.nodes.specs.Node.{endsb, insideb, deeperb, directlyb, apartb, afterb, openb, sameb}
+use Rattle.nodes.specs.Words.{nodes, wordsOf}
 use Rattle.lists.specs.Check.{checkFrom, checkNodes, raggedb, longb, wordFault, checkWords}
 use Rattle.lists.specs.Fault.{levelb, spanb, orderb, crossb, depthb, fault}
 use Rattle.lists.specs.Two.{nestedb, agreeb, oddsb, jointb, refusedb, checkTwo}
+use Rattle.paging.specs.Key.{aboveb}
+use Rattle.paging.specs.Page.{pastb, remains, handed, doneb, reached}
+use Rattle.paging.specs.Written.{wordsIn, written}
+use Rattle.tickets.specs.Listing.{relatedb, keyOf, leaders, followers, pairOf, everyPair, listing}
+use Rattle.tickets.specs.Row.{pairWords}
+use Rattle.pairs.specs.Calls.{pairsIn}
+use Rattle.pairs.specs.Page.{handedOut, saysDone, ticketAfter, pageOf, outputAfter}
 use Rattle.nodes.proofs.Tests.{never, and-read}
 use Rattle.figures.specs.Figures.{Row, figures, equalb, heldb}
 
@@ -29,7 +36,9 @@ held (r ∷ rows) h = let p = and-read (equalb (r .found) (r .stated)) h in (equ
 
 computed : heldb figures ≡ true
 unfolding figures equalb heldb checkWords wordFault raggedb longb nodes checkNodes checkFrom fault levelb spanb orderb crossb depthb any
-    endsb insideb afterb openb checkTwo refusedb jointb oddsb agreeb nestedb apartb sameb
+    endsb insideb afterb openb checkTwo refusedb jointb oddsb agreeb nestedb apartb sameb keep deeperb directlyb wordsOf aboveb pastb remains
+    handed doneb reached wordsIn written relatedb keyOf leaders followers pairOf everyPair listing pairWords pairsIn handedOut saysDone
+    ticketAfter pageOf outputAfter flatMap
 computed = refl
 
 -- each row's numbers are those that document 01 states

@@ -1,13 +1,24 @@
 -- Document 01, "Figures to hold against it": the cases marked [P], as rows of one table.
-use Prim.Native.Nat.{ℕ}
-use mathlib.Core.Bool.{Bool, true, false, _&&_}
-use mathlib.Core.List.{List, [], _∷_}
+use Prim.Native.Nat.{ℕ, _*_}
+use mathlib.Core.Bool.{Bool, true, false, cond, _&&_}
+use mathlib.Core.List.{List, [], _∷_, _++_, map}
 use lib.Dec.{eqb}
+use lib.ListN.{length, replicate}
 use Rattle.nodes.specs.Answer.{TAKEN, LEVEL, CROSS, DEPTH, JOINT}
 use Rattle.lists.specs.declared.verdict.Verdict.{Verdict}
 use Rattle.lists.specs.Check.{checkWords}
 use Rattle.lists.specs.Two.{checkTwo}
 use Rattle.lists.specs.Verdict.{ANCESTORS}
+use Rattle.tickets.specs.declared.ticket.Order.{Order}
+use Rattle.tickets.specs.declared.ticket.Order.the-variants.{Descendant, Ancestor}
+use Rattle.tickets.specs.declared.ticket.Place.{Place}
+use Rattle.tickets.specs.declared.ticket.Place.the-variants.{Fresh, After}
+use Rattle.tickets.specs.declared.ticket.Relation.{Relation}
+use Rattle.tickets.specs.declared.ticket.Relation.the-variants.{Inside, Directly}
+use Rattle.tickets.specs.declared.ticket.Ticket.{Ticket}
+use Rattle.tickets.specs.Row.{PAIR-WORDS}
+use Rattle.tickets.specs.Ticket.{ticket, keyWith, numbersOf}
+use Rattle.pairs.specs.Calls.{Call, answer, shown}
 
 -- a figure: what the definitions compute, and what document 01 states
 pub record Row : Type 0 where
@@ -32,6 +43,69 @@ abbrev pub two : List (ℕ × ℕ × ℕ) → List (ℕ × ℕ × ℕ) → ℕ �
 two ancestors descendants answer =
     record { found = numbers (checkTwo (words ancestors) (words descendants)); stated = answer ∷ ANCESTORS ∷ 0 ∷ [] }
 
+-- a list of nodes, each given as (start, end, level)
+abbrev pub Nodes : Type 0
+Nodes = List (ℕ × ℕ × ℕ)
+
+-- a page call with two lists and an output of so much room
+abbrev pub call : ℕ → Nodes → Nodes → Call
+call room ancestors descendants =
+    record { ancestors = words ancestors; descendants = words descendants; out = replicate (PAIR-WORDS * room) 0 }
+
+-- pairs by the starts of ancestor and descendant
+abbrev pub starts : List (ℕ × ℕ) → List ℕ
+starts [] = []
+starts (p ∷ ps) = p .0 ∷ p .1 ∷ starts ps
+
+-- what a page call shows, as numbers: the answer, how many pairs, the pairs by their starts, and done as 1 or 0
+abbrev pub shows : ℕ → List (ℕ × ℕ) → ℕ → List ℕ
+shows answer pairs done = answer ∷ length pairs ∷ starts pairs ++ (done ∷ [])
+
+-- so many pairs, and not done; so many, and done
+abbrev pub more : List (ℕ × ℕ) → List ℕ
+more pairs = shows TAKEN pairs 0
+
+abbrev pub all : List (ℕ × ℕ) → List ℕ
+all pairs = shows TAKEN pairs 1
+
+-- what a call shows by the definitions, and what a sequence does in which each call takes the ticket that the last one returned
+abbrev pub seen : Ticket → Call → List ℕ
+seen t c =
+    answer t c .verdict .answer ∷ answer t c .count
+    ∷ starts (map (λ p. (p .ancestor .start, p .descendant .start)) (shown t c)) ++ (cond (answer t c .done) 1 0 ∷ [])
+
+abbrev pub seenThrough : Ticket → List Call → List ℕ
+seenThrough t [] = []
+seenThrough t (c ∷ cs) = seen t c ++ seenThrough (answer t c .ticket) cs
+
+-- page calls from a fresh ticket on
+abbrev pub calls : Relation → Order → List Call → List ℕ → Row
+calls relation order cs stated = record { found = seenThrough (ticket relation order Fresh) cs; stated = stated }
+
+-- page calls with the same two lists, one for each room
+abbrev pub page : Relation → Order → List ℕ → Nodes → Nodes → List ℕ → Row
+page relation order rooms ancestors descendants stated =
+    calls relation order (map (λ room. call room ancestors descendants) rooms) stated
+
+-- the numbers of a place
+abbrev pub placeNumbers : Place → List ℕ
+placeNumbers Fresh = []
+placeNumbers (After k) = numbersOf k
+
+-- a refused page call with room 1 and a ticket in document 5: the answer, no pair, not done, and the ticket's place again
+abbrev pub refused : Relation → Order → ℕ → ℕ → Nodes → Nodes → ℕ → Row
+refused relation order leader follower ancestors descendants stated =
+    let t = ticket relation order (After (keyWith 5 leader follower)) in
+    let c = call 1 ancestors descendants in
+    record { found = seen t c ++ placeNumbers (answer t c .ticket .place); stated = shows stated [] 0 ++ (5 ∷ leader ∷ follower ∷ []) }
+
+-- document 01's Z and S, the nodes of tags 2 and 3 in its example
+abbrev pub Z : Nodes
+Z = (2, 10, 2) ∷ (3, 7, 3) ∷ []
+
+abbrev pub S : Nodes
+S = (4, 6, 4) ∷ (8, 9, 3) ∷ []
+
 -- the table
 unfoldable pub figures : List Row
 figures =
@@ -43,6 +117,26 @@ figures =
     ∷ one ((2, 2, 64) ∷ []) TAKEN 0
     ∷ one ((2, 2, 65) ∷ []) LEVEL 0
     ∷ two ((1, 9, 1) ∷ []) ((4, 12, 2) ∷ []) JOINT
+    -- shortcut 1, joining only with the innermost open zone, loses 2-4; shortcut 2, leaving a zone when the ancestors run out, loses 2-8
+    ∷ page Inside Descendant (3 ∷ []) Z S (all ((2, 4) ∷ (3, 4) ∷ (2, 8) ∷ []))
+    -- shortcut 4, printing ancestor order in the order found, gives the row above
+    ∷ page Inside Ancestor (3 ∷ []) Z S (all ((2, 4) ∷ (2, 8) ∷ (3, 4) ∷ []))
+    ∷ page Directly Descendant (2 ∷ []) Z S (all ((3, 4) ∷ (2, 8) ∷ []))
+    ∷ page Directly Ancestor (2 ∷ []) Z S (all ((2, 8) ∷ (3, 4) ∷ []))
+    ∷ page Inside Descendant (2 ∷ 2 ∷ []) Z S (more ((2, 4) ∷ (3, 4) ∷ []) ++ all ((2, 8) ∷ []))
+    ∷ page Inside Descendant (3 ∷ []) Z Z (all ((2, 3) ∷ []))
+    ∷ refused Inside Descendant 4 2 ((1, 9, 1) ∷ []) ((4, 12, 2) ∷ []) JOINT
+    ∷ page Inside Descendant (1 ∷ []) [] [] (all [])
+    -- shortcut 3, "directly" as "innermost in the list": the list of ancestors has no node of level 3
+    ∷ page Inside Descendant (1 ∷ []) ((2, 10, 2) ∷ []) ((4, 6, 4) ∷ []) (all ((2, 4) ∷ []))
+    ∷ page Directly Descendant (1 ∷ []) ((2, 10, 2) ∷ []) ((4, 6, 4) ∷ []) (all [])
+    ∷ page Directly Ancestor (1 ∷ []) ((2, 10, 2) ∷ []) ((4, 6, 4) ∷ []) (all [])
+    -- shortcut 5, an index as the place reached: after a removal 2-8 is lost, after an insertion it comes twice
+    ∷ calls Inside Descendant (call 2 Z S ∷ call 2 Z ((8, 9, 3) ∷ []) ∷ []) (more ((2, 4) ∷ (3, 4) ∷ []) ++ all ((2, 8) ∷ []))
+    ∷ calls Inside Ancestor (call 2 Z S ∷ call 2 Z ((4, 6, 4) ∷ (5, 5, 5) ∷ (8, 9, 3) ∷ []) ∷ [])
+    (more ((2, 4) ∷ (2, 8) ∷ []) ++ all ((3, 4) ∷ (3, 5) ∷ []))
+    -- shortcut 6, a node in both lists as JOINT, or as its own ancestor
+    ∷ page Inside Descendant (4 ∷ []) Z ((3, 7, 3) ∷ (4, 6, 4) ∷ []) (all ((2, 3) ∷ (2, 4) ∷ (3, 4) ∷ []))
     ∷ []
 
 -- two lists of numbers are equal
