@@ -121,7 +121,8 @@ module _ (as′ ds : List ℕ) where
         descend-row relation place =
             ap (λ ns. rest-of relation Descendant place ns (nodes as′)) (rw q (nodes-from ds j l))
             ∙ rest-row relation Descendant d place (drop (j + 1) (nodes ds)) (nodes as′)
-            ∙ ap (λ zs. remains (sortKey Descendant) (spotOf place) (row Descendant d zs) ++ rest-of relation Descendant place (drop (j + 1) (nodes ds)) (nodes as′))
+            ∙ ap (λ zs. remains (sortKey Descendant) (spotOf place) (row Descendant d zs) ++ rest-of relation Descendant place
+            (drop (j + 1) (nodes ds)) (nodes as′))
             (at-matches relation)
 
         -- and the stack is ready for the next one
@@ -133,6 +134,7 @@ module _ (as′ ds : List ℕ) where
           row =
               open-later d (nodeAt ds (j + 1)) _ _
               (rw q
-              (pairs-at Fine (nodes ds) j (j + 1) (node 0 0 0 0) (omega arith) (omega (arith, length-nodes ds)) (accepted as′ ds taken .fine-ds) .after))
+              (pairs-at Fine (nodes ds) j (j + 1) (node 0 0 0 0) (omega arith) (omega (arith, length-nodes ds))
+              (accepted as′ ds taken .fine-ds) .after))
               (h .opening .row);
         }

@@ -51,7 +51,8 @@ module _ (as′ ds : List ℕ) (t : Ticket) (out : List ℕ) where
     done-all = rw (eq-eqb (checkTwo as′ ds .answer) TAKEN taken) refl
 
     -- the place read off the output is the one that the pairs reach
-    place-read : (u : Ticket) → u ≡ ticket (t .relation) (t .order) (placeIn (t .order) (t .place) (nodes (outputAfter as′ ds t out)) (length (handedOut as′ ds t out)))
+    place-read : (u : Ticket)
+        → u ≡ ticket (t .relation) (t .order) (placeIn (t .order) (t .place) (nodes (outputAfter as′ ds t out)) (length (handedOut as′ ds t out)))
         → u ≡ ticketAfter as′ ds t out
     unfolding outputAfter ticketAfter written
     place-read u p = p ∙ ap (ticket (t .relation) (t .order)) (last-place (t .order) (t .place) (handedOut as′ ds t out) _)

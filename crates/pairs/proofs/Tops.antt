@@ -34,8 +34,11 @@ module _ (relation : Relation) (d : Node) (ws : List ℕ) (depth : ℕ) where
   module _ (l : depth ≤ count ws) (c : Chain (firsts depth (nodes ws))) (u : Upon d (firsts depth (nodes ws))) where
     -- inside all of them
     pub match-all : relation ≡ Inside → Stretch relation d ws depth 0
-    match-all q =
-        (omega arith, rw q (ap reverse (inside-all d (firsts depth (nodes ws)) c u) ∙ firsts-turned depth (nodes ws) (omega (arith, length-nodes ws)) ∙ rw (sub-zero depth) refl))
+    match-all q = (
+      omega arith,
+      rw q (ap reverse (inside-all d (firsts depth (nodes ws)) c u)
+          ∙ firsts-turned depth (nodes ws) (omega (arith, length-nodes ws)) ∙ rw (sub-zero depth) refl),
+    )
 
     module _ (e : Node) (q : relation ≡ Directly) (p : 0 < depth) (h : e ≡ nodeAt ws (depth - 1)) where
       top-matches : matches Directly Descendant d (firsts depth (nodes ws)) ≡ cond (deeperb d e) (e ∷ []) []

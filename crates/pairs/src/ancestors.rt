@@ -177,7 +177,8 @@ pub(crate) fn sweep_ancestors(
     out: &mut [u32],
 ) -> Handed
     requires { ⌜ checkTwo (now ancestors) (now descendants) .answer ≡ TAKEN ⌝ }
-    ensures { λ r. ⌜ (now (out .exit), r .count, r .done) ≡ servedAll relation Order.Ancestor place (now (out .entry)) (now (ancestors .entry)) (now (descendants .entry)) ⌝ }
+    ensures { λ r. ⌜ (now (out .exit), r .count, r .done) ≡ servedAll relation Order.Ancestor place
+        (now (out .entry)) (now (ancestors .entry)) (now (descendants .entry)) ⌝ }
 {
     let mut handed = Handed {
         count: 0,

@@ -102,7 +102,8 @@ pub(crate) fn sweep_descendants(
     out: &mut [u32],
 ) -> Handed
     requires { ⌜ checkTwo (now ancestors) (now descendants) .answer ≡ TAKEN ⌝ }
-    ensures { λ r. ⌜ (now (out .exit), r .count, r .done) ≡ servedAll relation Order.Descendant place (now (out .entry)) (now (ancestors .entry)) (now (descendants .entry)) ⌝ }
+    ensures { λ r. ⌜ (now (out .exit), r .count, r .done) ≡ servedAll relation Order.Descendant place
+        (now (out .entry)) (now (ancestors .entry)) (now (descendants .entry)) ⌝ }
 {
     let mut stack = [0u32; STACK_WORDS];
     let mut depth = 0;

@@ -32,7 +32,8 @@ pub struct Page {
 // What remains of the listing that a ticket asks for is handed out, as much as fits.
 fn sweep(ancestors: &[u32], descendants: &[u32], ticket: Ticket, out: &mut [u32]) -> Handed
     requires { ⌜ checkTwo (now ancestors) (now descendants) .answer ≡ TAKEN ⌝ }
-    ensures { λ r. ⌜ (now (out .exit), r .count, r .done) ≡ servedAll (ticket .relation) (ticket .order) (ticket .place) (now (out .entry)) (now (ancestors .entry)) (now (descendants .entry)) ⌝ }
+    ensures { λ r. ⌜ (now (out .exit), r .count, r .done) ≡ servedAll (ticket .relation) (ticket .order) (ticket .place)
+        (now (out .entry)) (now (ancestors .entry)) (now (descendants .entry)) ⌝ }
 {
     let relation = ticket.relation;
     let order = ticket.order;

@@ -102,7 +102,8 @@ listed-iff relation order as′ ds p =
           (s .0, s .1, all-in (λ q. relatedb relation q ≡ true) kept (keep-past (relatedb relation) every) m),
       λ h.
           let s = met .1 (h .0, h .1) in
-          keep-in (relatedb relation) every p (Memᴰ·cast (pair-of order p) (in-every order (leader order p) (follower order p) xs ys (s .0) (s .1))) (h .2),
+          keep-in (relatedb relation) every p (Memᴰ·cast (pair-of order p) (in-every order (leader order p) (follower order p) xs ys (s .0) (s .1)))
+          (h .2),
     )
 
 -- related nodes are of one document

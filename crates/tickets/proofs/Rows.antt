@@ -87,7 +87,8 @@ unfolding firstAhead firstAt remains keep row
 row-ahead order place x [] h = refl
 row-ahead order place x (y ∷ zs) h =
     elim (either (aheadb place x y)) [
-      | inl a ↦ rw a (keep-all _ (row order x (y ∷ zs)) (row-all order place x true (y ∷ zs) (a, all-map (λ z s. ahead-later place x y z s a) zs (h .0))))
+      | inl a ↦ rw a (keep-all _ (row order x (y ∷ zs)) (row-all order place x true (y ∷ zs)
+          (a, all-map (λ z s. ahead-later place x y z s a) zs (h .0))))
       | inr a ↦ rw a (keep-failed _ (pairOf order x y) (row order x zs) (row-past order place x y ∙ a) ∙ row-ahead order place x zs (h .1))
     ]
 

@@ -56,7 +56,8 @@ pub fn hand_row(
     leader: Node,
     followers: &[u32],
 ) -> Handed
-    ensures { λ r. ⌜ (now (out .exit), r .count, r .done) ≡ serve pairWords PAIR-WORDS (now (out .entry)) written (row order leader (nodes (now (followers .entry)))) ⌝ }
+    ensures { λ r. ⌜ (now (out .exit), r .count, r .done) ≡ serve pairWords PAIR-WORDS (now (out .entry)) written
+        (row order leader (nodes (now (followers .entry)))) ⌝ }
 {
     let mut count = written;
     let mut k = 0;

@@ -69,8 +69,10 @@ is-ahead-requires c κs = search needs
 returns-2 : tie.Need-returns-2
 returns-2 c =
     let a = c .before .before .before .before .before .before .before .before .args in
-    served-child (a .place) (a .ancestor) (now (a .descendants)) (a .k) (now (a .out)) (a .written) _ _ (c .before .before .before .before .before .node-at .ensures) (c .before .before .node-at2 .ensures)
-    (sym (c .before .before .before .before .is-one-deeper .ensures) ∙ not-false _ (c .before .before .before .if1 .left)) (sym (c .before .is-ahead .ensures) ∙ not-true _ (c .if2 .taken))
+    served-child (a .place) (a .ancestor) (now (a .descendants)) (a .k) (now (a .out)) (a .written) _ _
+    (c .before .before .before .before .before .node-at .ensures) (c .before .before .node-at2 .ensures)
+    (sym (c .before .before .before .before .is-one-deeper .ensures) ∙ not-false _ (c .before .before .before .if1 .left))
+    (sym (c .before .is-ahead .ensures) ∙ not-true _ (c .if2 .taken))
 
 mul-hand-row : tie.Need-mul-hand-row
 mul-hand-row c = search needs
@@ -105,8 +107,10 @@ returns-3 c =
     let at-child = c .before .before .before .before .before in
     c .before .before .hand-row .ensures
     ∙ ap (serve pairWords PAIR-WORDS (now (a .out)) (a .written))
-    (one-child (a .place) (a .ancestor) (now (a .descendants)) (a .k) _ _ (omega arith) (at-child .before .before .before .before .before .node-at .ensures)
-    (at-child .before .before .node-at2 .ensures) (sym (at-child .before .before .before .before .is-one-deeper .ensures) ∙ not-false _ (at-child .before .before .before .if1 .left))
+    (one-child (a .place) (a .ancestor) (now (a .descendants)) (a .k) _ _ (omega arith)
+    (at-child .before .before .before .before .before .node-at .ensures)
+    (at-child .before .before .node-at2 .ensures) (sym (at-child .before .before .before .before .is-one-deeper .ensures)
+    ∙ not-false _ (at-child .before .before .before .if1 .left))
     (sym (at-child .before .is-ahead .ensures) ∙ not-false _ (at-child .if2 .left)))
 
 pub hand-child-spec : {M : Type 1} → statement M

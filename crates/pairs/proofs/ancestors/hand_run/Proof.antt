@@ -67,9 +67,12 @@ same-length c = search needs
 returns : tie.Need-returns
 returns c =
     let a = c .before .before .before .before .before .before .before .before .before .before .args in
-    let row = running-row (now (a .descendants)) (a .ancestor) (a .place) (a .from) _ (c .before .before .before .before .before .before .before .before .before .before .pre) (c .before .before .before .before .before .before .before .run-end .ensures) in
+    let row = running-row (now (a .descendants)) (a .ancestor) (a .place) (a .from) _
+    (c .before .before .before .before .before .before .before .before .before .before .pre)
+    (c .before .before .before .before .before .before .before .run-end .ensures) in
     c .before .before .hand-row .ensures
-    ∙ ap (serve pairWords PAIR-WORDS (now (a .out)) (a .written)) (past-rest Ancestor (a .place) (a .ancestor) _ _ (c .before .before .before .before .before .first-ahead .ensures) ∙ row)
+    ∙ ap (serve pairWords PAIR-WORDS (now (a .out)) (a .written))
+    (past-rest Ancestor (a .place) (a .ancestor) _ _ (c .before .before .before .before .before .first-ahead .ensures) ∙ row)
 
 pub hand-run-spec : {M : Type 1} → statement M
 hand-run-spec =

@@ -35,7 +35,8 @@ returns-2 : tie.Need-returns-2
 returns-2 c =
     let a = c .before .before .before .before .before .before .before .args in
     let p = c .before .before .before .before .before .before .before .pre in
-    match-top (a .relation) (a .descendant) (now (a .stack)) (a .depth) (p .0) (p .1) (p .2) _ (c .before .before .before .before .enum-told2 .given .1) (omega arith) (c .before .before .node-at .ensures)
+    match-top (a .relation) (a .descendant) (now (a .stack)) (a .depth) (p .0) (p .1) (p .2) _
+    (c .before .before .before .before .enum-told2 .given .1) (omega arith) (c .before .before .node-at .ensures)
     (sym (c .before .is-one-deeper .ensures) ∙ c .if2 .taken)
 
 returns-3 : tie.Need-returns-3
@@ -48,7 +49,8 @@ returns-4 : tie.Need-returns-4
 returns-4 c =
     let a = c .before .before .before .before .before .before .before .args in
     let p = c .before .before .before .before .before .before .before .pre in
-    match-past (a .relation) (a .descendant) (now (a .stack)) (a .depth) (p .0) (p .1) (p .2) _ (c .before .before .before .before .enum-told2 .given .1) (omega arith) (c .before .before .node-at .ensures)
+    match-past (a .relation) (a .descendant) (now (a .stack)) (a .depth) (p .0) (p .1) (p .2) _
+    (c .before .before .before .before .enum-told2 .given .1) (omega arith) (c .before .before .node-at .ensures)
     (sym (c .before .is-one-deeper .ensures) ∙ c .if2 .left)
 
 pub first-match-spec : {M : Type 1} → statement M

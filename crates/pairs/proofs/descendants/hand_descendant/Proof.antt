@@ -20,8 +20,12 @@ first-match-requires c κs = search needs
 
 hand-stretch-requires : tie.Need-hand-stretch-requires
 hand-stretch-requires c κs =
-    let f = c .before .before .first-match .ensures in
-    (f .0, omega (arith, c .hand-stretch-arg2 .given), subst (Pairs (λ x y. x .start < y .start)) (f .1) (c .before .before .before .before .before .pre .3))
+    let f = c .before .before .first-match .ensures in (
+      f .0,
+      omega (arith, c .hand-stretch-arg2 .given),
+      subst (Pairs (λ x y. x .start < y .start)) (f .1)
+          (c .before .before .before .before .before .pre .3),
+    )
 
 same-length : tie.Need-same-length
 same-length c = search needs
@@ -30,7 +34,8 @@ returns : tie.Need-returns
 returns c =
     let a = c .before .before .before .before .before .before .before .before .args in
     c .before .before .hand-stretch .ensures
-    ∙ ap (λ ns. serve pairWords PAIR-WORDS (now (a .out)) (a .written) (remains (sortKey Descendant) (spotOf (a .place)) (row Descendant (a .descendant) ns)))
+    ∙ ap (λ ns. serve pairWords PAIR-WORDS (now (a .out)) (a .written)
+    (remains (sortKey Descendant) (spotOf (a .place)) (row Descendant (a .descendant) ns)))
     (sym (c .before .before .before .before .before .first-match .ensures .1))
 
 pub hand-descendant-spec : {M : Type 1} → statement M

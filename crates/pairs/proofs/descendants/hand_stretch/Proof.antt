@@ -58,8 +58,10 @@ returns : tie.Need-returns
 returns c =
     let a = c .before .before .before .before .before .before .before .before .before .args in
     c .before .before .hand-row .ensures
-    ∙ ap (serve pairWords PAIR-WORDS (now (a .out)) (a .written)) (past-rest Descendant (a .place) (a .descendant) _ _ (c .before .before .before .before .before .first-ahead .ensures))
-    ∙ stretch-served (now (a .out)) (a .written) Descendant (a .place) (a .descendant) _ (now (a .stack)) (a .from) (a .to) (c .before .before .before .before .before .before .before .before .before .pre .2) refl
+    ∙ ap (serve pairWords PAIR-WORDS (now (a .out)) (a .written))
+    (past-rest Descendant (a .place) (a .descendant) _ _ (c .before .before .before .before .before .first-ahead .ensures))
+    ∙ stretch-served (now (a .out)) (a .written) Descendant (a .place) (a .descendant) _ (now (a .stack)) (a .from) (a .to)
+    (c .before .before .before .before .before .before .before .before .before .pre .2) refl
 
 pub hand-stretch-spec : {M : Type 1} → statement M
 hand-stretch-spec =

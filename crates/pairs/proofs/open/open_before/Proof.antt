@@ -33,14 +33,18 @@ is-after-requires c κs = search needs
 returns : tie.Need-returns Inv-loop μ-loop
 returns c =
     let a = c .before .before .before .before .before .before .before .args in
-    let l = c .before .before .before .before .before .loop in
-    (l .inv, passing-ends (now (a .ancestors)) (a .descendant) (c .before .before .before .before .before .before .before .pre .0) _ _ (c .before .before .node-at .ensures) (sym (c .before .is-after .ensures) ∙ not-true _ (c .if2 .taken)))
+    let l = c .before .before .before .before .before .loop in (
+      l .inv,
+      passing-ends (now (a .ancestors)) (a .descendant) (c .before .before .before .before .before .before .before .pre .0) _ _
+          (c .before .before .node-at .ensures) (sym (c .before .is-after .ensures) ∙ not-true _ (c .if2 .taken)),
+    )
 
 put-on-top-requires : tie.Need-put-on-top-requires Inv-loop μ-loop
 put-on-top-requires c κs =
     let a = c .before .before .before .before .before .before .before .before .args in
     let l = c .before .before .before .before .before .before .loop in
-    next-fits (now (a .ancestors)) (a .descendant) (c .before .before .before .before .before .before .before .before .pre .0) _ _ _ _ (l .inv) (omega arith) (c .before .before .before .node-at .ensures) (sym (c .before .before .is-after .ensures) ∙ not-false _ (c .before .if2 .left))
+    next-fits (now (a .ancestors)) (a .descendant) (c .before .before .before .before .before .before .before .before .pre .0) _ _ _ _ (l .inv)
+    (omega arith) (c .before .before .before .node-at .ensures) (sym (c .before .before .is-after .ensures) ∙ not-false _ (c .before .if2 .left))
 
 add-i : tie.Need-add-i Inv-loop μ-loop
 add-i c = search needs
@@ -52,12 +56,18 @@ loop-again : tie.Need-loop-again Inv-loop μ-loop
 loop-again c =
     let a = c .before .before .before .before .before .before .before .before .before .args in
     let l = c .before .before .before .before .before .before .before .loop in
-    next-passed (now (a .ancestors)) (a .descendant) (c .before .before .before .before .before .before .before .before .before .pre .0) _ _ _ _ _ _ (l .inv) (omega arith) (c .before .before .before .before .node-at .ensures) (sym (c .before .before .before .is-after .ensures) ∙ not-false _ (c .before .before .if2 .left)) (c .put-on-top .ensures .0) (c .put-on-top .ensures .1)
+    next-passed (now (a .ancestors)) (a .descendant) (c .before .before .before .before .before .before .before .before .before .pre .0) _ _ _ _ _ _
+    (l .inv) (omega arith) (c .before .before .before .before .node-at .ensures)
+    (sym (c .before .before .before .is-after .ensures) ∙ not-false _ (c .before .before .if2 .left)) (c .put-on-top .ensures .0)
+    (c .put-on-top .ensures .1)
 
 returns-2 : tie.Need-returns-2 Inv-loop μ-loop
 returns-2 c =
-    let a = c .before .before .before .before .args in
-    (c .before .before .loop .inv, passing-done (now (a .ancestors)) (a .descendant) (c .before .before .before .before .pre .0) (c .before .before .loop .i) (omega arith))
+    let a = c .before .before .before .before .args in (
+      c .before .before .loop .inv,
+      passing-done (now (a .ancestors)) (a .descendant) (c .before .before .before .before .pre .0)
+          (c .before .before .loop .i) (omega arith),
+    )
 
 pub open-before-spec : {M : Type 1} → statement M
 open-before-spec =

@@ -28,15 +28,21 @@ put-node-requires : tie.Need-put-node-requires
 put-node-requires c κs = search needs
 
 add-result : tie.Need-add-result
-add-result c = let h = left-below _ _ _ _ (c .before .before .before .before .pre .0) (c .before .before .before .before .pre .1) (c .before .before .still-open .ensures .1) in omega arith
+add-result c =
+    let p = c .before .before .before .before .pre in
+    let h = left-below _ _ _ _ (p .0) (p .1) (c .before .before .still-open .ensures .1) in
+    omega arith
 
 returns : tie.Need-returns
 returns c =
     let a = c .before .before .before .before .args in
     let p = c .before .before .before .before .pre in
     let e = c .before .before .still-open .ensures .1 in
-    let h = left-below (now (a .stack)) (a .depth) _ (a .ancestor) (p .0) (p .1) e in
-    (omega arith, firsts-put (now (a .stack)) _ _ (a .ancestor) (omega (arith, c .before .put-node-arg .given)) (c .put-node .ensures) ∙ ap (λ es. a .ancestor ∷ es) e)
+    let h = left-below (now (a .stack)) (a .depth) _ (a .ancestor) (p .0) (p .1) e in (
+      omega arith,
+      firsts-put (now (a .stack)) _ _ (a .ancestor) (omega (arith, c .before .put-node-arg .given)) (c .put-node .ensures)
+          ∙ ap (λ es. a .ancestor ∷ es) e,
+    )
 
 pub put-on-top-spec : {M : Type 1} → statement M
 put-on-top-spec = tie.close (tie.spec still-open-requires put-node-requires add-result returns)

@@ -33,8 +33,11 @@ is-open-requires c κs = search needs
 returns : tie.Need-returns Inv-loop μ-loop
 returns c =
     let a = c .before .before .before .before .before .before .args in
-    let l = c .before .before .before .before .before .loop in
-    (l .inv .0, head-open _ (now (a .stack)) (a .node) _ (omega arith) (c .before .before .node-at .ensures) (sym (c .before .is-open .ensures) ∙ c .if1 .taken) ∙ l .inv .1)
+    let l = c .before .before .before .before .before .loop in (
+      l .inv .0,
+      head-open _ (now (a .stack)) (a .node) _ (omega arith) (c .before .before .node-at .ensures)
+          (sym (c .before .is-open .ensures) ∙ c .if1 .taken) ∙ l .inv .1,
+    )
 
 sub-left : tie.Need-sub-left Inv-loop μ-loop
 sub-left c = search needs
@@ -45,8 +48,11 @@ loop-less c = search needs
 loop-again : tie.Need-loop-again Inv-loop μ-loop
 loop-again c =
     let a = c .before .before .before .before .before .before .args in
-    let l = c .before .before .before .before .before .loop in
-    (omega arith, head-shut _ (now (a .stack)) (a .node) _ (omega arith) (c .before .before .node-at .ensures) (sym (c .before .is-open .ensures) ∙ c .if1 .left) ∙ l .inv .1)
+    let l = c .before .before .before .before .before .loop in (
+      omega arith,
+      head-shut _ (now (a .stack)) (a .node) _ (omega arith) (c .before .before .node-at .ensures)
+          (sym (c .before .is-open .ensures) ∙ c .if1 .left) ∙ l .inv .1,
+    )
 
 returns-2 : tie.Need-returns-2 Inv-loop μ-loop
 returns-2 c =

@@ -49,12 +49,14 @@ enum-told-2 c = search needs
 returns : tie.Need-returns
 returns c =
     let a = c .before .before .before .before .before .args in
-    by-descendant _ (now (a .out)) (a .index) _ _ (c .enum-told .given .1) (c .before .before .before .node-at .ensures) (c .before .before .node-at2 .ensures)
+    by-descendant _ (now (a .out)) (a .index) _ _ (c .enum-told .given .1) (c .before .before .before .node-at .ensures)
+    (c .before .before .node-at2 .ensures)
 
 returns-2 : tie.Need-returns-2
 returns-2 c =
     let a = c .before .before .before .before .before .args in
-    by-ancestor _ (now (a .out)) (a .index) _ _ (c .enum-told2 .given .1) (c .before .before .before .node-at .ensures) (c .before .before .node-at2 .ensures)
+    by-ancestor _ (now (a .out)) (a .index) _ _ (c .enum-told2 .given .1) (c .before .before .before .node-at .ensures)
+    (c .before .before .node-at2 .ensures)
 
 pub key-at-spec : {M : Type 1} → statement M
 key-at-spec =

@@ -31,7 +31,8 @@ returns-2 : tie.Need-returns-2
 returns-2 c =
     let a = c .before .before .before .before .before .before .before .before .before .before .before .before .args in
     let v = c .before .before .before .before .before .before .before .before .check-two .ensures in
-    page-made (now (a .ancestors)) (now (a .descendants)) (a .ticket) (now (a .out)) _ _ _ (c .before .before .before .before .sweep .ensures) (sym (ap (λ w. w .answer) v) ∙ omega arith) _ _ v (c .ticket-after .ensures)
+    page-made (now (a .ancestors)) (now (a .descendants)) (a .ticket) (now (a .out)) _ _ _ (c .before .before .before .before .sweep .ensures)
+    (sym (ap (λ w. w .answer) v) ∙ omega arith) _ _ v (c .ticket-after .ensures)
 
 pub next-page-spec : {M : Type 1} → statement M
 next-page-spec =

@@ -41,7 +41,8 @@ same-length c = search needs
 returns : tie.Need-returns
 returns c =
     let a = c .before .before .before .before .before .before .before .before .before .args in
-    c .before .before .sweep-descendants .ensures ∙ in-order (now (a .ancestors)) (now (a .descendants)) (a .ticket) (now (a .out)) _ (c .before .before .before .before .enum-told .given .1)
+    c .before .before .sweep-descendants .ensures ∙ in-order (now (a .ancestors)) (now (a .descendants)) (a .ticket) (now (a .out)) _
+    (c .before .before .before .before .enum-told .given .1)
 
 same-length-2 : tie.Need-same-length-2
 same-length-2 c = search needs
@@ -49,7 +50,8 @@ same-length-2 c = search needs
 returns-2 : tie.Need-returns-2
 returns-2 c =
     let a = c .before .before .before .before .before .before .before .before .before .args in
-    c .before .before .sweep-ancestors .ensures ∙ in-order (now (a .ancestors)) (now (a .descendants)) (a .ticket) (now (a .out)) _ (c .before .before .before .before .enum-told2 .given .1)
+    c .before .before .sweep-ancestors .ensures ∙ in-order (now (a .ancestors)) (now (a .descendants)) (a .ticket) (now (a .out)) _
+    (c .before .before .before .before .enum-told2 .given .1)
 
 pub sweep-spec : {M : Type 1} → statement M
 sweep-spec =

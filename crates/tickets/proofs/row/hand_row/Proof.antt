@@ -36,7 +36,8 @@ module _ (order : Order) (x : Node) (ws : List ℕ) where
       → _≡_ {A = List ℕ × ℕ × Bool} (out, written, false) (served out written k)
   unfolding row
   full out written k h r =
-      rw (nodes-from ws k h) (sym (serve-full pairWords PAIR-WORDS out written (pairOf order x (nodeAt ws k)) (row order x (drop (k + 1) (nodes ws))) r))
+      rw (nodes-from ws k h) (sym (serve-full pairWords PAIR-WORDS out written (pairOf order x (nodeAt ws k))
+      (row order x (drop (k + 1) (nodes ws))) r))
 
   ended : (out : List ℕ) (written k : ℕ) → count ws ≤ k → _≡_ {A = List ℕ × ℕ × Bool} (out, written, true) (served out written k)
   unfolding row serve
@@ -83,7 +84,8 @@ loop-again : tie.Need-loop-again Inv-loop μ-loop
 loop-again c =
     let a = c .before .before .before .before .before .before .before .before .before .before .before .args in
     let l = c .before .before .before .before .before .before .before .before .loop in
-    let t = turned (a .order) (a .leader) (now (a .followers)) (l .out) _ (l .count) (l .k) _ (omega arith) (c .before .before .before .node-at .ensures) (omega arith) (c .before .before .put-pair .ensures) in
+    let t = turned (a .order) (a .leader) (now (a .followers)) (l .out) _ (l .count) (l .k) _ (omega arith)
+    (c .before .before .before .node-at .ensures) (omega arith) (c .before .before .put-pair .ensures) in
     (omega arith, t ∙ l .inv .1)
 
 same-length-2 : tie.Need-same-length-2 Inv-loop μ-loop
