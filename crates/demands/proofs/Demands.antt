@@ -20,7 +20,7 @@ use Rattle.tickets.specs.Listing.{Pair, relatedb, sortKey}
 use Rattle.tickets.specs.Row.{PAIR-WORDS, room}
 use Rattle.tickets.specs.Ticket.{freshTicket}
 use Rattle.tickets.proofs.Listed.{listed-iff, listing-ascends, listed-once}
-use Rattle.pairs.specs.Calls.{Call, AcceptedCall, fullListing, Stands, SameStarts, answer, output, shown, ticketThrough, shownThrough}
+use Rattle.pairs.specs.Calls.{Call, AcceptedCall, fullListing, StandsIn, SameStarts, answer, output, shown, ticketThrough, shownThrough}
 use Rattle.pairs.specs.Page.{pageOf}
 use Rattle.pairs.proofs.Answered.{lists-ascend, refusal, beyond-kept, output-length, whole-listing}
 use Rattle.pairs.proofs.Following.{none-lost, none-twice, own-lists, fills-room}
@@ -93,7 +93,7 @@ module _ (relation : Relation) (order : Order) (c : Call) where
 module _ (relation : Relation) (order : Order) where
   -- once an accepted call is done, every related pair that stood unaltered in the lists of each accepted call has been handed out
   pub no-pair-lost : (cs : List Call) (c : Call) → AcceptedCall c → answer (ticketThrough (freshTicket relation order) cs) c .done ≡ true
-      → (p : Pair) → relatedb relation p ≡ true → All (λ k. AcceptedCall k → Stands p k) cs → Stands p c
+      → (p : Pair) → relatedb relation p ≡ true → All (λ k. AcceptedCall k → StandsIn p k) cs → StandsIn p c
       → In p (shownThrough (freshTicket relation order) (cs ++ c ∷ []))
   no-pair-lost cs c a d p r s m = none-lost relation order cs c a d p r s m
 
@@ -103,7 +103,7 @@ module _ (relation : Relation) (order : Order) where
 
 module _ (t : Ticket) (c : Call) where
   -- every call, with any ticket, hands out related pairs of its own lists alone
-  pub pairs-of-its-own-lists : All (λ p. Stands p c × (relatedb (t .relation) p ≡ true)) (shown t c)
+  pub pairs-of-its-own-lists : All (λ p. StandsIn p c × (relatedb (t .relation) p ≡ true)) (shown t c)
   pairs-of-its-own-lists = own-lists t c
 
   -- an accepted call that isn't done has filled its room

@@ -23,7 +23,7 @@ use Rattle.tickets.specs.Listing.{Pair, relatedb, keyOf, sortKey}
 use Rattle.tickets.specs.Row.{room}
 use Rattle.tickets.specs.Ticket.{freshTicket, ticket, spotOf}
 use Rattle.tickets.proofs.Listed.{listed-iff, related-document, all-append, pairs-passed, listing-ascends}
-use Rattle.pairs.specs.Calls.{Call, AcceptedCall, fullListing, Stands, SameStarts, answer, shown, ticketThrough, shownThrough}
+use Rattle.pairs.specs.Calls.{Call, AcceptedCall, fullListing, StandsIn, SameStarts, answer, shown, ticketThrough, shownThrough}
 use Rattle.pairs.specs.Page.{listingOf, handedOut, saysDone, ticketAfter, pageOf}
 use Rattle.pairs.proofs.Answered.{not-refused, is-accepted, lists-ascend}
 use Rattle.pairs.proofs.Shown.{shown-is}
@@ -43,11 +43,11 @@ same-key relation Descendant p q r s e =
 same-key relation Ancestor p q r s e = λ i. e .0 i ∷ e .1 i ∷ e .2 i ∷ []
 
 handed-own : (t : Ticket) (c : Call)
-    → All (λ p. Stands p c × (relatedb (t .relation) p ≡ true)) (handedOut (c .ancestors) (c .descendants) t (c .out))
+    → All (λ p. StandsIn p c × (relatedb (t .relation) p ≡ true)) (handedOut (c .ancestors) (c .descendants) t (c .out))
 unfolding handedOut
 handed-own t c =
     let xs = listingOf t (c .ancestors) (c .descendants) in
-    let own : (p : Pair) → In p xs → Stands p c × (relatedb (t .relation) p ≡ true) = λ p m.
+    let own : (p : Pair) → In p xs → StandsIn p c × (relatedb (t .relation) p ≡ true) = λ p m.
     let l = listed-iff (t .relation) (t .order) (nodes (c .ancestors)) (nodes (c .descendants)) p .0 m in ((l .0, l .1), l .2) in
     elim (either (refusedb (checkTwo (c .ancestors) (c .descendants)))) [
       | inl h ↦ rw h tt
@@ -56,8 +56,8 @@ handed-own t c =
     ]
 
 -- a call hands out related pairs of its own two lists alone
-pub own-lists : (t : Ticket) (c : Call) → All (λ p. Stands p c × (relatedb (t .relation) p ≡ true)) (shown t c)
-own-lists t c = subst (All (λ p. Stands p c × (relatedb (t .relation) p ≡ true))) (sym (shown-is t c)) (handed-own t c)
+pub own-lists : (t : Ticket) (c : Call) → All (λ p. StandsIn p c × (relatedb (t .relation) p ≡ true)) (shown t c)
+own-lists t c = subst (All (λ p. StandsIn p c × (relatedb (t .relation) p ≡ true))) (sym (shown-is t c)) (handed-own t c)
 
 -- an accepted call that isn't done fills its room
 pub fills-room : (t : Ticket) (c : Call) → AcceptedCall c → answer t c .done ≡ false → answer t c .count ≡ room (c .out)
@@ -84,7 +84,7 @@ module _ (relation : Relation) (order : Order) where
             rw h (listing-ascends relation order (nodes (c .ancestors)) (nodes (c .descendants)) (p .0) (p .1))
       ]
 
-  stood : (p : Pair) → relatedb relation p ≡ true → (c : Call) → (AcceptedCall c → Stands p c) → Stood (sortKey order) p (callOf c)
+  stood : (p : Pair) → relatedb relation p ≡ true → (c : Call) → (AcceptedCall c → StandsIn p c) → Stood (sortKey order) p (callOf c)
   unfolding callOf
   stood p r c s =
       elim (either (refusedb (checkTwo (c .ancestors) (c .descendants)))) [
@@ -128,12 +128,12 @@ module _ (relation : Relation) (order : Order) where
   related-through place (c ∷ cs) =
       let t = ticket relation order place in
       let own : All (λ p. relatedb relation p ≡ true) (shown t c) =
-      all-map {P = λ p. Stands p c × (relatedb relation p ≡ true)} (λ p h. h .1) (shown t c) (own-lists t c) in
+      all-map {P = λ p. StandsIn p c × (relatedb relation p ≡ true)} (λ p h. h .1) (shown t c) (own-lists t c) in
       all-append (λ p. relatedb relation p ≡ true) (shown t c) _ own (related-through (answer t c .ticket .place) cs)
 
   -- a related pair that stands unaltered in the lists of every accepted call, up to one that is done, has been handed out
   pub none-lost : (cs : List Call) (c : Call) → AcceptedCall c → answer (ticketThrough (freshTicket relation order) cs) c .done ≡ true
-      → (p : Pair) → relatedb relation p ≡ true → All (λ k. AcceptedCall k → Stands p k) cs → Stands p c
+      → (p : Pair) → relatedb relation p ≡ true → All (λ k. AcceptedCall k → StandsIn p k) cs → StandsIn p c
       → In p (shownThrough (freshTicket relation order) (cs ++ c ∷ []))
   none-lost cs c a d p r s m =
       rw (shown-through Fresh (cs ++ c ∷ []), map-append callOf cs (c ∷ []), called c a)

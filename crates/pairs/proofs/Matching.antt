@@ -21,8 +21,9 @@ use Rattle.lists.proofs.Keeping.{chain-contains, chain-levels}
 use Rattle.tickets.specs.declared.ticket.Order.the-variants.{Descendant}
 use Rattle.tickets.specs.declared.ticket.Relation.{Relation}
 use Rattle.tickets.specs.declared.ticket.Relation.the-variants.{Inside, Directly}
-use Rattle.tickets.specs.Listing.{Pair, relatedb, pairOf}
+use Rattle.tickets.specs.Listing.{relatedb, pairOf}
 use Rattle.tickets.specs.Row.{matches}
+use Rattle.tickets.proofs.Listed.{related-inside}
 use Rattle.pairs.specs.Sweep.{Open}
 
 -- the first k nodes, turned round, are the first k in their order
@@ -42,12 +43,6 @@ keep-turned test (x ∷ xs) =
       | inl h ↦ rw (h, keep-turned test xs) (sym (reverse-cons x (keep test xs)))
       | inr h ↦ rw (h, keep-turned test xs) (append-nil _)
     ]
-
--- either relation is inside, and more
-pub related-inside : (relation : Relation) (p : Pair) → relatedb relation p ≡ true → insideb (p .descendant) (p .ancestor) ≡ true
-unfolding relatedb
-related-inside Inside p h = h
-related-inside Directly p h = directly-inside (p .descendant) (p .ancestor) h .0
 
 -- everything under the innermost of a row has a lower level
 less-deep : (e : Node) (s : List Node) → Chain (e ∷ s) → All (λ f. f .level < e .level) s

@@ -2,38 +2,29 @@
 -- A follower that matches and is left out, or two that come in the wrong order, would fall here.
 use mathlib.Core.Path.{_≡_, refl, ap, sym, _∙_}
 use mathlib.Core.Logic.{inl, inr}
-use mathlib.Core.Bool.{Bool, true}
+use mathlib.Core.Bool.{Bool}
 use mathlib.Core.List.{List, [], _∷_, _++_}
 use Prim.Native.Nat.{ℕ, _*_, _-_, _<_}
 use native.Mathlib.Omega.{arith}
 use lib.ListN.{take, drop}
 use Rattle.nodes.specs.declared.node.Node.{Node}
 use Rattle.nodes.specs.Choose.{All, Pairs, keep}
-use Rattle.nodes.specs.Node.{insideb}
 use Rattle.nodes.specs.Words.{nodes}
 use Rattle.nodes.proofs.Choices.{all-map, all-both}
-use Rattle.nodes.proofs.NodeLaws.{within, after-starts}
+use Rattle.nodes.proofs.NodeLaws.{after-starts}
 use Rattle.nodes.proofs.Tests.{either}
 use Rattle.nodes.proofs.WordLaws.{nodes-part}
 use Rattle.lists.proofs.Taken.{Fine}
 use Rattle.paging.specs.Page.{remains}
-use Rattle.paging.specs.Serve.{serve}
 use Rattle.paging.proofs.PageLaws.{keep-past, keep-pairs}
 use Rattle.tickets.specs.declared.ticket.Order.{Order}
-use Rattle.tickets.specs.declared.ticket.Order.the-variants.{Descendant, Ancestor}
 use Rattle.tickets.specs.declared.ticket.Place.{Place}
 use Rattle.tickets.specs.declared.ticket.Relation.{Relation}
 use Rattle.tickets.specs.Listing.{relatedb, sortKey, pairOf}
-use Rattle.tickets.specs.Row.{PAIR-WORDS, pairWords, row, matches}
+use Rattle.tickets.specs.Row.{row, matches}
 use Rattle.tickets.specs.Ticket.{spotOf}
+use Rattle.tickets.proofs.Listed.{row-document}
 use Rattle.tickets.proofs.Rows.{rowPast, rest-of, rest-next, row-ahead}
-use Rattle.pairs.proofs.Matching.{related-inside}
-
--- a leader and a follower of which one lies inside the other are of one document
-one-document : (order : Order) (x y : Node) → insideb (pairOf order x y .descendant) (pairOf order x y .ancestor) ≡ true → x .document ≡ y .document
-unfolding pairOf
-one-document Descendant x y h = within x y h .document
-one-document Ancestor x y h = sym (within y x h .document)
 
 -- nodes of one document that ascend rise in their starts
 rising : (x : Node) (zs : List Node) → Pairs Fine zs → All (λ z. x .document ≡ z .document) zs → Pairs (λ y z. y .start < z .start) zs
@@ -55,7 +46,7 @@ module _ (relation : Relation) (order : Order) (x : Node) where
   matches-rise ys f =
       let test : Node → Bool = λ y. relatedb relation (pairOf order x y) in
       rising x (keep test ys) (keep-pairs Fine test ys f)
-      (all-map (λ y h. one-document order x y (related-inside relation (pairOf order x y) h)) (keep test ys) (keep-past test ys))
+      (all-map (λ y h. sym (row-document relation order x y h)) (keep test ys) (keep-past test ys))
 
   -- what remains of a leader and those behind it: its row with what matches, and what remains of the others
   pub rest-row : (place : Place) (xs ys : List Node)
@@ -65,11 +56,9 @@ module _ (relation : Relation) (order : Order) (x : Node) where
       rest-next relation order place x xs ys
       ∙ ap (λ ps. remains (sortKey order) (spotOf place) ps ++ rest-of relation order place xs ys) (row-kept ys)
 
--- handing out a stretch of words past a place serves what remains of the row with its nodes
-pub stretch-served : (out : List ℕ) (written : ℕ) (order : Order) (place : Place) (x : Node) (zs : List Node) (ws : List ℕ) (from to : ℕ)
+-- of a stretch of words whose starts rise, what comes from the first past the place on is what remains of its row
+pub stretch-past : (order : Order) (place : Place) (x : Node) (zs : List Node) (ws : List ℕ) (from to : ℕ)
     → Pairs (λ y z. y .start < z .start) zs → zs ≡ take (to - from) (drop from (nodes ws))
-    → serve pairWords PAIR-WORDS out written (rowPast order place x (nodes (take (4 * to - 4 * from) (drop (4 * from) ws))))
-    ≡ serve pairWords PAIR-WORDS out written (remains (sortKey order) (spotOf place) (row order x zs))
-stretch-served out written order place x zs ws from to rise q =
-    ap (λ ns. serve pairWords PAIR-WORDS out written (rowPast order place x ns)) (nodes-part ws from to (4 * to - 4 * from) (omega arith) ∙ sym q)
-    ∙ ap (serve pairWords PAIR-WORDS out written) (sym (row-ahead order place x zs rise))
+    → rowPast order place x (nodes (take (4 * to - 4 * from) (drop (4 * from) ws))) ≡ remains (sortKey order) (spotOf place) (row order x zs)
+stretch-past order place x zs ws from to rise q =
+    ap (rowPast order place x) (nodes-part ws from to (4 * to - 4 * from) (omega arith) ∙ sym q) ∙ sym (row-ahead order place x zs rise)

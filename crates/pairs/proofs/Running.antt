@@ -15,7 +15,7 @@ use Rattle.nodes.specs.Words.{node, nodes, count, nodeAt}
 use Rattle.nodes.proofs.Choices.{all-map, all-both, keep-append, keep-none}
 use Rattle.nodes.proofs.NodeLaws.{after-trans, inside-after, inside-open, open-read, shut-later}
 use Rattle.nodes.proofs.Tests.{either, never, not-so}
-use Rattle.nodes.proofs.WordLaws.{length-nodes, nodes-from, nodes-behind, nodes-part}
+use Rattle.nodes.proofs.WordLaws.{length-nodes, nodes-from, nodes-behind}
 use Rattle.lists.specs.Check.{checkWords}
 use Rattle.lists.specs.Two.{oddsb, checkTwo}
 use Rattle.lists.proofs.Faults.{Sound}
@@ -32,11 +32,11 @@ use Rattle.tickets.specs.Listing.{Pair, relatedb, sortKey, leaders, followers, 
 use Rattle.tickets.specs.Row.{row, matches, servedIn}
 use Rattle.tickets.specs.Ticket.{spotOf}
 use Rattle.tickets.proofs.First.{first-in, first-failed, first-from, first-earlier}
-use Rattle.tickets.proofs.Rows.{rowPast, rest-of, rest-served, row-ahead}
+use Rattle.tickets.proofs.Listed.{related-inside}
+use Rattle.tickets.proofs.Rows.{rowPast, rest-of, rest-served}
 use Rattle.pairs.specs.Sweep.{Running}
 use Rattle.pairs.proofs.Accepted.{accepted, all-at, pairs-at}
-use Rattle.pairs.proofs.Matching.{related-inside}
-use Rattle.pairs.proofs.Rowing.{matches-rise, rest-row}
+use Rattle.pairs.proofs.Rowing.{matches-rise, rest-row, stretch-past}
 
 module _ {A : Type 0} where
   -- what holds of all, or of all pairs, holds from an index on
@@ -170,10 +170,8 @@ module _ (ws : List ℕ) (a : Node) where
       let zs : List Node = drop from (nodes ws) in
       let run = running-run from r in
       let width : to - from ≡ firstAt (λ d. not (openb d a)) zs = omega arith in
-      let part : nodes (take (4 * to - 4 * from) (drop (4 * from) ws)) ≡ matches Inside Ancestor a zs =
-      nodes-part ws from to (4 * to - 4 * from) (omega arith) ∙ ap (λ n. take n zs) width ∙ sym (run-inside a zs run) in
-      let rising = matches-rise Inside Ancestor a zs (run .pairs) in
-      ap (rowPast Ancestor place a) part ∙ sym (row-ahead Ancestor place a (matches Inside Ancestor a zs) rising)
+      stretch-past Ancestor place a (matches Inside Ancestor a zs) ws from to (matches-rise Inside Ancestor a zs (run .pairs))
+      (run-inside a zs run ∙ ap (λ n. take n zs) (sym width))
 
   -- where the ancestor is open, the node there is a child or not, and the others follow
   pub running-open : (place : Place) (k : ℕ) (d : Node) → Running ws a k → k < count ws → d ≡ nodeAt ws k → openb d a ≡ true

@@ -31,8 +31,8 @@ abbrev pub fullListing : Relation → Order → Call → List Pair
 fullListing relation order c = listing relation order (nodes (c .ancestors)) (nodes (c .descendants))
 
 -- a pair stands unaltered in the two lists, each node in its own
-abbrev pub Stands : Pair → Call → Type 0
-Stands p c = In (p .ancestor) (nodes (c .ancestors)) × In (p .descendant) (nodes (c .descendants))
+abbrev pub StandsIn : Pair → Call → Type 0
+StandsIn p c = In (p .ancestor) (nodes (c .ancestors)) × In (p .descendant) (nodes (c .descendants))
 
 -- two pairs have one document, and their ancestors and descendants start at the same places
 abbrev pub SameStarts : Pair → Pair → Type 0

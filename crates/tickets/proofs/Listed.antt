@@ -10,7 +10,7 @@ use lib.Dec.{ltb}
 use borrow.Author.Tests.{eq-eqb, lt-ltb}
 use Rattle.nodes.specs.declared.node.Node.{Node}
 use Rattle.nodes.specs.Choose.{All, Pairs, In, keep}
-use Rattle.nodes.specs.Node.{afterb}
+use Rattle.nodes.specs.Node.{insideb, afterb}
 use Rattle.nodes.proofs.Choices.{all-in, all-map, all-both, keep-all-of}
 use Rattle.nodes.proofs.NodeLaws.{within, directly-inside, after-read, after-starts}
 use Rattle.nodes.proofs.Tests.{never, and-make, or-left, or-right}
@@ -106,13 +106,16 @@ listed-iff relation order as′ ds p =
           (h .2),
     )
 
--- related nodes are of one document
-pub related-document : (relation : Relation) (p : Pair) → relatedb relation p ≡ true → p .descendant .document ≡ p .ancestor .document
+-- either relation is inside, and more; so related nodes are of one document
+pub related-inside : (relation : Relation) (p : Pair) → relatedb relation p ≡ true → insideb (p .descendant) (p .ancestor) ≡ true
 unfolding relatedb
-related-document Inside p h = within (p .descendant) (p .ancestor) h .document
-related-document Directly p h = within (p .descendant) (p .ancestor) (directly-inside (p .descendant) (p .ancestor) h .0) .document
+related-inside Inside p h = h
+related-inside Directly p h = directly-inside (p .descendant) (p .ancestor) h .0
 
-row-document : (relation : Relation) (order : Order) (x y : Node) → relatedb relation (pairOf order x y) ≡ true → y .document ≡ x .document
+pub related-document : (relation : Relation) (p : Pair) → relatedb relation p ≡ true → p .descendant .document ≡ p .ancestor .document
+related-document relation p h = within (p .descendant) (p .ancestor) (related-inside relation p h) .document
+
+pub row-document : (relation : Relation) (order : Order) (x y : Node) → relatedb relation (pairOf order x y) ≡ true → y .document ≡ x .document
 unfolding pairOf
 row-document relation Descendant x y h = sym (related-document relation (record { ancestor = y; descendant = x }) h)
 row-document relation Ancestor x y h = related-document relation (record { ancestor = x; descendant = y }) h

@@ -8,7 +8,7 @@ use Rattle.paging.specs.Serve.{serve}
 use Rattle.tickets.specs.declared.ticket.Order.the-variants.{Descendant}
 use Rattle.tickets.specs.Row.{PAIR-WORDS, pairWords}
 use Rattle.tickets.proofs.Rows.{ahead-in, past-rest}
-use Rattle.pairs.proofs.Rowing.{stretch-served}
+use Rattle.pairs.proofs.Rowing.{stretch-past}
 use Rattle.pairs.proofs.descendants.hand_stretch.Statement.{statement}
 use Rattle.pairs.proofs.descendants.hand_stretch.Tie as tie
 
@@ -59,9 +59,9 @@ returns c =
     let a = c .before .before .before .before .before .before .before .before .before .args in
     c .before .before .hand-row .ensures
     ∙ ap (serve pairWords PAIR-WORDS (now (a .out)) (a .written))
-    (past-rest Descendant (a .place) (a .descendant) _ _ (c .before .before .before .before .before .first-ahead .ensures))
-    ∙ stretch-served (now (a .out)) (a .written) Descendant (a .place) (a .descendant) _ (now (a .stack)) (a .from) (a .to)
-    (c .before .before .before .before .before .before .before .before .before .pre .2) refl
+    (past-rest Descendant (a .place) (a .descendant) _ _ (c .before .before .before .before .before .first-ahead .ensures)
+    ∙ stretch-past Descendant (a .place) (a .descendant) _ (now (a .stack)) (a .from) (a .to)
+    (c .before .before .before .before .before .before .before .before .before .pre .2) refl)
 
 pub hand-stretch-spec : {M : Type 1} → statement M
 hand-stretch-spec =
