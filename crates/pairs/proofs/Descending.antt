@@ -1,17 +1,17 @@
 -- At each descendant the ancestors on the stack that have not ended are all that contain it, and the stack stands for the descendants to come.
 -- A zone left for good while descendants are still to come, or one joined only while it is the innermost, would fall here.
-use mathlib.Core.Path.{_≡_, refl, ap, sym, subst, _∙_}
+use mathlib.Core.Path.{_≡_, ap, subst, _∙_}
 use mathlib.Core.Bool.{true, false}
-use mathlib.Core.List.{List, [], _++_, reverse}
+use mathlib.Core.List.{List, _++_, reverse}
 use Prim.Native.Nat.{ℕ, _+_, _≤_, _<_, zero-le}
 use native.Mathlib.Omega.{arith}
 use lib.ListN.{drop}
 use Rattle.nodes.specs.declared.node.Node.{Node}
 use Rattle.nodes.specs.Answer.{TAKEN}
-use Rattle.nodes.specs.Choose.{All, Pairs, keep}
+use Rattle.nodes.specs.Choose.{All, Pairs}
 use Rattle.nodes.specs.Node.{afterb}
 use Rattle.nodes.specs.Words.{node, nodes, count, nodeAt}
-use Rattle.nodes.proofs.WordLaws.{length-nodes, nodes-from, nodes-behind}
+use Rattle.nodes.proofs.WordLaws.{length-nodes, nodes-from}
 use Rattle.lists.specs.Check.{checkWords}
 use Rattle.lists.specs.Two.{checkTwo}
 use Rattle.lists.specs.Walk.{firsts, unended, Upon}
@@ -22,10 +22,10 @@ use Rattle.paging.specs.Page.{remains}
 use Rattle.tickets.specs.declared.ticket.Order.the-variants.{Descendant}
 use Rattle.tickets.specs.declared.ticket.Place.{Place}
 use Rattle.tickets.specs.declared.ticket.Relation.{Relation}
-use Rattle.tickets.specs.Listing.{sortKey, leaders, followers, everyPair, listing}
-use Rattle.tickets.specs.Row.{row, matches, servedIn}
+use Rattle.tickets.specs.Listing.{sortKey}
+use Rattle.tickets.specs.Row.{row, matches}
 use Rattle.tickets.specs.Ticket.{spotOf}
-use Rattle.tickets.proofs.Rows.{rest-of, rest-served}
+use Rattle.tickets.proofs.Rows.{rest-of}
 use Rattle.pairs.specs.Sweep.{Opening}
 use Rattle.pairs.proofs.Accepted.{accepted, all-at, pairs-at, fine-with}
 use Rattle.pairs.proofs.Matching.{matches-open}
@@ -50,18 +50,6 @@ module _ (as′ ds : List ℕ) where
   pub ready-at : (j : ℕ) (d : Node) (depth passed : ℕ) (stack : List ℕ) → Ready j depth passed stack → j < count ds → d ≡ nodeAt ds j
       → Opening as′ d depth passed stack
   ready-at j d depth passed stack r l q = rw q (r l)
-
-  -- the sweep begins where pairs may lie past the place, and ends behind the last descendant
-  pub descend-start : (relation : Relation) (place : Place) (j : ℕ) → j ≡ servedIn place (nodes ds)
-      → rest-of relation Descendant place (drop j (nodes ds)) (nodes as′)
-      ≡ remains (sortKey Descendant) (spotOf place) (listing relation Descendant (nodes as′) (nodes ds))
-  unfolding listing leaders followers
-  descend-start relation place j q = rw q (sym (rest-served relation Descendant place (nodes ds) (nodes as′)))
-
-  pub descend-end : (relation : Relation) (place : Place) (j : ℕ) → count ds ≤ j
-      → rest-of relation Descendant place (drop j (nodes ds)) (nodes as′) ≡ []
-  unfolding remains keep everyPair
-  descend-end relation place j l = rw (nodes-behind ds j l) refl
 
   module _ (taken : checkTwo as′ ds .answer ≡ TAKEN) where
     -- the ancestors alone are accepted

@@ -4,27 +4,27 @@ use mathlib.Core.Path.{_≡_, refl, ap, sym, _∙_}
 use mathlib.Core.Logic.{inl, inr}
 use mathlib.Core.Bool.{Bool}
 use mathlib.Core.List.{List, [], _∷_, _++_}
-use Prim.Native.Nat.{ℕ, _*_, _-_, _<_}
+use Prim.Native.Nat.{ℕ, _*_, _-_, _≤_, _<_}
 use native.Mathlib.Omega.{arith}
 use lib.ListN.{take, drop}
 use Rattle.nodes.specs.declared.node.Node.{Node}
 use Rattle.nodes.specs.Choose.{All, Pairs, keep}
-use Rattle.nodes.specs.Words.{nodes}
+use Rattle.nodes.specs.Words.{nodes, count}
 use Rattle.nodes.proofs.Choices.{all-map, all-both}
 use Rattle.nodes.proofs.NodeLaws.{after-starts}
 use Rattle.nodes.proofs.Tests.{either}
-use Rattle.nodes.proofs.WordLaws.{nodes-part}
+use Rattle.nodes.proofs.WordLaws.{nodes-behind, nodes-part}
 use Rattle.lists.proofs.Taken.{Fine}
 use Rattle.paging.specs.Page.{remains}
 use Rattle.paging.proofs.PageLaws.{keep-past, keep-pairs}
 use Rattle.tickets.specs.declared.ticket.Order.{Order}
 use Rattle.tickets.specs.declared.ticket.Place.{Place}
 use Rattle.tickets.specs.declared.ticket.Relation.{Relation}
-use Rattle.tickets.specs.Listing.{relatedb, sortKey, pairOf}
-use Rattle.tickets.specs.Row.{row, matches}
+use Rattle.tickets.specs.Listing.{relatedb, sortKey, leaders, followers, pairOf, everyPair, listing}
+use Rattle.tickets.specs.Row.{row, matches, servedIn}
 use Rattle.tickets.specs.Ticket.{spotOf}
 use Rattle.tickets.proofs.Listed.{row-document}
-use Rattle.tickets.proofs.Rows.{rowPast, rest-of, rest-next, row-ahead}
+use Rattle.tickets.proofs.Rows.{rowPast, rest-of, rest-next, rest-served, row-ahead}
 
 -- nodes of one document that ascend rise in their starts
 rising : (x : Node) (zs : List Node) → Pairs Fine zs → All (λ z. x .document ≡ z .document) zs → Pairs (λ y z. y .start < z .start) zs
@@ -55,6 +55,19 @@ module _ (relation : Relation) (order : Order) (x : Node) where
   rest-row place xs ys =
       rest-next relation order place x xs ys
       ∙ ap (λ ps. remains (sortKey order) (spotOf place) ps ++ rest-of relation order place xs ys) (row-kept ys)
+
+-- in either order a sweep starts at the first leader that may have pairs past the place, and nothing of the listing is lost
+pub sweep-start : (relation : Relation) (order : Order) (place : Place) (as′ ds : List Node) (i : ℕ) → i ≡ servedIn place (leaders order as′ ds)
+    → rest-of relation order place (drop i (leaders order as′ ds)) (followers order as′ ds)
+    ≡ remains (sortKey order) (spotOf place) (listing relation order as′ ds)
+unfolding listing
+sweep-start relation order place as′ ds i q = rw q (sym (rest-served relation order place (leaders order as′ ds) (followers order as′ ds)))
+
+-- and behind the last leader nothing is left
+pub sweep-end : (relation : Relation) (order : Order) (place : Place) (ws : List ℕ) (ys : List Node) (i : ℕ) → count ws ≤ i
+    → rest-of relation order place (drop i (nodes ws)) ys ≡ []
+unfolding remains keep everyPair
+sweep-end relation order place ws ys i l = rw (nodes-behind ws i l) refl
 
 -- of a stretch of words whose starts rise, what comes from the first past the place on is what remains of its row
 pub stretch-past : (order : Order) (place : Place) (x : Node) (zs : List Node) (ws : List ℕ) (from to : ℕ)

@@ -28,12 +28,12 @@ use Rattle.paging.proofs.PageLaws.{remains-append}
 use Rattle.tickets.specs.declared.ticket.Place.{Place}
 use Rattle.tickets.specs.declared.ticket.Relation.{Relation}
 use Rattle.tickets.specs.declared.ticket.Relation.the-variants.{Inside, Directly}
-use Rattle.tickets.specs.Listing.{Pair, relatedb, sortKey, leaders, followers, pairOf, everyPair, listing}
-use Rattle.tickets.specs.Row.{row, matches, servedIn}
+use Rattle.tickets.specs.Listing.{Pair, relatedb, sortKey, pairOf}
+use Rattle.tickets.specs.Row.{row, matches}
 use Rattle.tickets.specs.Ticket.{spotOf}
 use Rattle.tickets.proofs.First.{first-in, first-failed, first-from, first-earlier}
 use Rattle.tickets.proofs.Listed.{related-inside}
-use Rattle.tickets.proofs.Rows.{rowPast, rest-of, rest-served}
+use Rattle.tickets.proofs.Rows.{rowPast, rest-of}
 use Rattle.pairs.specs.Sweep.{Running}
 use Rattle.pairs.proofs.Accepted.{accepted, all-at, pairs-at}
 use Rattle.pairs.proofs.Rowing.{matches-rise, rest-row, stretch-past}
@@ -217,18 +217,6 @@ Reached as′ ws i from = i < count as′ → from ≤ firstAt (λ d. afterb d (
 module _ (as′ ws : List ℕ) where
   pub reached-in : (i from : ℕ) → i < count as′ → Reached as′ ws i from → from ≤ count ws
   reached-in i from l p = omega (arith, p l, first-in (λ d. afterb d (nodeAt as′ i)) (nodes ws), length-nodes ws)
-
-  -- the sweep starts at the first ancestor that may have pairs past the place: nothing of the listing is lost
-  pub sweep-start : (relation : Relation) (place : Place) (i : ℕ) → i ≡ servedIn place (nodes as′)
-      → rest-of relation Ancestor place (drop i (nodes as′)) (nodes ws)
-      ≡ remains (sortKey Ancestor) (spotOf place) (listing relation Ancestor (nodes as′) (nodes ws))
-  unfolding listing leaders followers
-  sweep-start relation place i q = rw q (sym (rest-served relation Ancestor place (nodes as′) (nodes ws)))
-
-  -- behind the last ancestor nothing is left
-  pub sweep-end : (relation : Relation) (place : Place) (i : ℕ) → count as′ ≤ i → rest-of relation Ancestor place (drop i (nodes as′)) (nodes ws) ≡ []
-  unfolding remains keep everyPair
-  sweep-end relation place i l = rw (nodes-behind as′ i l) refl
 
   module _ (i from to : ℕ) (a : Node) (l : i < count as′) (q : a ≡ nodeAt as′ i) (p : Reached as′ ws i from)
       (e : to ≡ firstAt (λ d. afterb d a) (drop from (nodes ws)) + from) where

@@ -8,16 +8,16 @@ use lib.ListN.{length, drop}
 use denote.Ref.{now}
 use borrow.Author.Needs.{needs}
 use Rattle.nodes.specs.Words.{nodes, count}
-use Rattle.paging.specs.Page.{remains}
 use Rattle.paging.specs.Serve.{serve}
 use Rattle.tickets.specs.declared.ticket.Order.the-variants.{Ancestor}
-use Rattle.tickets.specs.Listing.{sortKey, listing}
+use Rattle.tickets.specs.Listing.{leaders, followers}
 use Rattle.tickets.specs.Row.{PAIR-WORDS, pairWords}
-use Rattle.tickets.specs.Ticket.{spotOf}
 use Rattle.nodes.proofs.Tests.{not-read, not-none}
 use Rattle.paging.proofs.Serving.{left-on, left-stop, left-end}
 use Rattle.tickets.proofs.Rows.{rest-of}
-use Rattle.pairs.proofs.Running.{Reached, reached-in, sweep-start, sweep-end, sweep-running, sweep-next, sweep-row}
+use Rattle.pairs.specs.Sweep.{servedAll}
+use Rattle.pairs.proofs.Rowing.{sweep-start, sweep-end}
+use Rattle.pairs.proofs.Running.{Reached, reached-in, sweep-running, sweep-next, sweep-row}
 use Rattle.pairs.proofs.ancestors.sweep_ancestors.Statement.{statement}
 use Rattle.pairs.proofs.ancestors.sweep_ancestors.Tie as tie
 
@@ -25,7 +25,7 @@ abbrev Inv-loop : tie.InvT-loop
 Inv-loop ancestors descendants relation place out₀ handed₀ from₀ i₀ out handed from i =
     (length out ≡ length out₀) × Reached ancestors descendants i from × (handed .done ≡ true)
     × (serve pairWords PAIR-WORDS out (handed .count) (rest-of relation Ancestor place (drop i (nodes ancestors)) (nodes descendants))
-    ≡ serve pairWords PAIR-WORDS out₀ 0 (remains (sortKey Ancestor) (spotOf place) (listing relation Ancestor (nodes ancestors) (nodes descendants))))
+    ≡ servedAll relation Ancestor place out₀ ancestors descendants)
 
 abbrev μ-loop : tie.MeasureT-loop
 μ-loop ancestors descendants relation place out₀ handed₀ from₀ i₀ out handed from i = count ancestors - i
@@ -34,9 +34,10 @@ served-count-requires : tie.Need-served-count-requires Inv-loop μ-loop
 served-count-requires c κs = search needs
 
 loop-holds : tie.Need-loop-holds Inv-loop μ-loop
+unfolding leaders followers
 loop-holds c =
     let a = c .before .before .before .before .args in
-    let start = sweep-start (now (a .ancestors)) (now (a .descendants)) (a .relation) (a .place) _ (c .served-count .ensures) in
+    let start = sweep-start (a .relation) Ancestor (a .place) (nodes (now (a .ancestors))) (nodes (now (a .descendants))) _ (c .served-count .ensures) in
     (refl, λ l. zero-le, refl, ap (serve pairWords PAIR-WORDS (now (a .out)) 0) start)
 
 node-count-requires : tie.Need-node-count-requires Inv-loop μ-loop
@@ -105,7 +106,7 @@ returns-2 : tie.Need-returns-2 Inv-loop μ-loop
 returns-2 c =
     let a = c .before .before .before .before .before .before .before .args in
     let l = c .before .before .loop in
-    let none = sweep-end (now (a .ancestors)) (now (a .descendants)) (a .relation) (a .place) (l .i) (omega arith) in
+    let none = sweep-end (a .relation) Ancestor (a .place) (now (a .ancestors)) (nodes (now (a .descendants))) (l .i) (omega arith) in
     left-end pairWords PAIR-WORDS _ _ (l .inv .2) none (l .inv .3)
 
 pub sweep-ancestors-spec : {M : Type 1} → statement M

@@ -10,12 +10,14 @@ use denote.Ref.{now}
 use Rattle.nodes.specs.Words.{nodes, count}
 use Rattle.paging.specs.Serve.{serve}
 use Rattle.tickets.specs.declared.ticket.Order.the-variants.{Descendant}
+use Rattle.tickets.specs.Listing.{leaders, followers}
 use Rattle.tickets.specs.Row.{PAIR-WORDS, pairWords}
 use Rattle.nodes.proofs.Tests.{not-read, not-none}
 use Rattle.paging.proofs.Serving.{left-on, left-stop, left-end}
 use Rattle.tickets.proofs.Rows.{rest-of}
 use Rattle.pairs.specs.Sweep.{servedAll}
-use Rattle.pairs.proofs.Descending.{Ready, ready-start, ready-at, ready-next, first-taken, at-descendant, at-rises, descend-start, descend-end, descend-row}
+use Rattle.pairs.proofs.Descending.{Ready, ready-start, ready-at, ready-next, first-taken, at-descendant, at-rises, descend-row}
+use Rattle.pairs.proofs.Rowing.{sweep-start, sweep-end}
 use Rattle.pairs.proofs.descendants.sweep_descendants.Statement.{statement}
 use Rattle.pairs.proofs.descendants.sweep_descendants.Tie as tie
 
@@ -32,9 +34,10 @@ served-count-requires : tie.Need-served-count-requires Inv-loop μ-loop
 served-count-requires c κs = search needs
 
 loop-holds : tie.Need-loop-holds Inv-loop μ-loop
+unfolding leaders followers
 loop-holds c =
     let a = c .before .before .before .before .args in
-    let start = descend-start (now (a .ancestors)) (now (a .descendants)) (a .relation) (a .place) _ (c .served-count .ensures) in
+    let start = sweep-start (a .relation) Descendant (a .place) (nodes (now (a .ancestors))) (nodes (now (a .descendants))) _ (c .served-count .ensures) in
     (refl, ready-start (now (a .ancestors)) (now (a .descendants)) _ _, refl, ap (serve pairWords PAIR-WORDS (now (a .out)) 0) start)
 
 node-count-requires : tie.Need-node-count-requires Inv-loop μ-loop
@@ -115,7 +118,7 @@ returns-2 : tie.Need-returns-2 Inv-loop μ-loop
 returns-2 c =
     let a = c .before .before .before .before .before .before .before .args in
     let l = c .before .before .loop in
-    let none = descend-end (now (a .ancestors)) (now (a .descendants)) (a .relation) (a .place) (l .j) (omega arith) in
+    let none = sweep-end (a .relation) Descendant (a .place) (now (a .descendants)) (nodes (now (a .ancestors))) (l .j) (omega arith) in
     left-end pairWords PAIR-WORDS _ _ (l .inv .2) none (l .inv .3)
 
 pub sweep-descendants-spec : {M : Type 1} → statement M
