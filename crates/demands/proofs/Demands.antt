@@ -1,14 +1,16 @@
--- The customer's three demands on the page call: a clause is a comment line and the theorem that says it, proved by citing the layer that knows why.
+-- The customer's three demands: a clause is a comment line and the theorem that says it, proved by citing the layer that knows why.
 -- `answer` and `output` are what `next_page` promises; `shown` is what its caller finds in the output. Whatever lost a sample would fall here.
 use mathlib.Core.Path.{_≡_, refl}
 use mathlib.Core.Logic.{_↔_, _⊎_}
 use mathlib.Core.Bool.{true, false}
 use mathlib.Core.List.{List, [], _∷_, _++_}
-use Prim.Native.Nat.{_*_, _≤_}
+use Prim.Native.Nat.{ℕ, _*_, _≤_, _<_}
 use lib.ListN.{length, drop}
-use Rattle.nodes.specs.Answer.{TAKEN}
+use Rattle.nodes.specs.Answer.{TAKEN, TABLE}
 use Rattle.nodes.specs.Choose.{All, Pairs, In}
+use Rattle.nodes.specs.Node.{insideb, directlyb}
 use Rattle.nodes.specs.Words.{nodes}
+use Rattle.nodes.specs.Written.{written}
 use Rattle.lists.specs.Refusal.{Faulty, AtOdds}
 use Rattle.lists.specs.Two.{checkTwo}
 use Rattle.lists.proofs.Refused.{refused-iff}
@@ -24,6 +26,16 @@ use Rattle.pairs.specs.Calls.{Call, AcceptedCall, fullListing, StandsIn, SameSt
 use Rattle.pairs.specs.Page.{pageOf}
 use Rattle.pairs.proofs.Answered.{lists-ascend, refusal, beyond-kept, output-length, whole-listing}
 use Rattle.pairs.proofs.Following.{none-lost, none-twice, own-lists, fills-room}
+use Rattle.marks.specs.declared.row.Row.{Row}
+use Rattle.marks.specs.Back.{documentOf, Numbering, checkTable}
+use Rattle.marks.specs.Mark.{checkMarks}
+use Rattle.marks.specs.Outcome.{outcome, numberOutcome, numberOutput, unnumbered, tableMarks, unnumberOutcome, unnumberOutput, pickedWords}
+use Rattle.marks.specs.Table.{Marked, tableOf, tableWords, rows, rowFault}
+use Rattle.marks.proofs.Contained.{inside-between, directly-stands}
+use Rattle.marks.proofs.Exact.{refused-exact}
+use Rattle.marks.proofs.Marked.{table-marked}
+use Rattle.marks.proofs.Picked.{tags-agree}
+use Rattle.marks.proofs.Returned.{number-taken, marks-return, table-returns}
 
 -- Demand 1. A call takes any lists, ticket and output, is refused exactly as tabled, and alters nothing but what it hands out.
 module _ (t : Ticket) (c : Call) where
@@ -88,6 +100,51 @@ module _ (relation : Relation) (order : Order) (c : Call) where
   pub listing-is-handed-out : AcceptedCall c → length (fullListing relation order c) ≤ room (c .out)
       → (shown (freshTicket relation order) c ≡ fullListing relation order c) × (answer (freshTicket relation order) c .done ≡ true)
   listing-is-handed-out a l = whole-listing relation order c a l
+
+-- Demand 2, marks. Numbering and writing back marks return each other: `number` and `unnumber` promise these outcomes and outputs.
+module _ (document : ℕ) (marks : List ℕ) (taken : checkMarks marks ≡ TAKEN) where
+  -- accepted marks are numbered into the words of their table,
+  pub marks-are-numbered : (out : List ℕ) → length (tableWords document marks) ≤ length out
+      → (numberOutcome document marks out ≡ outcome TAKEN (length (tableOf document marks)))
+      × (numberOutput document marks out ≡ written (tableWords document marks) out)
+  marks-are-numbered out l = number-taken document marks out taken l
+
+  -- and those words are turned back into the marks and the document number
+  pub numbered-marks-come-back : (out : List ℕ) → length marks ≤ length out
+      → (unnumberOutcome (tableWords document marks) out ≡ unnumbered TAKEN document (length marks))
+      × (unnumberOutput (tableWords document marks) out ≡ written marks out)
+  numbered-marks-come-back out l = marks-return document marks out taken l
+
+  -- a row stands where its marks do,
+  pub rows-stand-at-their-marks : All (Marked 1 marks) (tableOf document marks)
+  rows-stand-at-their-marks = table-marked document marks taken
+
+  -- y is inside x exactly when y's opening or text mark stands between x's opening and its close,
+  pub inside-exactly-between : (x y : Row) → In x (tableOf document marks) → In y (tableOf document marks)
+      → (insideb (y .node) (x .node) ≡ true) ↔ ((x .node .start < y .node .start) × (y .node .start < x .node .end))
+  inside-exactly-between x y i j = inside-between document marks taken x y i j
+
+  -- and directly inside exactly when x is the element that y stands in: nothing that contains y is inside it
+  pub directly-exactly-in : (x y : Row) → In x (tableOf document marks) → In y (tableOf document marks)
+      → (directlyb (y .node) (x .node) ≡ true) ↔ ((insideb (y .node) (x .node) ≡ true)
+      × ((z : Row) → In z (tableOf document marks) → insideb (y .node) (z .node) ≡ true → insideb (z .node) (x .node) ≡ true → ⊥))
+  directly-exactly-in x y i j = directly-stands document marks taken x y i j
+
+  -- the lists of any two tags are accepted and agree, so that pages can always be made of them
+  pub any-two-tags-are-accepted : (s t : ℕ)
+      → checkTwo (pickedWords s (tableWords document marks)) (pickedWords t (tableWords document marks)) .answer ≡ TAKEN
+  any-two-tags-are-accepted s t = tags-agree document marks taken s t
+
+module _ (table : List ℕ) where
+  -- a table that is taken is numbered again into the same words
+  pub taken-table-comes-back : checkTable table ≡ TAKEN → (out : List ℕ) → length table ≤ length out
+      → (numberOutcome (documentOf (rows table)) (tableMarks table) out .answer ≡ TAKEN)
+      × (numberOutput (documentOf (rows table)) (tableMarks table) out ≡ written table out)
+  taken-table-comes-back h out l = table-returns table out h l
+
+  -- and TABLE is answered exactly when the words make whole rows, not too many, and no accepted marks have this table
+  pub refused-as-no-table : (checkTable table ≡ TABLE) ↔ ((rowFault table ≡ TAKEN) × (Numbering (rows table) → ⊥))
+  refused-as-no-table = refused-exact table
 
 -- Demand 3. A listing followed from a fresh ticket, each call with the ticket that the last one returned and with lists edited at will in between.
 module _ (relation : Relation) (order : Order) where

@@ -14,11 +14,18 @@ use Rattle.lists.specs.Fault.{levelb, spanb, orderb, crossb, depthb, fault}
 use Rattle.lists.specs.Two.{nestedb, agreeb, oddsb, jointb, refusedb, checkTwo}
 use Rattle.paging.specs.Key.{aboveb}
 use Rattle.paging.specs.Page.{pastb, remains, handed, doneb, reached}
-use Rattle.paging.specs.Written.{wordsIn, written}
+use Rattle.nodes.specs.Written.{wordsIn, written, answerOf, ifTaken, outputOf}
 use Rattle.tickets.specs.Listing.{relatedb, keyOf, leaders, followers, pairOf, everyPair, listing}
 use Rattle.tickets.specs.Row.{pairWords}
 use Rattle.pairs.specs.Calls.{pairsIn}
 use Rattle.pairs.specs.Page.{handedOut, saysDone, ticketAfter, pageOf, outputAfter}
+use Rattle.marks.specs.Back.{tagged, marksOf, documentOf, sameRowb, sameRowsb, numberedb, checkTable}
+use Rattle.marks.specs.Mark.{openAfter, strayb, deepb, markFault, unclosedb, faultFrom, checkMarks}
+use Rattle.marks.specs.Outcome.{outcomeOf, numberOutcome, numberOutput, tableMarks, unnumberOutcome, unnumberOutput}
+use Rattle.marks.specs.Outcome.{nodesWith, pickedWords, pickOutcome, pickOutput}
+use Rattle.marks.specs.Table.{closeAt, endOf, rowsFrom, tableOf, rowWords, tableWords, rows, rowIn, rowFault}
+use Rattle.forest.specs.Linked.{linksIn, linkedOf, linksOutput}
+use Rattle.forest.specs.Links.{upTo, firstOf, nodeIn, places, innermostb, parentOf, childOf, siblingb, nextOf, linkOf, linksOf, linkWords}
 use Rattle.nodes.proofs.Tests.{never, and-read}
 use Rattle.figures.specs.Figures.{Row, figures, equalb, heldb}
 
@@ -38,7 +45,10 @@ computed : heldb figures ≡ true
 unfolding figures equalb heldb checkWords wordFault raggedb longb nodes checkNodes checkFrom fault levelb spanb orderb crossb depthb any
     endsb insideb afterb openb checkTwo refusedb jointb oddsb agreeb nestedb apartb sameb keep deeperb directlyb wordsOf aboveb pastb remains
     handed doneb reached wordsIn written relatedb keyOf leaders followers pairOf everyPair listing pairWords pairsIn handedOut saysDone
-    ticketAfter pageOf outputAfter flatMap
+    ticketAfter pageOf outputAfter flatMap answerOf ifTaken outputOf tagged marksOf documentOf sameRowb sameRowsb numberedb checkTable
+    openAfter strayb deepb markFault unclosedb faultFrom checkMarks outcomeOf numberOutcome numberOutput tableMarks unnumberOutcome
+    unnumberOutput nodesWith pickedWords pickOutcome pickOutput closeAt endOf rowsFrom tableOf rowWords tableWords rows rowIn rowFault
+    linksIn linkedOf linksOutput upTo firstOf nodeIn places innermostb parentOf childOf siblingb nextOf linkOf linksOf linkWords
 computed = refl
 
 -- each row's numbers are those that document 01 states

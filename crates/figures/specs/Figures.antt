@@ -4,7 +4,7 @@ use mathlib.Core.Bool.{Bool, true, false, cond, _&&_}
 use mathlib.Core.List.{List, [], _∷_, _++_, map}
 use lib.Dec.{eqb}
 use lib.ListN.{length, replicate}
-use Rattle.nodes.specs.Answer.{TAKEN, LEVEL, CROSS, DEPTH, JOINT}
+use Rattle.nodes.specs.Answer.{TAKEN, LEVEL, CROSS, DEPTH, JOINT, STRAY, UNCLOSED}
 use Rattle.lists.specs.declared.verdict.Verdict.{Verdict}
 use Rattle.lists.specs.Check.{checkWords}
 use Rattle.lists.specs.Two.{checkTwo}
@@ -19,6 +19,11 @@ use Rattle.tickets.specs.declared.ticket.Ticket.{Ticket}
 use Rattle.tickets.specs.Row.{PAIR-WORDS}
 use Rattle.tickets.specs.Ticket.{ticket, keyWith, numbersOf}
 use Rattle.pairs.specs.Calls.{Call, answer, shown}
+use Rattle.marks.specs.Mark.{TEXT}
+use Rattle.marks.specs.Outcome.{numberOutcome, numberOutput, unnumberOutcome, unnumberOutput, pickOutcome, pickOutput}
+use Rattle.marks.specs.Table.{ROW-WORDS}
+use Rattle.forest.specs.Linked.{linkedOf, linksOutput}
+use Rattle.forest.specs.Links.{NONE, LINK-WORDS}
 
 -- a figure: what the definitions compute, and what document 01 states
 pub record Row : Type 0 where
@@ -106,6 +111,52 @@ Z = (2, 10, 2) ∷ (3, 7, 3) ∷ []
 abbrev pub S : Nodes
 S = (4, 6, 4) ∷ (8, 9, 3) ∷ []
 
+-- marks of document 5 numbered into an output of so many rows: the answer, how many rows, and the output
+abbrev pub numbered : List ℕ → ℕ → List ℕ
+numbered marks room =
+    let out : List ℕ = replicate (ROW-WORDS * room) 0 in
+    numberOutcome 5 marks out .answer ∷ numberOutcome 5 marks out .count ∷ numberOutput 5 marks out
+
+-- the words of rows of document 5, each given as (start, end, level, tag)
+abbrev pub rowsOf : List (ℕ × ℕ × ℕ × ℕ) → List ℕ
+rowsOf [] = []
+rowsOf (r ∷ rs) = 5 ∷ r .0 ∷ r .1 ∷ r .2 ∷ r .3 ∷ rowsOf rs
+
+-- marks that are taken, and marks that are refused, with an output that has room
+abbrev pub number : List ℕ → List (ℕ × ℕ × ℕ × ℕ) → Row
+number marks rows = record { found = numbered marks (length rows); stated = TAKEN ∷ length rows ∷ rowsOf rows }
+
+abbrev pub faulty : List ℕ → ℕ → Row
+faulty marks answer = record { found = numbered marks 1; stated = answer ∷ 0 ∷ replicate ROW-WORDS 0 }
+
+-- a table turned back into marks: the answer, the document, how many marks, and the output
+abbrev pub back : List (ℕ × ℕ × ℕ × ℕ) → List ℕ → Row
+back rows marks =
+    let out : List ℕ = replicate (length marks) 0 in
+    let r = unnumberOutcome (rowsOf rows) out in
+    record { found = r .answer ∷ r .document ∷ r .count ∷ unnumberOutput (rowsOf rows) out; stated = TAKEN ∷ 5 ∷ length marks ∷ marks }
+
+-- a tag picked out of a table: the answer, how many nodes, and the output
+abbrev pub pick : List (ℕ × ℕ × ℕ × ℕ) → ℕ → Nodes → Row
+pick rows tag picked =
+    let out : List ℕ = replicate (length (words picked)) 0 in
+    let r = pickOutcome (rowsOf rows) tag out in
+    record { found = r .answer ∷ r .count ∷ pickOutput (rowsOf rows) tag out; stated = TAKEN ∷ length picked ∷ words picked }
+
+-- the links of a list: the answer, how many nodes, and the output
+abbrev pub links : Nodes → List ℕ → Row
+links list stated =
+    let out : List ℕ = replicate (LINK-WORDS * length list) 0 in
+    let r = linkedOf (words list) out in
+    record { found = r .verdict .answer ∷ r .count ∷ linksOutput (words list) out; stated = TAKEN ∷ length list ∷ stated }
+
+-- document 01's eleven marks and their six rows
+abbrev pub elevenMarks : List ℕ
+elevenMarks = 1 ∷ 2 ∷ 2 ∷ 3 ∷ TEXT ∷ 0 ∷ 0 ∷ 3 ∷ 0 ∷ 0 ∷ 0 ∷ []
+
+abbrev pub sixRows : List (ℕ × ℕ × ℕ × ℕ)
+sixRows = (1, 11, 1, 1) ∷ (2, 10, 2, 2) ∷ (3, 7, 3, 2) ∷ (4, 6, 4, 3) ∷ (5, 5, 5, TEXT) ∷ (8, 9, 3, 3) ∷ []
+
 -- the table
 unfoldable pub figures : List Row
 figures =
@@ -137,6 +188,14 @@ figures =
     (more ((2, 4) ∷ (2, 8) ∷ []) ++ all ((3, 4) ∷ (3, 5) ∷ []))
     -- shortcut 6, a node in both lists as JOINT, or as its own ancestor
     ∷ page Inside Descendant (4 ∷ []) Z ((3, 7, 3) ∷ (4, 6, 4) ∷ []) (all ((2, 3) ∷ (2, 4) ∷ (3, 4) ∷ []))
+    ∷ number elevenMarks sixRows
+    ∷ back sixRows elevenMarks
+    ∷ pick sixRows 2 Z
+    ∷ pick sixRows 3 S
+    ∷ links Z (NONE ∷ 1 ∷ NONE ∷ 0 ∷ NONE ∷ NONE ∷ [])
+    ∷ faulty (0 ∷ []) STRAY
+    ∷ faulty [] UNCLOSED
+    ∷ faulty (1 ∷ 0 ∷ 1 ∷ 0 ∷ []) STRAY
     ∷ []
 
 -- two lists of numbers are equal

@@ -89,7 +89,7 @@ module _ (x y : Node) where
         ]
       ]
 
-  fine-even : Fine x y → oddsb x y ≡ false
+  pub fine-even : Fine x y → oddsb x y ≡ false
   fine-even f = even-make (λ d. inr (f .agree d))
 
   pub even-fine : afterb y x ≡ true → oddsb x y ≡ false → Fine x y
@@ -98,10 +98,10 @@ module _ (x y : Node) where
     agree = λ d. ⊎-elim (λ s. absurd (never (rw (same-read x y s) at h) (after-self y))) (λ a. a) (even-read o d);
   }
 
-even-self : (x : Node) → oddsb x x ≡ false
+pub even-self : (x : Node) → oddsb x x ≡ false
 even-self x = even-make x x (λ d. inl (same-self x))
 
-even-turned : (x y : Node) → oddsb x y ≡ false → oddsb y x ≡ false
+pub even-turned : (x y : Node) → oddsb x y ≡ false → oddsb y x ≡ false
 even-turned x y h =
     even-make y x (λ d. elim (even-read x y h (sym d)) [
       | inl s ↦ inl (rw (same-read x y s) (same-self y))

@@ -6,11 +6,12 @@ use mathlib.Core.Bool.{Bool, true, false, cond}
 use mathlib.Core.List.{List, [], _∷_}
 use Prim.Native.Nat.{ℕ, suc}
 use lib.Dec.{eqb}
-use borrow.Author.Tests.{eq-eqb, ne-eqb}
+use borrow.Author.Tests.{eqb-false, eq-eqb, ne-eqb}
 use Rattle.nodes.specs.declared.node.Node.{Node}
 use Rattle.nodes.specs.Answer.{TAKEN, JOINT}
 use Rattle.nodes.specs.Words.{nodes}
 use Rattle.nodes.proofs.Tests.{either, so}
+use Rattle.lists.specs.declared.verdict.Verdict.{Verdict}
 use Rattle.lists.specs.Check.{checkFrom, checkNodes, checkWords, wordFault}
 use Rattle.lists.specs.Fault.{fault}
 use Rattle.lists.specs.Two.{jointb, refusedb, inList, checkTwo}
@@ -18,16 +19,26 @@ use Rattle.lists.specs.Verdict.{ANCESTORS, DESCENDANTS, verdict, taken}
 use Rattle.lists.proofs.Merging.{joint-iff}
 use Rattle.lists.proofs.Pairing.{two-taken-iff}
 
-from-list : (before : List Node) (index : ℕ) (ns : List Node) → checkFrom before index ns .list ≡ ANCESTORS
-unfolding checkFrom
-from-list before index [] = refl
-from-list before index (n ∷ ns) =
-    elim (either (eqb (fault before n) TAKEN)) [ inl h ↦ rw h (from-list (n ∷ before) (suc index) ns) | inr h ↦ rw h refl ]
+-- a verdict on one list names the ancestors, and carries no node's index where the list is taken
+abbrev Single : Verdict → Type 0
+Single v = (v .list ≡ ANCESTORS) × (v .answer ≡ TAKEN → v .index ≡ 0)
 
--- the check of one list names the ancestors
-words-list : (ws : List ℕ) → checkWords ws .list ≡ ANCESTORS
+single-from : (before : List Node) (index : ℕ) (ns : List Node) → Single (checkFrom before index ns)
+unfolding checkFrom
+single-from before index [] = (refl, λ h. refl)
+single-from before index (n ∷ ns) =
+    elim (either (eqb (fault before n) TAKEN)) [
+      | inl h ↦ rw h (single-from (n ∷ before) (suc index) ns)
+      | inr h ↦ rw h (refl, λ q. absurd (eqb-false (fault before n) TAKEN h q))
+    ]
+
+pub single : (ws : List ℕ) → Single (checkWords ws)
 unfolding checkWords checkNodes
-words-list ws = elim (either (eqb (wordFault ws) TAKEN)) [ inl h ↦ rw h (from-list [] 0 (nodes ws)) | inr h ↦ rw h refl ]
+single ws =
+    elim (either (eqb (wordFault ws) TAKEN)) [
+      | inl h ↦ rw h (single-from [] 0 (nodes ws))
+      | inr h ↦ rw h (refl, λ q. absurd (eqb-false (wordFault ws) TAKEN h q))
+    ]
 
 module _ (ancestors descendants : List ℕ) where
   -- the four answers of the check of two lists
@@ -35,7 +46,7 @@ module _ (ancestors descendants : List ℕ) where
   unfolding checkTwo refusedb
   two-first h =
       rw (ne-eqb (checkWords ancestors .answer) TAKEN h)
-      (λ k. verdict (checkWords ancestors .answer) (words-list ancestors k) (checkWords ancestors .index))
+      (λ k. verdict (checkWords ancestors .answer) (single ancestors .0 k) (checkWords ancestors .index))
 
   module _ (f : checkWords ancestors .answer ≡ TAKEN) where
     pub two-second : (checkWords descendants .answer ≡ TAKEN → ⊥) → inList DESCENDANTS (checkWords descendants) ≡ checkTwo ancestors descendants

@@ -1,10 +1,14 @@
 -- `any` and `keep` go along a list once, so each fact is one short recursion.
 -- Nothing here knows a node; a test that passed over an element would fall here.
 use mathlib.Core.Path.{_≡_, refl, ap, sym, subst, _∙_}
-use mathlib.Core.Logic.{inl, inr}
+use mathlib.Core.Logic.{_⊎_, inl, inr}
 use mathlib.Core.Bool.{Bool, true, false}
-use mathlib.Core.List.{List, [], _∷_, _++_, List·Memᴰ·not-nil, List·Memᴰ·cases-cons}
-use Rattle.nodes.specs.Choose.{All, In, any, keep}
+use mathlib.Core.List.{List, [], _∷_, _++_, List·Memᴰ·head, List·Memᴰ·tail, List·Memᴰ·not-nil, List·Memᴰ·cases-cons}
+use Prim.Native.Nat.{ℕ, zero, suc, _<_}
+use native.Mathlib.Nat.{not-suc-le-zero}
+use native.Mathlib.Omega.{arith}
+use lib.ListN.{length, getD, take}
+use Rattle.nodes.specs.Choose.{All, Pairs, In, any, keep}
 use Rattle.nodes.proofs.Tests.{either, or-none}
 
 module _ {A : Type 0} where
@@ -78,3 +82,77 @@ module _ {A : Type 0} where
   keep-all-of P test [] h = tt
   keep-all-of P test (x ∷ xs) h =
       elim (either (test x)) [ inl t ↦ rw t (h .0, keep-all-of P test xs (h .1)) | inr t ↦ rw t (keep-all-of P test xs (h .1)) ]
+
+  -- each element of a list stands in it
+  pub each-in : (xs : List A) → All (λ x. In x xs) xs
+  each-in [] = tt
+  each-in (x ∷ xs) = (List·Memᴰ·head refl, all-map (λ y m. List·Memᴰ·tail m) xs (each-in xs))
+
+  -- what holds of all elements holds of the first n
+  pub take-all-of : (P : A → Type 0) (n : ℕ) (xs : List A) → All P xs → All P (take n xs)
+  take-all-of P zero xs h = tt
+  take-all-of P (suc n) [] h = tt
+  take-all-of P (suc n) (x ∷ xs) h = (h .0, take-all-of P n xs (h .1))
+
+  -- an element that passes is kept
+  pub keep-in : (test : A → Bool) (xs : List A) (x : A) → In x xs → test x ≡ true → In x (keep test xs)
+  unfolding keep
+  keep-in test [] x m t = absurd (List·Memᴰ·not-nil m)
+  keep-in test (y ∷ xs) x m t =
+      elim (List·Memᴰ·cases-cons m) [
+        | inl e ↦ rw (subst (λ z. test z ≡ true) e t) (List·Memᴰ·head e)
+        | inr k ↦ elim (either (test y)) [ inl h ↦ rw h (List·Memᴰ·tail (keep-in test xs x k t)) | inr h ↦ rw h (keep-in test xs x k t) ]
+      ]
+
+  -- all that are kept pass
+  pub keep-past : (test : A → Bool) (xs : List A) → All (λ x. test x ≡ true) (keep test xs)
+  unfolding keep
+  keep-past test [] = tt
+  keep-past test (x ∷ xs) = elim (either (test x)) [ inl h ↦ rw h (h, keep-past test xs) | inr h ↦ rw h (keep-past test xs) ]
+
+  -- what holds of every earlier and later element holds of those kept
+  pub keep-pairs : (R : A → A → Type 0) (test : A → Bool) (xs : List A) → Pairs R xs → Pairs R (keep test xs)
+  unfolding keep
+  keep-pairs R test [] h = tt
+  keep-pairs R test (x ∷ xs) h =
+      elim (either (test x)) [
+        | inl t ↦ rw t (keep-all-of (R x) test xs (h .0), keep-pairs R test xs (h .1))
+        | inr t ↦ rw t (keep-pairs R test xs (h .1))
+      ]
+
+  -- what follows for every pair follows for a list of pairs
+  pub pairs-map : {R S : A → A → Type 0} → ((x y : A) → R x y → S x y) → (xs : List A) → Pairs R xs → Pairs S xs
+  pairs-map f [] h = tt
+  pairs-map f (x ∷ xs) h = (all-map (f x) xs (h .0), pairs-map f xs (h .1))
+
+  -- of two elements of a list they are the same, or one comes earlier
+  pub pairs-in : (R : A → A → Type 0) (xs : List A) (x y : A) → Pairs R xs → In x xs → In y xs → (x ≡ y) ⊎ (R x y ⊎ R y x)
+  pairs-in R [] x y h m n = absurd (List·Memᴰ·not-nil m)
+  pairs-in R (z ∷ xs) x y h m n =
+      elim (List·Memᴰ·cases-cons m) [
+        | inl p ↦ elim (List·Memᴰ·cases-cons n) [
+          | inl q ↦ inl (p ∙ sym q)
+          | inr q ↦ inr (inl (subst (λ u. R u y) (sym p) (all-in (R z) xs (h .0) q)))
+        ]
+        | inr p ↦ elim (List·Memᴰ·cases-cons n) [
+          | inl q ↦ inr (inr (subst (λ u. R u x) (sym q) (all-in (R z) xs (h .0) p)))
+          | inr q ↦ pairs-in R xs x y (h .1) p q
+        ]
+      ]
+
+  -- what holds of all holds at an index, and the other way round
+  pub all-at : (P : A → Type 0) (xs : List A) (i : ℕ) (d : A) → i < length xs → All P xs → P (getD xs i d)
+  all-at P [] i d l h = absurd (not-suc-le-zero l)
+  all-at P (x ∷ xs) zero d l h = h .0
+  all-at P (x ∷ xs) (suc i) d l h = all-at P xs i d (omega arith) (h .1)
+
+  pub at-all : (P : A → Type 0) (xs : List A) (d : A) → ((i : ℕ) → i < length xs → P (getD xs i d)) → All P xs
+  at-all P [] d f = tt
+  at-all P (x ∷ xs) d f = (f zero (omega arith), at-all P xs d (λ i l. f (suc i) (omega arith)))
+
+  -- what holds of every earlier and later element holds of those at two indices
+  pub pairs-at : (R : A → A → Type 0) (xs : List A) (k i : ℕ) (d : A) → k < i → i < length xs → Pairs R xs → R (getD xs k d) (getD xs i d)
+  pairs-at R [] k i d l m h = absurd (not-suc-le-zero m)
+  pairs-at R (x ∷ xs) k zero d l m h = absurd (not-suc-le-zero l)
+  pairs-at R (x ∷ xs) zero (suc i) d l m h = all-at (R x) xs i d (omega arith) (h .0)
+  pairs-at R (x ∷ xs) (suc k) (suc i) d l m h = pairs-at R xs k i d (omega arith) (omega arith) (h .1)

@@ -44,6 +44,11 @@ pub inside-by-end : (y x : Node) → y .document ≡ x .document → x .start < 
 unfolding insideb
 inside-by-end y x d s = rw (eq-eqb _ _ d, lt-ltb _ _ s)
 
+-- a node that starts later in x's document and ends earlier is inside x
+pub inside-make : (y x : Node) → y .document ≡ x .document → x .start < y .start → y .end < x .end → insideb y x ≡ true
+unfolding endsb
+inside-make y x d s e = sym (inside-by-end y x d s) ∙ lt-ltb (y .end) (x .end) e
+
 pub inside-trans : (z y x : Node) → insideb z y ≡ true → insideb y x ≡ true → insideb z x ≡ true
 inside-trans z y x h k =
     let p = within z y h in
@@ -57,6 +62,10 @@ inside-self x = not-so (λ h. lt-irrefl _ (within x x h .start))
 pub directly-inside : (y x : Node) → directlyb y x ≡ true → (insideb y x ≡ true) × (y .level ≡ x .level + 1)
 unfolding directlyb deeperb
 directly-inside y x h = let p = and-read (insideb y x) h in (p .0, eqb-true _ _ (p .1))
+
+pub directly-make : (y x : Node) → insideb y x ≡ true → y .level ≡ x .level + 1 → directlyb y x ≡ true
+unfolding directlyb deeperb
+directly-make y x h l = and-make h (eq-eqb (y .level) (x .level + 1) l)
 
 pub apart-read : (x y : Node) → apartb x y ≡ true → (x .end < y .start) ⊎ (y .end < x .start)
 unfolding apartb

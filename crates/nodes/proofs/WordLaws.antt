@@ -1,7 +1,7 @@
 -- Four words more are one node more, so an index of the nodes is four times that index of the words.
 -- A node read one word off, or written over its neighbour, falls here.
 use mathlib.Core.Path.{_≡_, refl, ap, sym, _∙_}
-use mathlib.Core.List.{List, [], _∷_}
+use mathlib.Core.List.{List, [], _∷_, flatMap}
 use Prim.Native.Nat.{ℕ, zero, suc, _+_, _*_, _-_, _≤_, _<_}
 use native.Mathlib.Omega.{arith}
 use native.Mathlib.Nat.{not-suc-le-zero}
@@ -11,6 +11,7 @@ use native.Mathlib.Numerals.{add-one, towards-suc}
 use borrow.Author.Tests.{lt-ltb}
 use Rattle.nodes.specs.declared.node.Node.{Node}
 use Rattle.nodes.specs.Words.{node, nodes, count, nodeAt, wordsOf, putNode}
+use Rattle.nodes.specs.Written.{wordsIn}
 
 pub length-nodes : (ws : List ℕ) → length (nodes ws) ≡ count ws
 unfolding nodes
@@ -114,3 +115,14 @@ nodes-part ws from to m q = rw q (nodes-take (drop (4 * from) ws) (to - from) �
 pub nodes-rest : (ws : List ℕ) (k : ℕ) → nodes (take (length ws - 4 * k) (drop (4 * k) ws)) ≡ drop k (nodes ws)
 nodes-rest ws k =
     ap nodes (take-all (length ws - 4 * k) (drop (4 * k) ws) (omega (arith, length-drop (4 * k) ws))) ∙ nodes-drop ws k
+
+-- nodes written as words are read as the same nodes
+pub nodes-of-words : (ns : List Node) → nodes (wordsIn wordsOf ns) ≡ ns
+unfolding nodes wordsIn flatMap wordsOf
+nodes-of-words [] = refl
+nodes-of-words (n ∷ ns) = ap (λ ms. n ∷ ms) (nodes-of-words ns)
+
+pub length-words : (ns : List Node) → length (wordsIn wordsOf ns) ≡ 4 * length ns
+unfolding wordsIn flatMap wordsOf
+length-words [] = refl
+length-words (n ∷ ns) = let h = length-words ns in omega arith

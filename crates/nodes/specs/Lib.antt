@@ -3,3 +3,4 @@ pub mod Answer
 pub mod Choose
 pub mod Node
 pub mod Words
+pub mod Written

@@ -11,13 +11,12 @@ use lib.ListN.{length, take, length-take}
 use lib.Seq.{take-all}
 use borrow.Author.Tests.{eqb-true, eqb-false}
 use Rattle.nodes.specs.Choose.{All, Pairs, In, keep}
-use Rattle.nodes.proofs.Choices.{all-in, all-map, keep-all-of}
+use Rattle.nodes.proofs.Choices.{all-in, all-map, each-in, take-all-of, keep-in, keep-past, keep-pairs, keep-all-of, pairs-map}
 use Rattle.nodes.proofs.Tests.{never}
 use Rattle.paging.specs.Calls.{Call, refused, accepted, given, moved, placeAfter, allGiven}
 use Rattle.paging.specs.Key.{aboveb}
 use Rattle.paging.specs.Page.{Spot, fresh, after, pastb, remains, handed, doneb, reached}
 use Rattle.paging.proofs.KeyLaws.{above-self, above-trans}
-use Rattle.paging.proofs.PageLaws.{each-in, take-all-of, keep-in, keep-past, keep-pairs, pairs-map}
 
 module _ {A : Type 0} (key : A → List ℕ) where
   -- strictly ascending by key

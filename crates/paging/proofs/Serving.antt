@@ -9,25 +9,16 @@ use native.Mathlib.Nat.{add-zero, zero-add, mul-zero, mul-add, mul-one, mul-le-m
 use native.Mathlib.Omega.{arith}
 use lib.Dec.{ltb, eqb, eqb·zero-suc, eqb·suc-suc}
 use lib.ListN.{length, take, drop, length-append}
-use lib.Seq.{sets, sets-eq, length-sets, take-nil, take-append-seam, drop-append-add, drop-drop}
+use lib.Seq.{sets, length-sets, take-nil}
 use borrow.Author.Tests.{ltb-true, lt-ltb, le-ltb}
 use Rattle.nodes.proofs.Tests.{either, never}
+use Rattle.nodes.proofs.Writing.{sets-behind, written-behind}
 use Rattle.paging.specs.Serve.{store, serve}
-use Rattle.paging.specs.Written.{wordsIn, written}
+use Rattle.nodes.specs.Written.{wordsIn, written}
 
 -- answers equal in each part are equal
 same-answer : {o o′ : List ℕ} {n n′ : ℕ} {b b′ : Bool} → o ≡ o′ → n ≡ n′ → b ≡ b′ → _≡_ {A = List ℕ × ℕ × Bool} (o, n, b) (o′, n′, b′)
 same-answer p q r = rw (p, q, r)
-
--- words stored behind others
-sets-behind : (front rest vs : List ℕ) → length front + length vs ≤ length (front ++ rest)
-    → sets (front ++ rest) (length front) vs ≡ front ++ vs ++ drop (length vs) rest
-sets-behind front rest vs h = rw (sets-eq vs (front ++ rest) (length front) h, take-append-seam front rest, drop-append-add front rest (length vs))
-
--- words written behind others that were written
-written-behind : (us vs rest : List ℕ) → us ++ written vs (drop (length us) rest) ≡ written (us ++ vs) rest
-unfolding written
-written-behind us vs rest = rw (drop-drop (length vs) (length us) rest, length-append us vs) (sym (append-assoc us vs _))
 
 module _ {A : Type 0} (words : A → List ℕ) (width : ℕ) where
   -- while there is room, an item is stored

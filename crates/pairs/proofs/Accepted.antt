@@ -4,7 +4,6 @@ use mathlib.Core.Path.{_≡_}
 use mathlib.Core.Bool.{true, false}
 use mathlib.Core.List.{List, [], _∷_}
 use Prim.Native.Nat.{ℕ, zero, suc, _≤_, _<_}
-use native.Mathlib.Nat.{not-suc-le-zero}
 use native.Mathlib.Omega.{arith}
 use lib.ListN.{length, getD, drop}
 use lib.Seq.{drop-nil}
@@ -13,7 +12,7 @@ use Rattle.nodes.specs.Answer.{TAKEN}
 use Rattle.nodes.specs.Choose.{All, Pairs}
 use Rattle.nodes.specs.Node.{afterb}
 use Rattle.nodes.specs.Words.{node, nodes}
-use Rattle.nodes.proofs.Choices.{all-map, all-both}
+use Rattle.nodes.proofs.Choices.{all-map, all-both, all-at, pairs-at}
 use Rattle.nodes.proofs.NodeLaws.{after-trans}
 use Rattle.nodes.proofs.Tests.{never, not-so}
 use Rattle.lists.specs.Two.{checkTwo}
@@ -37,19 +36,6 @@ accepted as′ ds h =
     let p = words-taken-iff as′ .0 (t .0) in
     let q = words-taken-iff ds .0 (t .1) in
     record { sound-as = p .2; fine-as = p .3; sound-ds = q .2; fine-ds = q .3; even = t .2 }
-
-module _ {A : Type 0} where
-  -- what holds of all holds at an index, and of one that stands in the list
-  pub all-at : (P : A → Type 0) (xs : List A) (i : ℕ) (d : A) → i < length xs → All P xs → P (getD xs i d)
-  all-at P [] i d l h = absurd (not-suc-le-zero l)
-  all-at P (x ∷ xs) zero d l h = h .0
-  all-at P (x ∷ xs) (suc i) d l h = all-at P xs i d (omega arith) (h .1)
-
-  pub pairs-at : (R : A → A → Type 0) (xs : List A) (k i : ℕ) (d : A) → k < i → i < length xs → Pairs R xs → R (getD xs k d) (getD xs i d)
-  pairs-at R [] k i d l m h = absurd (not-suc-le-zero m)
-  pairs-at R (x ∷ xs) k zero d l m h = absurd (not-suc-le-zero l)
-  pairs-at R (x ∷ xs) zero (suc i) d l m h = all-at (R x) xs i d (omega arith) (h .0)
-  pairs-at R (x ∷ xs) (suc k) (suc i) d l m h = pairs-at R xs k i d (omega arith) (omega arith) (h .1)
 
 -- what holds at each index below k holds of the first k nodes
 all-firsts : (P : Node → Type 0) (k : ℕ) (ns : List Node) → ((i : ℕ) → i < k → P (getD ns i (node 0 0 0 0))) → All P (firsts k ns)

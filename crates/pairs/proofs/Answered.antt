@@ -15,13 +15,12 @@ use Rattle.nodes.specs.Answer.{TAKEN}
 use Rattle.nodes.specs.Choose.{Pairs}
 use Rattle.nodes.specs.Node.{afterb}
 use Rattle.nodes.specs.Words.{nodes, wordsOf}
-use Rattle.nodes.proofs.Choices.{all-of, keep-all}
+use Rattle.nodes.proofs.Choices.{all-of, keep-all, pairs-map}
 use Rattle.nodes.proofs.Tests.{either, so, not-none}
 use Rattle.lists.specs.Two.{refusedb, checkTwo}
 use Rattle.lists.proofs.Taken.{Fine}
 use Rattle.paging.specs.Page.{fresh, pastb, remains, handed, doneb, reached}
-use Rattle.paging.specs.Written.{wordsIn, written}
-use Rattle.paging.proofs.PageLaws.{pairs-map}
+use Rattle.nodes.specs.Written.{wordsIn, written}
 use Rattle.tickets.specs.declared.ticket.Order.{Order}
 use Rattle.tickets.specs.declared.ticket.Place.the-variants.{After}
 use Rattle.tickets.specs.declared.ticket.Relation.{Relation}

@@ -27,7 +27,8 @@ use Rattle.tickets.specs.Row.{row, matches}
 use Rattle.tickets.specs.Ticket.{spotOf}
 use Rattle.tickets.proofs.Rows.{rest-of}
 use Rattle.pairs.specs.Sweep.{Opening}
-use Rattle.pairs.proofs.Accepted.{accepted, all-at, pairs-at, fine-with}
+use Rattle.nodes.proofs.Choices.{all-at, pairs-at}
+use Rattle.pairs.proofs.Accepted.{accepted, fine-with}
 use Rattle.pairs.proofs.Matching.{matches-open}
 use Rattle.pairs.proofs.OpenRow.{all-among, upon-left, open-none, open-left, open-later}
 use Rattle.pairs.proofs.Rowing.{matches-rise, rest-row}

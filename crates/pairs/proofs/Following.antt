@@ -6,13 +6,13 @@ use mathlib.Core.Bool.{true, false, cond}
 use mathlib.Core.List.{List, [], _∷_, _++_, map, map-append}
 use Rattle.nodes.specs.Choose.{All, Pairs, In}
 use Rattle.nodes.specs.Words.{nodes}
-use Rattle.nodes.proofs.Choices.{all-of, all-map}
+use Rattle.nodes.proofs.Choices.{all-of, all-map, pairs-map}
 use Rattle.nodes.proofs.Tests.{either}
 use Rattle.lists.specs.Two.{refusedb, checkTwo}
 use Rattle.paging.specs.Calls.{Call as PagingCall, refused, accepted, given, moved, placeAfter, allGiven}
 use Rattle.paging.specs.Page.{after, handed, doneb, reached}
 use Rattle.paging.proofs.Demand.{Ascending, Stood, none-lost as none-lost-of, no-key-twice, own-listing, fills-room as fills-room-of}
-use Rattle.paging.proofs.PageLaws.{reached-map, pairs-map}
+use Rattle.paging.proofs.PageLaws.{reached-map}
 use Rattle.tickets.specs.declared.ticket.Order.{Order}
 use Rattle.tickets.specs.declared.ticket.Order.the-variants.{Descendant, Ancestor}
 use Rattle.tickets.specs.declared.ticket.Place.{Place}

@@ -3,7 +3,7 @@
 use mathlib.Core.Path.{_≡_}
 use mathlib.Core.Bool.{true, false}
 use mathlib.Core.List.{List, _∷_}
-use Prim.Native.Nat.{ℕ, _+_, _-_, _≤_, _<_}
+use Prim.Native.Nat.{ℕ, _+_, _≤_, _<_}
 use native.Mathlib.Omega.{arith}
 use native.Mathlib.Numerals.{add-one}
 use lib.ListN.{length, drop}
@@ -18,7 +18,8 @@ use Rattle.lists.specs.Walk.{firsts, unended, Chain}
 use Rattle.lists.proofs.Faults.{Sound}
 use Rattle.lists.proofs.Taken.{words-taken-iff}
 use Rattle.pairs.specs.Sweep.{Open, Opening}
-use Rattle.pairs.proofs.Accepted.{all-at, fine-before, none-before}
+use Rattle.nodes.proofs.Choices.{all-at}
+use Rattle.pairs.proofs.Accepted.{fine-before, none-before}
 use Rattle.pairs.proofs.OpenRow.{open-push}
 
 module _ (ws : List ℕ) (d : Node) (taken : checkWords ws .answer ≡ TAKEN) where

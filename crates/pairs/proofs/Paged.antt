@@ -13,7 +13,7 @@ use Rattle.lists.specs.declared.verdict.Verdict.{Verdict}
 use Rattle.lists.specs.Two.{refusedb, checkTwo}
 use Rattle.paging.specs.Page.{remains, handed, doneb, reached}
 use Rattle.paging.specs.Serve.{serve}
-use Rattle.paging.specs.Written.{wordsIn, written}
+use Rattle.nodes.specs.Written.{wordsIn, written}
 use Rattle.paging.proofs.Serving.{serve-count, serve-length, serve-shows}
 use Rattle.tickets.specs.declared.ticket.Ticket.{Ticket}
 use Rattle.tickets.specs.Listing.{Pair, sortKey}

@@ -10,13 +10,12 @@ use lib.ListN.{take, drop}
 use Rattle.nodes.specs.declared.node.Node.{Node}
 use Rattle.nodes.specs.Choose.{All, Pairs, keep}
 use Rattle.nodes.specs.Words.{nodes, count}
-use Rattle.nodes.proofs.Choices.{all-map, all-both}
+use Rattle.nodes.proofs.Choices.{all-map, all-both, keep-past, keep-pairs}
 use Rattle.nodes.proofs.NodeLaws.{after-starts}
 use Rattle.nodes.proofs.Tests.{either}
 use Rattle.nodes.proofs.WordLaws.{nodes-behind, nodes-part}
 use Rattle.lists.proofs.Taken.{Fine}
 use Rattle.paging.specs.Page.{remains}
-use Rattle.paging.proofs.PageLaws.{keep-past, keep-pairs}
 use Rattle.tickets.specs.declared.ticket.Order.{Order}
 use Rattle.tickets.specs.declared.ticket.Place.{Place}
 use Rattle.tickets.specs.declared.ticket.Relation.{Relation}

@@ -12,7 +12,7 @@ use Rattle.nodes.specs.Answer.{TAKEN}
 use Rattle.nodes.specs.Choose.{All, Pairs, keep, firstAt}
 use Rattle.nodes.specs.Node.{insideb, deeperb, directlyb, afterb, openb}
 use Rattle.nodes.specs.Words.{node, nodes, count, nodeAt}
-use Rattle.nodes.proofs.Choices.{all-map, all-both, keep-append, keep-none}
+use Rattle.nodes.proofs.Choices.{all-map, all-both, keep-append, keep-none, all-at, pairs-at}
 use Rattle.nodes.proofs.NodeLaws.{after-trans, inside-after, inside-open, open-read, shut-later}
 use Rattle.nodes.proofs.Tests.{either, never, not-so}
 use Rattle.nodes.proofs.WordLaws.{length-nodes, nodes-from, nodes-behind}
@@ -35,7 +35,7 @@ use Rattle.tickets.proofs.First.{first-in, first-failed, first-from, first-earl
 use Rattle.tickets.proofs.Listed.{related-inside}
 use Rattle.tickets.proofs.Rows.{rowPast, rest-of}
 use Rattle.pairs.specs.Sweep.{Running}
-use Rattle.pairs.proofs.Accepted.{accepted, all-at, pairs-at}
+use Rattle.pairs.proofs.Accepted.{accepted}
 use Rattle.pairs.proofs.Rowing.{matches-rise, rest-row, stretch-past}
 
 module _ {A : Type 0} where

@@ -9,7 +9,7 @@ use lib.ListN.{length, take, getD}
 use Rattle.nodes.specs.declared.node.Node.{Node}
 use Rattle.nodes.specs.Words.{node, nodes, wordsOf}
 use Rattle.paging.specs.Page.{reached}
-use Rattle.paging.specs.Written.{wordsIn, written}
+use Rattle.nodes.specs.Written.{wordsIn, written}
 use Rattle.tickets.specs.declared.ticket.Order.{Order}
 use Rattle.tickets.specs.declared.ticket.Place.{Place}
 use Rattle.tickets.specs.declared.ticket.Place.the-variants.{After}

@@ -6,7 +6,7 @@ use lib.ListN.{length}
 use Rattle.nodes.specs.Words.{nodes}
 use Rattle.lists.specs.Two.{refusedb, checkTwo}
 use Rattle.paging.specs.Page.{handed, doneb, reached}
-use Rattle.paging.specs.Written.{wordsIn, written}
+use Rattle.nodes.specs.Written.{wordsIn, written}
 use Rattle.tickets.specs.declared.ticket.Place.the-variants.{After}
 use Rattle.tickets.specs.declared.ticket.Ticket.{Ticket}
 use Rattle.tickets.specs.Listing.{Pair, keyOf, sortKey, listing}

@@ -24,7 +24,7 @@ ghost use Rattle.nodes.specs.Choose.{firstAt};
 ghost use Rattle.nodes.specs.Node.{deeperb, afterb, openb};
 ghost use Rattle.nodes.specs.Words.{nodes, count, nodeAt};
 ghost use Rattle.lists.specs.Two.{checkTwo};
-ghost use Rattle.tickets.specs.Row.{row, matches};
+ghost use Rattle.tickets.specs.Row.{matches};
 ghost use Rattle.pairs.specs.Sweep.{Running, served, servedAll};
 
 // The first descendant from an index on that stands after the ancestor.

@@ -24,7 +24,7 @@ ghost use Rattle.nodes.specs.Node.{MOST-LEVELS};
 ghost use Rattle.nodes.specs.Words.{nodes, count};
 ghost use Rattle.lists.specs.Two.{checkTwo};
 ghost use Rattle.lists.specs.Walk.{firsts, Chain, Upon};
-ghost use Rattle.tickets.specs.Row.{row, matches};
+ghost use Rattle.tickets.specs.Row.{matches};
 ghost use Rattle.pairs.specs.Sweep.{served, servedAll};
 
 // Where on the stack the ancestors begin that have the relation with a descendant which lies inside all of them. Directly inside it can

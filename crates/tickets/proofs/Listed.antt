@@ -11,12 +11,11 @@ use borrow.Author.Tests.{eq-eqb, lt-ltb}
 use Rattle.nodes.specs.declared.node.Node.{Node}
 use Rattle.nodes.specs.Choose.{All, Pairs, In, keep}
 use Rattle.nodes.specs.Node.{insideb, afterb}
-use Rattle.nodes.proofs.Choices.{all-in, all-map, all-both, keep-all-of}
+use Rattle.nodes.proofs.Choices.{all-in, all-map, all-both, each-in, keep-in, keep-past, keep-pairs, keep-all-of, pairs-map}
 use Rattle.nodes.proofs.NodeLaws.{within, directly-inside, after-read, after-starts}
 use Rattle.nodes.proofs.Tests.{never, and-make, or-left, or-right}
 use Rattle.paging.specs.Key.{aboveb}
 use Rattle.paging.proofs.KeyLaws.{above-self}
-use Rattle.paging.proofs.PageLaws.{each-in, keep-in, keep-past, keep-pairs, pairs-map}
 use Rattle.tickets.specs.declared.ticket.Order.{Order}
 use Rattle.tickets.specs.declared.ticket.Order.the-variants.{Descendant, Ancestor}
 use Rattle.tickets.specs.declared.ticket.Relation.{Relation}

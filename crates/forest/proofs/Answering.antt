@@ -1,0 +1,66 @@
+-- The check of one list names the ancestors and carries index 0 when it is taken; what the call answers follows from its fault and its room.
+-- A refusal that counted nodes, or room compared with anything but the result, would fall here.
+use mathlib.Core.Path.{_≡_, sym, ap, _∙_}
+use mathlib.Core.List.{List}
+use Prim.Native.Nat.{ℕ, _/_, _≤_, _<_}
+use native.Mathlib.Omega.{arith}
+use lib.ListN.{length}
+use Rattle.nodes.specs.Answer.{TAKEN, ROOM}
+use Rattle.nodes.specs.Words.{nodes, count}
+use Rattle.nodes.specs.Written.{written, answerOf, outputOf}
+use Rattle.nodes.proofs.WordLaws.{length-nodes}
+use Rattle.nodes.proofs.Writing.{answer-fault, answer-room, answer-taken, if-taken, if-refused}
+use Rattle.lists.specs.declared.verdict.Verdict.{Verdict}
+use Rattle.lists.specs.Check.{checkWords}
+use Rattle.lists.specs.Verdict.{ANCESTORS, verdict}
+use Rattle.lists.proofs.Naming.{single}
+use Rattle.forest.specs.declared.forest.Linked.{Linked}
+use Rattle.forest.specs.Linked.{linksIn, linkedOf, linksOutput}
+use Rattle.forest.proofs.LinkLaws.{links-length}
+
+abbrev linked : Verdict → ℕ → Linked
+linked v count = record { verdict = v; count = count }
+
+module _ (list out : List ℕ) (v : Verdict) (q : v ≡ checkWords list) where
+  -- what a call answers and leaves: a faulty list's verdict, ROOM, or the links
+  abbrev Answers : Linked → List ℕ → Type 0
+  Answers r after = (r ≡ linkedOf list out) × (after ≡ linksOutput list out)
+
+  pub refused : (v .answer ≡ TAKEN → ⊥) → Answers (linked v 0) out
+  unfolding linkedOf linksOutput outputOf
+  refused h =
+      let c = checkWords list in
+      let f : c .answer ≡ TAKEN → ⊥ = λ z. h (ap (λ w. w .answer) q ∙ z) in
+      let a = answer-fault (c .answer) (linksIn list) out f in
+      let n : answerOf (c .answer) (linksIn list) out ≡ TAKEN → ⊥ = λ z. f (sym a ∙ z) in
+      let k = if-refused (c .answer) (linksIn list) out (length (nodes list)) 0 n in (
+        ap (λ w. linked w 0) q ∙ λ t. linked (verdict (sym a t) (single list .0 t) (c .index)) (sym k t),
+        sym (if-refused (c .answer) (linksIn list) out (written (linksIn list) out) out n),
+      )
+
+  module _ (h : v .answer ≡ TAKEN) where
+    fault-none : checkWords list .answer ≡ TAKEN
+    fault-none = sym (ap (λ w. w .answer) q) ∙ h
+
+    pub no-room : length out / 3 < count list → Answers (linked (verdict ROOM ANCESTORS 0) 0) out
+    unfolding linkedOf linksOutput outputOf
+    no-room l =
+        let c = checkWords list in
+        let a = answer-room (c .answer) (linksIn list) out fault-none (omega (arith, links-length list)) in
+        let n : answerOf (c .answer) (linksIn list) out ≡ TAKEN → ⊥ = λ z. omega (arith, sym a ∙ z) in
+        let k = if-refused (c .answer) (linksIn list) out (length (nodes list)) 0 n in (
+          λ t. linked (verdict (sym a t) ANCESTORS (sym (single list .1 fault-none) t)) (sym k t),
+          sym (if-refused (c .answer) (linksIn list) out (written (linksIn list) out) out n),
+        )
+
+    pub all-linked : count list ≤ length out / 3 → (n : ℕ) → n ≡ count list → (after : List ℕ) → after ≡ written (linksIn list) out
+        → Answers (linked v n) after
+    unfolding linkedOf linksOutput outputOf
+    all-linked l n r after w =
+        let c = checkWords list in
+        let a = answer-taken (c .answer) (linksIn list) out fault-none (omega (arith, links-length list)) in
+        let k = if-taken (c .answer) (linksIn list) out (length (nodes list)) 0 a in (
+          ap (λ w. linked w n) q
+              ∙ λ t. linked (verdict ((fault-none ∙ sym a) t) (single list .0 t) (c .index)) ((r ∙ sym (k ∙ length-nodes list)) t),
+          w ∙ sym (if-taken (c .answer) (linksIn list) out (written (linksIn list) out) out a),
+        )

@@ -1,0 +1,10 @@
+-- The call's contract equates its answer and its output with definitions, and two things that equal a third are equal.
+-- `Post` is what its `ensures` says of the answer and of what it was lent; a contract that left a field or a word open would fall here.
+use mathlib.Core.Path.{_≡_}
+use denote.Ref.{now}
+use Rattle.nodes.proofs.Only.{only}
+use Rattle.forest.proofs.forest.link_list.Reads as link-list
+
+pub link-list-only : (κs : _) (a : _) (r r′ : _) (s s′ : _) → link-list.Post κs a r s → link-list.Post κs a r′ s′
+    → (now (s .1 .0) ≡ now (s′ .1 .0)) × (r ≡ r′)
+link-list-only κs a r r′ s s′ p q = (only (p .1) (q .1), only (p .0) (q .0))

@@ -1,0 +1,56 @@
+-- A faulty list and an output without room return before anything is written; else all links are written, and the nodes counted.
+-- A count on refusal, or room compared by nodes, falls at its return.
+use borrow.Author.Needs.{needs}
+use mathlib.Core.Path.{sym, ap, _∙_}
+use native.Mathlib.Omega.{arith}
+use denote.Ref.{now}
+use Rattle.forest.proofs.Answering.{refused, no-room, all-linked}
+use Rattle.forest.proofs.forest.link_list.Statement.{statement}
+use Rattle.forest.proofs.forest.link_list.Tie as tie
+
+check-list-requires : tie.Need-check-list-requires
+check-list-requires c κs = search needs
+
+returns : tie.Need-returns
+returns c =
+    let a = c .before .before .before .before .before .args in
+    refused (now (a .list)) (now (a .out)) _ (c .before .before .check-list .ensures) (c .if1 .taken)
+
+node-count-requires : tie.Need-node-count-requires
+node-count-requires c κs = search needs
+
+returns-2 : tie.Need-returns-2
+returns-2 c =
+    let a = c .before .before .before .before .before .before .before .args in
+    no-room (now (a .list)) (now (a .out)) _ (c .before .before .before .before .check-list .ensures) (c .before .before .if1 .left) (omega arith)
+
+link-all-requires : tie.Need-link-all-requires
+link-all-requires c κs =
+    let v = c .before .before .before .before .before .check-list .ensures in
+    (sym (ap (λ w. w .answer) v) ∙ c .before .before .before .if1 .left, omega arith)
+
+node-count-requires-2 : tie.Need-node-count-requires-2
+node-count-requires-2 c κs = search needs
+
+same-length : tie.Need-same-length
+same-length c = search needs
+
+returns-3 : tie.Need-returns-3
+returns-3 c =
+    let a = c .before .before .before .before .before .before .before .before .before .before .before .before .args in
+    let v = c .before .before .before .before .before .before .before .before .before .check-list .ensures in
+    let h = c .before .before .before .before .before .before .before .if1 .left in
+    all-linked (now (a .list)) (now (a .out)) _ v h (omega arith) _ (c .node-count2 .ensures) _ (c .before .before .before .link-all .ensures)
+
+pub link-list-spec : {M : Type 1} → statement M
+link-list-spec =
+    tie.close
+    (tie.spec
+    check-list-requires
+    returns
+    node-count-requires
+    returns-2
+    link-all-requires
+    node-count-requires-2
+    same-length
+    returns-3)

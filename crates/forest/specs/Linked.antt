@@ -1,0 +1,27 @@
+-- Document 01, "The containment forest": what the call answers and writes: the list's checks, then ROOM.
+use Prim.Native.Nat.{ℕ}
+use mathlib.Core.List.{List}
+use lib.ListN.{length}
+use Rattle.nodes.specs.Words.{nodes}
+use Rattle.nodes.specs.Written.{wordsIn, answerOf, ifTaken, outputOf}
+use Rattle.lists.specs.Check.{checkWords}
+use Rattle.lists.specs.Verdict.{ANCESTORS, verdict}
+use Rattle.forest.specs.declared.forest.Linked.{Linked}
+use Rattle.forest.specs.Links.{linksOf, linkWords}
+
+-- the words of a list's links
+unfoldable pub linksIn : List ℕ → List ℕ
+linksIn list = wordsIn linkWords (linksOf (nodes list))
+
+module _ (list out : List ℕ) where
+  -- the list's own answer with the faulty node's index, then ROOM, which carries index 0 as TAKEN does; and how many nodes got their links
+  unfoldable pub linkedOf : Linked
+  linkedOf =
+      let checked = checkWords list in
+      record {
+        verdict = verdict (answerOf (checked .answer) (linksIn list) out) ANCESTORS (checked .index);
+        count = ifTaken (checked .answer) (linksIn list) out (length (nodes list)) 0;
+      }
+
+  unfoldable pub linksOutput : List ℕ
+  linksOutput = outputOf (checkWords list .answer) (linksIn list) out

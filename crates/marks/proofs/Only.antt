@@ -1,0 +1,20 @@
+-- Each contract equates the answer and the output with definitions, and two things that equal a third are equal.
+-- `Post` is what an `ensures` says of the answer and of what was lent; a contract that left a field or a word open would fall here.
+use mathlib.Core.Path.{_≡_}
+use denote.Ref.{now}
+use Rattle.nodes.proofs.Only.{only}
+use Rattle.marks.proofs.number.number.Reads as number
+use Rattle.marks.proofs.pick.pick.Reads as pick
+use Rattle.marks.proofs.unnumber.unnumber.Reads as unnumber
+
+pub number-only : (κs : _) (a : _) (r r′ : _) (s s′ : _) → number.Post κs a r s → number.Post κs a r′ s′
+    → (now (s .1 .1 .0) ≡ now (s′ .1 .1 .0)) × (r ≡ r′)
+number-only κs a r r′ s s′ p q = (only (p .1) (q .1), only (p .0) (q .0))
+
+pub pick-only : (κs : _) (a : _) (r r′ : _) (s s′ : _) → pick.Post κs a r s → pick.Post κs a r′ s′
+    → (now (s .1 .1 .0) ≡ now (s′ .1 .1 .0)) × (r ≡ r′)
+pick-only κs a r r′ s s′ p q = (only (p .1) (q .1), only (p .0) (q .0))
+
+pub unnumber-only : (κs : _) (a : _) (r r′ : _) (s s′ : _) → unnumber.Post κs a r s → unnumber.Post κs a r′ s′
+    → (now (s .1 .0) ≡ now (s′ .1 .0)) × (r ≡ r′)
+unnumber-only κs a r r′ s s′ p q = (only (p .1) (q .1), only (p .0) (q .0))

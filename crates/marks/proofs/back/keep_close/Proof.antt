@@ -1,0 +1,23 @@
+-- The close is stored behind those of the elements around it, and one element more is open.
+-- A close stored at another place, or a depth that stays, falls at the return.
+use borrow.Author.Needs.{needs}
+use mathlib.Core.Path.{refl}
+use Rattle.marks.specs.Walk.{openBefore, placeBefore, closesBefore}
+use Rattle.marks.proofs.back.keep_close.Statement.{statement}
+use Rattle.marks.proofs.back.keep_close.Tie as tie
+
+mul-closes : tie.Need-mul-closes
+mul-closes c = search needs
+
+element-write-closes : tie.Need-element-write-closes
+element-write-closes c = search needs
+
+add-t5 : tie.Need-add-t5
+add-t5 c = search needs
+
+returns : tie.Need-returns
+unfolding placeBefore openBefore closesBefore
+returns c = (refl, refl)
+
+pub keep-close-spec : {M : Type 1} → statement M
+keep-close-spec = tie.close (tie.spec mul-closes element-write-closes add-t5 returns)

@@ -1,0 +1,48 @@
+-- A close leaves one element less, a text one row more, and an opening one more of both.
+-- A text that opened something, or a close that began a row, falls at its return.
+use borrow.Author.Needs.{needs}
+use mathlib.Core.Path.{_≡_}
+use Prim.Native.Nat.{ℕ, _+_, _-_}
+use borrow.Author.Tests.{eq-eqb, ne-eqb}
+use Rattle.marks.specs.declared.mark.Place.{Place}
+use Rattle.marks.specs.Mark.{CLOSE, TEXT, openAfter}
+use Rattle.marks.specs.Walk.{place, placeAfter}
+use Rattle.marks.proofs.mark.place_after.Statement.{statement}
+use Rattle.marks.proofs.mark.place_after.Tie as tie
+
+module _ (p : Place) (mark : ℕ) where
+  a-close : mark ≡ CLOSE → place (p .depth - 1) (p .rows) ≡ placeAfter p mark
+  unfolding placeAfter openAfter
+  a-close h = rw (eq-eqb mark CLOSE h)
+
+  a-text : mark ≡ TEXT → place (p .depth) (p .rows + 1) ≡ placeAfter p mark
+  unfolding placeAfter openAfter
+  a-text h = rw h
+
+  an-opening : (mark ≡ CLOSE → ⊥) → (mark ≡ TEXT → ⊥) → place (p .depth + 1) (p .rows + 1) ≡ placeAfter p mark
+  unfolding placeAfter openAfter
+  an-opening h k = rw (ne-eqb mark CLOSE h, ne-eqb mark TEXT k)
+
+sub-t4 : tie.Need-sub-t4
+sub-t4 c = c .before .before .pre .2 (c .before .if1 .taken)
+
+returns : tie.Need-returns
+returns c = a-close _ _ (c .before .if1 .taken)
+
+add-t5 : tie.Need-add-t5
+add-t5 c = search needs
+
+returns-2 : tie.Need-returns-2
+returns-2 c = a-text _ _ (c .before .if2 .taken)
+
+add-t6 : tie.Need-add-t6
+add-t6 c = search needs
+
+add-t7 : tie.Need-add-t7
+add-t7 c = search needs
+
+returns-3 : tie.Need-returns-3
+returns-3 c = an-opening _ _ (c .before .before .before .if1 .left) (c .before .before .if2 .left)
+
+pub place-after-spec : {M : Type 1} → statement M
+place-after-spec = tie.close (tie.spec sub-t4 returns add-t5 returns-2 add-t6 add-t7 returns-3)

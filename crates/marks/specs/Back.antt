@@ -1,0 +1,50 @@
+-- Document 01, "Marks and tables": a table back into marks.
+use Prim.Native.Nat.{ℕ, _-_}
+use mathlib.Core.Path.{_≡_}
+use mathlib.Core.Bool.{Bool, true, false, cond, _&&_}
+use mathlib.Core.List.{List, [], _∷_}
+use lib.Dec.{eqb}
+use lib.ListN.{replicate, set}
+use Rattle.nodes.specs.Answer.{TAKEN, TABLE}
+use Rattle.nodes.specs.Node.{sameb}
+use Rattle.marks.specs.declared.row.Row.{Row}
+use Rattle.marks.specs.Mark.{CLOSE, checkMarks}
+use Rattle.marks.specs.Table.{tableOf, rows, rowIn, rowFault}
+
+-- the marks with each row's tag at the row's start
+unfoldable pub tagged : List Row → List ℕ → List ℕ
+tagged [] marks = marks
+tagged (r ∷ rs) marks = tagged rs (set marks (r .node .start - 1) (r .tag))
+
+-- the marks that a table tells of: up to the first row's end, each row's tag at its start and a close everywhere else
+unfoldable pub marksOf : List Row → List ℕ
+marksOf rs = tagged rs (replicate (rowIn rs 0 .node .end) CLOSE)
+
+-- the document number that a table tells of
+unfoldable pub documentOf : List Row → ℕ
+documentOf rs = rowIn rs 0 .node .document
+
+-- accepted marks that have the rows as their table
+pub record Numbering (rs : List Row) : Type 0 where
+  pub document : ℕ
+  pub marks : List ℕ
+  pub taken : checkMarks marks ≡ TAKEN
+  pub table : tableOf document marks ≡ rs
+
+-- two tables are the same, row by row
+unfoldable pub sameRowb : Row → Row → Bool
+sameRowb x y = sameb (x .node) (y .node) && eqb (x .tag) (y .tag)
+
+unfoldable pub sameRowsb : List Row → List Row → Bool
+sameRowsb [] [] = true
+sameRowsb [] (y ∷ ys) = false
+sameRowsb (x ∷ xs) [] = false
+sameRowsb (x ∷ xs) (y ∷ ys) = sameRowb x y && sameRowsb xs ys
+
+-- the marks that a table tells of are accepted and have this table; where they don't, no accepted marks do (`Exact: table-exact`)
+unfoldable pub numberedb : List Row → Bool
+numberedb rs = eqb (checkMarks (marksOf rs)) TAKEN && sameRowsb (tableOf (documentOf rs) (marksOf rs)) rs
+
+-- what is wrong with the words of a table: RAGGED, LONG, then TABLE
+unfoldable pub checkTable : List ℕ → ℕ
+checkTable words = cond (eqb (rowFault words) TAKEN) (cond (numberedb (rows words)) TAKEN TABLE) (rowFault words)

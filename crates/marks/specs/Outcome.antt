@@ -1,0 +1,58 @@
+-- Document 01, "Marks and tables": what the three calls answer and write.
+use Prim.Native.Nat.{ℕ}
+use mathlib.Core.List.{List, map}
+use lib.Dec.{eqb}
+use lib.ListN.{length}
+use Rattle.nodes.specs.declared.node.Node.{Node}
+use Rattle.nodes.specs.Choose.{keep}
+use Rattle.nodes.specs.Words.{wordsOf}
+use Rattle.nodes.specs.Written.{wordsIn, answerOf, ifTaken, outputOf}
+use Rattle.marks.specs.declared.outcome.Outcome.{Outcome}
+use Rattle.marks.specs.declared.unnumber.Unnumbered.{Unnumbered}
+use Rattle.marks.specs.declared.row.Row.{Row}
+use Rattle.marks.specs.Back.{marksOf, documentOf, checkTable}
+use Rattle.marks.specs.Mark.{checkMarks}
+use Rattle.marks.specs.Table.{tableOf, tableWords, rows, rowFault}
+
+abbrev pub outcome : ℕ → ℕ → Outcome
+outcome answer count = record { answer = answer; count = count }
+
+-- a call's answer, and how much it wrote; nothing on refusal
+unfoldable pub outcomeOf : ℕ → List ℕ → List ℕ → ℕ → Outcome
+outcomeOf fault result out count = outcome (answerOf fault result out) (ifTaken fault result out count 0)
+
+-- numbering: the words of the table, counted in rows
+unfoldable pub numberOutcome : ℕ → List ℕ → List ℕ → Outcome
+numberOutcome document marks out = outcomeOf (checkMarks marks) (tableWords document marks) out (length (tableOf document marks))
+
+unfoldable pub numberOutput : ℕ → List ℕ → List ℕ → List ℕ
+numberOutput document marks out = outputOf (checkMarks marks) (tableWords document marks) out
+
+abbrev pub unnumbered : ℕ → ℕ → ℕ → Unnumbered
+unnumbered answer document count = record { answer = answer; document = document; count = count }
+
+-- a table back into marks: the marks, counted one by one, and the document number
+unfoldable pub tableMarks : List ℕ → List ℕ
+tableMarks table = marksOf (rows table)
+
+unfoldable pub unnumberOutcome : List ℕ → List ℕ → Unnumbered
+unnumberOutcome table out =
+    let fault = checkTable table in
+    let result = tableMarks table in
+    unnumbered (answerOf fault result out) (ifTaken fault result out (documentOf (rows table)) 0) (ifTaken fault result out (length result) 0)
+
+unfoldable pub unnumberOutput : List ℕ → List ℕ → List ℕ
+unnumberOutput table out = outputOf (checkTable table) (tableMarks table) out
+
+-- picking: the nodes of the rows with a tag, in row order
+unfoldable pub nodesWith : ℕ → List Row → List Node
+nodesWith tag rs = map (λ r. r .node) (keep (λ r. eqb (r .tag) tag) rs)
+
+unfoldable pub pickedWords : ℕ → List ℕ → List ℕ
+pickedWords tag table = wordsIn wordsOf (nodesWith tag (rows table))
+
+unfoldable pub pickOutcome : List ℕ → ℕ → List ℕ → Outcome
+pickOutcome table tag out = outcomeOf (rowFault table) (pickedWords tag table) out (length (nodesWith tag (rows table)))
+
+unfoldable pub pickOutput : List ℕ → ℕ → List ℕ → List ℕ
+pickOutput table tag out = outputOf (rowFault table) (pickedWords tag table) out

@@ -1,0 +1,72 @@
+-- Document 01, "Marks and tables": the rows of a document's nodes, in start order, and the words of a table.
+use Prim.Native.Nat.{ℕ, _+_, _-_, _%_, _/_}
+use mathlib.Core.Path.{_≡_}
+use mathlib.Core.Bool.{cond, not, _&&_}
+use mathlib.Core.List.{List, [], _∷_, _++_}
+use lib.Dec.{ltb, eqb}
+use lib.ListN.{length, getD}
+use Rattle.nodes.specs.declared.node.Node.{Node}
+use Rattle.nodes.specs.Answer.{TAKEN, RAGGED, LONG}
+use Rattle.nodes.specs.Words.{MOST-NODES, node, wordsOf}
+use Rattle.nodes.specs.Written.{wordsIn}
+use Rattle.marks.specs.declared.row.Row.{Row}
+use Rattle.marks.specs.Mark.{CLOSE, TEXT, closeb, textb, openAfter}
+
+abbrev pub row : Node → ℕ → Row
+row n tag = record { node = n; tag = tag }
+
+-- the position of an element's close among the marks from a position on, where so many elements inside it are open
+unfoldable pub closeAt : ℕ → ℕ → List ℕ → ℕ
+closeAt inner position [] = position
+closeAt inner position (mark ∷ marks) =
+    cond (closeb mark && eqb inner 0) position (closeAt (openAfter inner mark) (position + 1) marks)
+
+-- where the node ends that a mark at a position begins: a text there, and an element at its close among the marks that follow
+unfoldable pub endOf : ℕ → ℕ → List ℕ → ℕ
+endOf position mark marks = cond (textb mark) position (closeAt 0 (position + 1) marks)
+
+-- the rows of the nodes that begin from a position on, where so many elements are open; a node's level is one more
+unfoldable pub rowsFrom : ℕ → ℕ → ℕ → List ℕ → List Row
+rowsFrom document position depth [] = []
+rowsFrom document position depth (mark ∷ marks) =
+    let later = rowsFrom document (position + 1) (openAfter depth mark) marks in
+    cond (closeb mark) later (row (node document position (endOf position mark marks) (depth + 1)) mark ∷ later)
+
+-- the table of a document; its first mark has position 1
+unfoldable pub tableOf : ℕ → List ℕ → List Row
+tableOf document marks = rowsFrom document 1 0 marks
+
+-- a row stands where its marks do, among the marks from a position on: its tag is the mark at its start, a text ends there, and at an element's
+-- end stands a close
+pub record Marked (position : ℕ) (marks : List ℕ) (r : Row) : Type 0 where
+  pub tag-at : getD marks (r .node .start - position) 0 ≡ r .tag
+  pub one-position : r .tag ≡ TEXT → r .node .end ≡ r .node .start
+  pub closed-at : (r .tag ≡ TEXT → ⊥) → getD marks (r .node .end - position) 0 ≡ CLOSE
+
+-- how many words a row takes: a node's four and the tag
+abbrev pub ROW-WORDS : ℕ
+ROW-WORDS = 5
+
+unfoldable pub rowWords : Row → List ℕ
+rowWords r = wordsOf (r .node) ++ (r .tag ∷ [])
+
+-- the words of a document's table
+unfoldable pub tableWords : ℕ → List ℕ → List ℕ
+tableWords document marks = wordsIn rowWords (tableOf document marks)
+
+-- the whole rows of the words
+unfoldable pub rows : List ℕ → List Row
+rows [] = []
+rows (d ∷ []) = []
+rows (d ∷ s ∷ []) = []
+rows (d ∷ s ∷ e ∷ []) = []
+rows (d ∷ s ∷ e ∷ l ∷ []) = []
+rows (d ∷ s ∷ e ∷ l ∷ t ∷ words) = row (node d s e l) t ∷ rows words
+
+-- the row at an index, or zeros where there is none
+unfoldable pub rowIn : List Row → ℕ → Row
+rowIn rs index = getD rs index (row (node 0 0 0 0) 0)
+
+-- what is wrong with the words of a table, whatever the rows are: they don't make whole rows, or there are more than 4,096
+unfoldable pub rowFault : List ℕ → ℕ
+rowFault words = cond (not (eqb (length words % ROW-WORDS) 0)) RAGGED (cond (ltb MOST-NODES (length words / ROW-WORDS)) LONG TAKEN)

@@ -1,0 +1,71 @@
+// Picking a tag: the list of its nodes out of a table.
+use crate::outcome::Outcome;
+use crate::outcome::refused;
+use crate::row::row_at;
+use crate::row::row_count;
+use crate::row::row_fault;
+use nodes::answer::ROOM;
+use nodes::answer::TAKEN;
+use nodes::node::node_count;
+use nodes::node::put_node;
+ghost use mathlib.Core.Path.{_≡_};
+ghost use Prim.Native.Nat.{_≤_};
+ghost use lib.ListN.{length};
+ghost use Rattle.nodes.specs.Words.{count};
+ghost use Rattle.nodes.specs.Written.{written};
+ghost use Rattle.marks.specs.Outcome.{nodesWith, pickedWords, pickOutcome, pickOutput};
+ghost use Rattle.marks.specs.Table.{rows};
+
+// How many rows have the tag.
+fn count_tag(table: &[u32], tag: u32) -> usize
+    ensures { λ r. ⌜ r ≡ length (nodesWith tag (rows (now (table .entry)))) ⌝ }
+{
+    let mut found = 0;
+    let mut index = 0;
+    while index < row_count(table) {
+        let row = row_at(table, index);
+        if row.tag == tag {
+            found += 1;
+        }
+        index += 1;
+    }
+    found
+}
+
+// The nodes of the rows with the tag are written one after the other.
+fn put_tag(table: &[u32], tag: u32, out: &mut [u32])
+    requires { ⌜ length (nodesWith tag (rows (now table))) ≤ count (now out) ⌝ }
+    ensures { λ r. ⌜ now (out .exit) ≡ written (pickedWords tag (now (table .entry))) (now (out .entry)) ⌝ }
+{
+    let mut found = 0;
+    let mut index = 0;
+    while index < row_count(table) {
+        let row = row_at(table, index);
+        if row.tag == tag {
+            put_node(out, found, row.node);
+            found += 1;
+        }
+        index += 1;
+    }
+}
+
+// The caller gets the first four words of each row with the tag in the output, in row order, and their number; or the refusal, and an
+// output as it was. The rows may be any.
+pub fn pick(table: &[u32], tag: u32, out: &mut [u32]) -> Outcome
+    ensures { λ r. ⌜ (r ≡ pickOutcome (now (table .entry)) tag (now (out .entry)))
+        × (now (out .exit) ≡ pickOutput (now (table .entry)) tag (now (out .entry))) ⌝ }
+{
+    let fault = row_fault(table);
+    if fault != TAKEN {
+        return refused(fault);
+    }
+    let found = count_tag(table, tag);
+    if node_count(out) < found {
+        return refused(ROOM);
+    }
+    put_tag(table, tag, out);
+    Outcome {
+        answer: TAKEN,
+        count: found,
+    }
+}

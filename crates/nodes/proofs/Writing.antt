@@ -1,0 +1,67 @@
+-- Words stored right behind those that were written, or right before them, lengthen what is written; so an output is filled word by word, from
+-- either end. A store one place off, or one that reached beyond the result, would fall here.
+use mathlib.Core.Path.{_≡_, refl, sym, ap, _∙_}
+use mathlib.Core.List.{List, _++_, append-assoc}
+use Prim.Native.Nat.{ℕ, _+_, _≤_, _<_}
+use native.Mathlib.Omega.{arith}
+use lib.ListN.{length, take, drop, length-append, length-drop}
+use lib.Seq.{sets, sets-eq, take-append-seam, take-append-le, take-take, length-take-le, drop-append-add, drop-append-seam, drop-drop}
+use borrow.Author.Tests.{lt-ltb, le-ltb, eq-eqb, ne-eqb}
+use Rattle.nodes.specs.Answer.{TAKEN, ROOM}
+use Rattle.nodes.specs.Written.{written, answerOf, ifTaken}
+
+-- words stored behind others
+pub sets-behind : (front rest vs : List ℕ) → length front + length vs ≤ length (front ++ rest)
+    → sets (front ++ rest) (length front) vs ≡ front ++ vs ++ drop (length vs) rest
+sets-behind front rest vs h = rw (sets-eq vs (front ++ rest) (length front) h, take-append-seam front rest, drop-append-add front rest (length vs))
+
+-- words written behind others that were written
+pub written-behind : (us vs rest : List ℕ) → us ++ written vs (drop (length us) rest) ≡ written (us ++ vs) rest
+unfolding written
+written-behind us vs rest = rw (drop-drop (length vs) (length us) rest, length-append us vs) (sym (append-assoc us vs _))
+
+-- words stored behind those that were written
+pub written-more : (us vs out : List ℕ) → length us + length vs ≤ length out → sets (written us out) (length us) vs ≡ written (us ++ vs) out
+unfolding written
+written-more us vs out h =
+    sets-behind us (drop (length us) out) vs (omega (arith, length-append us (drop (length us) out), length-drop (length us) out))
+    ∙ ap (λ rest. us ++ vs ++ rest) (drop-drop (length vs) (length us) out)
+    ∙ ap (λ k. us ++ vs ++ drop k out) (sym (length-append us vs))
+
+-- words stored as the last ones of a front
+sets-last : (front rest vs : List ℕ) (at : ℕ) → length front ≡ at + length vs → sets (front ++ rest) at vs ≡ take at front ++ vs ++ rest
+sets-last front rest vs at e =
+    sets-eq vs (front ++ rest) at (omega (arith, length-append front rest))
+    ∙ rw (take-append-le at front rest (omega arith), ← e, drop-append-seam front rest) refl
+
+-- words stored right before those that were written
+pub sets-before : (out : List ℕ) (at : ℕ) (vs later : List ℕ) → at + length vs ≤ length out
+    → sets (take (at + length vs) out ++ written later (drop (at + length vs) out)) at vs ≡ take at out ++ written (vs ++ later) (drop at out)
+sets-before out at vs later h =
+    sets-last (take (at + length vs) out) (written later (drop (at + length vs) out)) vs at (length-take-le (at + length vs) out h)
+    ∙ ap (λ front. front ++ vs ++ written later (drop (at + length vs) out)) (take-take at (at + length vs) out (omega arith))
+    ∙ ap (λ rest. take at out ++ vs ++ written later rest) (sym (drop-drop (length vs) at out))
+    ∙ append-assoc (take at out) vs (written later (drop (length vs) (drop at out)))
+    ∙ ap (λ words. take at out ++ words) (written-behind vs later (drop at out))
+
+-- what a call answers, by its fault and its room
+module _ (fault : ℕ) (result out : List ℕ) where
+  pub answer-fault : (fault ≡ TAKEN → ⊥) → answerOf fault result out ≡ fault
+  unfolding answerOf
+  answer-fault h = rw (ne-eqb fault TAKEN h)
+
+  pub answer-room : fault ≡ TAKEN → length out < length result → answerOf fault result out ≡ ROOM
+  unfolding answerOf
+  answer-room h l = rw (eq-eqb fault TAKEN h, lt-ltb (length out) (length result) l)
+
+  pub answer-taken : fault ≡ TAKEN → length result ≤ length out → answerOf fault result out ≡ TAKEN
+  unfolding answerOf
+  answer-taken h l = rw (eq-eqb fault TAKEN h, le-ltb (length out) (length result) l)
+
+  pub if-taken : {A : Type 0} (x y : A) → answerOf fault result out ≡ TAKEN → ifTaken fault result out x y ≡ x
+  unfolding ifTaken
+  if-taken x y h = rw (eq-eqb (answerOf fault result out) TAKEN h)
+
+  pub if-refused : {A : Type 0} (x y : A) → (answerOf fault result out ≡ TAKEN → ⊥) → ifTaken fault result out x y ≡ y
+  unfolding ifTaken
+  if-refused x y h = rw (ne-eqb (answerOf fault result out) TAKEN h)
