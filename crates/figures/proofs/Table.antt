@@ -25,7 +25,7 @@ use Rattle.marks.specs.Outcome.{outcomeOf, numberOutcome, numberOutput, tableMa
 use Rattle.marks.specs.Outcome.{nodesWith, pickedWords, pickOutcome, pickOutput}
 use Rattle.marks.specs.Table.{closeAt, endOf, rowsFrom, tableOf, rowWords, tableWords, rows, rowIn, rowFault}
 use Rattle.forest.specs.Linked.{linksIn, linkedOf, linksOutput}
-use Rattle.forest.specs.Links.{upTo, firstOf, nodeIn, places, innermostb, parentOf, childOf, siblingb, nextOf, linkOf, linksOf, linkWords}
+use Rattle.forest.specs.Links.{upTo, firstOf, nodeIn, indices, innermostb, parentOf, childOf, siblingb, nextOf, linkOf, linksOf, linkWords}
 use Rattle.nodes.proofs.Tests.{never, and-read}
 use Rattle.figures.specs.Figures.{Row, figures, equalb, heldb}
 
@@ -48,7 +48,7 @@ unfolding figures equalb heldb checkWords wordFault raggedb longb nodes checkNod
     ticketAfter pageOf outputAfter flatMap answerOf ifTaken outputOf tagged marksOf documentOf sameRowb sameRowsb numberedb checkTable
     openAfter strayb deepb markFault unclosedb faultFrom checkMarks outcomeOf numberOutcome numberOutput tableMarks unnumberOutcome
     unnumberOutput nodesWith pickedWords pickOutcome pickOutput closeAt endOf rowsFrom tableOf rowWords tableWords rows rowIn rowFault
-    linksIn linkedOf linksOutput upTo firstOf nodeIn places innermostb parentOf childOf siblingb nextOf linkOf linksOf linkWords
+    linksIn linkedOf linksOutput upTo firstOf nodeIn indices innermostb parentOf childOf siblingb nextOf linkOf linksOf linkWords
 computed = refl
 
 -- each row's numbers are those that document 01 states

@@ -19,7 +19,7 @@ use Rattle.nodes.proofs.Choices.{all-of}
 use Rattle.nodes.proofs.Tests.{either, never, not-so, same-test}
 use Rattle.lists.specs.Check.{checkWords}
 use Rattle.forest.specs.Follow.{followed}
-use Rattle.forest.specs.Links.{NONE, nodeIn, places, parentOf, childOf, nextOf, siblingb}
+use Rattle.forest.specs.Links.{NONE, nodeIn, indices, parentOf, childOf, nextOf, siblingb}
 use Rattle.forest.proofs.Choosing.{first-of, none-found}
 use Rattle.forest.proofs.Containing.{AcceptedList, accepted-list, contains-before, contains-between}
 use Rattle.forest.proofs.Following.{first-alike, keep-alike, follow-from}
@@ -66,14 +66,14 @@ module _ (list : List ℕ) (taken : checkWords list .answer ≡ TAKEN) where
     parent-earlier h = parent-before ns ok i l h
 
     -- from the first child on, following next leads to all children in their order, and to no other node
-    pub children-followed : followed ns (length ns) (childOf ns i) ≡ keep (λ j. eqb (parentOf ns j) i) (places ns)
+    pub children-followed : followed ns (length ns) (childOf ns i) ≡ keep (λ j. eqb (parentOf ns j) i) (indices ns)
     unfolding childOf
     children-followed =
         let test : ℕ → Bool = λ j. eqb (parentOf ns j) i in
-        let same = all-of (λ m. from-zero m (test m)) (places ns) in
-        ap (followed ns (length ns)) (first-alike test (λ m. leb 0 m && test m) (places ns) same)
+        let same = all-of (λ m. from-zero m (test m)) (indices ns) in
+        ap (followed ns (length ns)) (first-alike test (λ m. leb 0 m && test m) (indices ns) same)
         ∙ follow-from ns short test siblings (length ns) 0 (omega arith)
-        ∙ sym (keep-alike test (λ m. leb 0 m && test m) (places ns) same)
+        ∙ sym (keep-alike test (λ m. leb 0 m && test m) (indices ns) same)
       where
         siblings : (j m : ℕ) → j < length ns → m < length ns → eqb (parentOf ns j) i ≡ true → siblingb ns j m ≡ eqb (parentOf ns m) i
         siblings j m a b h =
@@ -85,7 +85,7 @@ module _ (list : List ℕ) (taken : checkWords list .answer ≡ TAKEN) where
   -- the first child is the first node whose parent the node is
   pub child-first : (i : ℕ) → (childOf ns i ≡ NONE → ⊥)
       → (childOf ns i < length ns) × (parentOf ns (childOf ns i) ≡ i) × ((j : ℕ) → j < childOf ns i → parentOf ns j ≡ i → ⊥)
-  unfolding childOf places
+  unfolding childOf indices
   child-first i h =
       let f = first-of (λ j. eqb (parentOf ns j) i) (length ns) short in
       let c = f .found h in
@@ -93,11 +93,11 @@ module _ (list : List ℕ) (taken : checkWords list .answer ≡ TAKEN) where
 
   -- a node without a first child is nobody's parent
   pub childless : (i : ℕ) → childOf ns i ≡ NONE → (j : ℕ) → j < length ns → parentOf ns j ≡ i → ⊥
-  unfolding childOf places
+  unfolding childOf indices
   childless i h j k = eqb-false (parentOf ns j) i (none-found (λ m. eqb (parentOf ns m) i) (length ns) short h j k)
 
   -- from the next one on, following next leads to all later nodes with the same parent in the same document, in their order, and to no other
-  pub siblings-followed : (i : ℕ) → followed ns (length ns) (nextOf ns i) ≡ keep (λ j. ltb i j && siblingb ns i j) (places ns)
+  pub siblings-followed : (i : ℕ) → followed ns (length ns) (nextOf ns i) ≡ keep (λ j. ltb i j && siblingb ns i j) (indices ns)
   unfolding nextOf
   siblings-followed i = follow-from ns short (siblingb ns i) alike (length ns) (suc i) (omega arith)
     where

@@ -15,7 +15,7 @@ use Rattle.nodes.specs.Choose.{All, keep}
 use Rattle.nodes.proofs.Choices.{keep-append, keep-none}
 use Rattle.nodes.proofs.Tests.{either, and-read}
 use Rattle.forest.specs.Follow.{followed}
-use Rattle.forest.specs.Links.{NONE, upTo, firstOf, places, nextOf, siblingb}
+use Rattle.forest.specs.Links.{NONE, upTo, firstOf, indices, nextOf, siblingb}
 use Rattle.forest.proofs.Choosing.{First, none-or-not, last-or-below, all-up, first-of, none-found}
 
 -- tests that agree on the numbers find and keep the same
@@ -67,8 +67,8 @@ module _ (ns : List Node) (short : length ns ≤ NONE) where
   pub follow-from : (test : ℕ → Bool)
       → ((j m : ℕ) → j < length ns → m < length ns → test j ≡ true → siblingb ns j m ≡ test m)
       → (steps a : ℕ) → length ns ≤ a + steps
-      → followed ns steps (firstOf (λ m. leb a m && test m) (places ns)) ≡ keep (λ m. leb a m && test m) (places ns)
-  unfolding places nextOf followed
+      → followed ns steps (firstOf (λ m. leb a m && test m) (indices ns)) ≡ keep (λ m. leb a m && test m) (indices ns)
+  unfolding indices nextOf followed
   follow-from test alike zero a l = sym (keep-none _ (upTo (length ns)) (all-up _ (length ns) (λ m k. rw (lt-leb a m (omega arith)))))
   follow-from test alike (suc steps) a l =
       let all = upTo (length ns) in

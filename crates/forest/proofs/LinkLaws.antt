@@ -18,7 +18,7 @@ use Rattle.forest.specs.declared.climb.Kin.{Kin}
 use Rattle.forest.specs.declared.link.Link.{Link}
 use Rattle.forest.specs.Climb.{Kindred, Linking, link, childTo, nextTo, linkTo, linksTo, named}
 use Rattle.forest.specs.Linked.{linksIn}
-use Rattle.forest.specs.Links.{NONE, upTo, linkWords, places, parentOf, childOf, nextOf, linkOf, linksOf}
+use Rattle.forest.specs.Links.{NONE, upTo, linkWords, indices, parentOf, childOf, nextOf, linkOf, linksOf}
 use Rattle.forest.proofs.Choosing.{none-or-not, last-or-below}
 use Rattle.forest.proofs.Containing.{AcceptedList}
 use Rattle.forest.proofs.Joining.{alone, elder-gets, elder-only, parent-only, parent-gets}
@@ -154,9 +154,9 @@ module _ (ns : List Node) where
 
 -- all nodes' links
 pub links-all : (list : List ℕ) (k : ℕ) → k ≡ count list → linksTo (nodes list) k ≡ linksIn list
-unfolding linksTo linksIn linksOf linkTo linkOf childTo nextTo childOf nextOf places
+unfolding linksTo linksIn linksOf linkTo linkOf childTo nextTo childOf nextOf indices
 links-all list k q = rw (q ∙ sym (length-nodes list)) refl
 
 pub links-length : (list : List ℕ) → length (linksIn list) ≡ 3 * count list
-unfolding linksIn linksOf places
+unfolding linksIn linksOf indices
 links-length list = words-length (linkOf (nodes list)) (length (nodes list)) ∙ ap (λ k. 3 * k) (length-nodes list)

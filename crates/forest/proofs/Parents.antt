@@ -16,7 +16,7 @@ use Rattle.nodes.proofs.Choices.{any-none, none-any, all-at, at-all}
 use Rattle.nodes.proofs.NodeLaws.{within}
 use Rattle.nodes.proofs.Tests.{never, not-so, and-read, and-make, not-read}
 use Rattle.forest.specs.Climb.{Last}
-use Rattle.forest.specs.Links.{NONE, nodeIn, places, innermostb, parentOf, siblingb}
+use Rattle.forest.specs.Links.{NONE, nodeIn, indices, innermostb, parentOf, siblingb}
 use Rattle.forest.proofs.Choosing.{none-or-not, first-is, last-of}
 use Rattle.forest.proofs.Containing.{AcceptedList, contains-before, contains-between}
 
@@ -42,7 +42,7 @@ module _ (ns : List Node) where
 module _ (ns : List Node) (ok : AcceptedList ns) (i : ℕ) (l : i < length ns) where
   -- the last node that contains a node is its parent
   pub last-is-parent : (p : ℕ) → Last (holds ns i) i p → parentOf ns i ≡ p
-  unfolding parentOf places
+  unfolding parentOf indices
   last-is-parent p h =
       first-is (λ j. innermostb ns (nodeIn ns i) (nodeIn ns j)) (omega (arith, ok .short)) (record {
         found = λ k. let f = h .found k in (

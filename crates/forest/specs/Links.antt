@@ -29,8 +29,8 @@ module _ (ns : List Node) where
   nodeIn i = getD ns i (node 0 0 0 0)
 
   -- the indices of the list's nodes
-  unfoldable pub places : List ℕ
-  places = upTo (length ns)
+  unfoldable pub indices : List ℕ
+  indices = upTo (length ns)
 
   -- x is the innermost node that contains n: n is inside x, and no node that contains n is inside x
   unfoldable pub innermostb : Node → Node → Bool
@@ -38,11 +38,11 @@ module _ (ns : List Node) where
 
   -- the index of a node's parent, the innermost node that contains it
   unfoldable pub parentOf : ℕ → ℕ
-  parentOf i = firstOf (λ j. innermostb (nodeIn i) (nodeIn j)) places
+  parentOf i = firstOf (λ j. innermostb (nodeIn i) (nodeIn j)) indices
 
-  -- the index of its first child
+  -- the index of its first child, the first node whose parent it is
   unfoldable pub childOf : ℕ → ℕ
-  childOf i = firstOf (λ j. eqb (parentOf j) i) places
+  childOf i = firstOf (λ j. eqb (parentOf j) i) indices
 
   -- j is a node with i's parent in i's document; both parentless counts as the same
   unfoldable pub siblingb : ℕ → ℕ → Bool
@@ -50,14 +50,14 @@ module _ (ns : List Node) where
 
   -- the index of the next one
   unfoldable pub nextOf : ℕ → ℕ
-  nextOf i = firstOf (λ j. ltb i j && siblingb i j) places
+  nextOf i = firstOf (λ j. ltb i j && siblingb i j) indices
 
   unfoldable pub linkOf : ℕ → Link
   linkOf i = record { parent = parentOf i; child = childOf i; next = nextOf i }
 
   -- the links of all nodes
   unfoldable pub linksOf : List Link
-  linksOf = map linkOf places
+  linksOf = map linkOf indices
 
 -- how many words a node's links take
 abbrev pub LINK-WORDS : ℕ

@@ -8,7 +8,7 @@ use Rattle.nodes.specs.Answer.{TAKEN, LONG, MARK, STRAY, DEEP, UNCLOSED}
 use Rattle.nodes.specs.Node.{MOST-LEVELS}
 use Rattle.nodes.specs.Words.{MOST-NODES}
 
--- the mark that closes an element, and the mark that is a text; any other opens an element of that tag
+-- the mark that closes an element, and the mark that is a text; each number between them opens an element of that tag
 abbrev pub CLOSE : ℕ
 CLOSE = 0
 
@@ -33,7 +33,7 @@ strayb position depth mark = eqb depth 0 && ((closeb mark || textb mark) || ltb 
 unfoldable pub deepb : ℕ → ℕ → Bool
 deepb depth mark = not (closeb mark) && ltb MOST-LEVELS (depth + 1)
 
--- what is wrong with the mark at a position, where so many elements are open
+-- what is wrong with the mark at a position, where so many elements are open: MARK, a mark above 65,536, then STRAY, then DEEP
 unfoldable pub markFault : ℕ → ℕ → ℕ → ℕ
 markFault position depth mark =
     cond (ltb TEXT mark) MARK

@@ -15,7 +15,8 @@ use Rattle.marks.specs.Mark.{CLOSE, TEXT, closeb, textb, openAfter}
 abbrev pub row : Node → ℕ → Row
 row n tag = record { node = n; tag = tag }
 
--- the position of an element's close among the marks from a position on, where so many elements inside it are open
+-- the position of an element's close among the marks from a position on, where so many elements inside it are open; where no mark closes it,
+-- the position behind the last
 unfoldable pub closeAt : ℕ → ℕ → List ℕ → ℕ
 closeAt inner position [] = position
 closeAt inner position (mark ∷ marks) =
