@@ -1,4 +1,4 @@
--- Two nodes that contain a third contain one another, the later inside the earlier; so the innermost is the last one that contains it.
+-- Of two nodes that contain a third the later is inside the earlier, so the innermost is the last one that contains it.
 -- A parent that is not the innermost, or one given to a node that nothing contains, would fall here.
 use mathlib.Core.Path.{_≡_, sym, ap, subst, _∙_}
 use mathlib.Core.Logic.{inl, inr}

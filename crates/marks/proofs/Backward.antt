@@ -1,5 +1,5 @@
 -- Going back over taken marks, each close is kept until its opening comes, and each row is stored right before those already written.
--- A row stored over another, or one that came with another's end or level, would fall at `backs`.
+-- A row stored over another, or one that came with another's end or level, would fall at `back-on`.
 use mathlib.Core.Path.{_≡_, refl, sym, ap, _∙_}
 use mathlib.Core.Logic.{inl, inr}
 use mathlib.Core.List.{List, [], _∷_, _++_, flatMap}
