@@ -1,6 +1,6 @@
 -- A row's end is the position of a close that comes after it, and the closes of elements inside one another come in turn; so of two rows the
 -- later starts behind the earlier one's end, or ends before it and stands deeper. A close taken for another's, or a level one off, would fall here.
-use mathlib.Core.Path.{_≡_, refl, subst}
+use mathlib.Core.Path.{_≡_, refl}
 use mathlib.Core.Logic.{_⊎_, inl, inr, ⊎-elim}
 use mathlib.Core.List.{List, [], _∷_}
 use Prim.Native.Nat.{ℕ, zero, suc, _+_, _-_, _≤_, _<_}
