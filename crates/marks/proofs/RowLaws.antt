@@ -12,6 +12,7 @@ use Rattle.nodes.specs.Words.{node, wordsOf}
 use Rattle.nodes.specs.Written.{wordsIn}
 use Rattle.marks.specs.declared.row.Row.{Row}
 use Rattle.marks.specs.Table.{ROW-WORDS, row, rowWords, rows, rowIn}
+use Rattle.nodes.proofs.Writing.{length-items}
 
 pub length-rows : (ws : List ℕ) → length (rows ws) ≡ length ws / ROW-WORDS
 unfolding rows
@@ -70,6 +71,5 @@ words-of-rows (d ∷ s ∷ e ∷ l ∷ []) h = absurd (omega arith)
 words-of-rows (d ∷ s ∷ e ∷ l ∷ t ∷ ws) h = ap (λ vs. d ∷ s ∷ e ∷ l ∷ t ∷ vs) (words-of-rows ws (omega arith))
 
 pub length-words : (rs : List Row) → length (wordsIn rowWords rs) ≡ ROW-WORDS * length rs
-unfolding wordsIn flatMap rowWords wordsOf
-length-words [] = refl
-length-words (r ∷ rs) = let h = length-words rs in omega arith
+unfolding rowWords wordsOf
+length-words rs = length-items rowWords ROW-WORDS (λ r. refl) rs

@@ -12,6 +12,7 @@ use borrow.Author.Tests.{lt-ltb}
 use Rattle.nodes.specs.declared.node.Node.{Node}
 use Rattle.nodes.specs.Words.{node, nodes, count, nodeAt, wordsOf, putNode}
 use Rattle.nodes.specs.Written.{wordsIn}
+use Rattle.nodes.proofs.Writing.{length-items}
 
 pub length-nodes : (ws : List ℕ) → length (nodes ws) ≡ count ws
 unfolding nodes
@@ -123,6 +124,5 @@ nodes-of-words [] = refl
 nodes-of-words (n ∷ ns) = ap (λ ms. n ∷ ms) (nodes-of-words ns)
 
 pub length-words : (ns : List Node) → length (wordsIn wordsOf ns) ≡ 4 * length ns
-unfolding wordsIn flatMap wordsOf
-length-words [] = refl
-length-words (n ∷ ns) = let h = length-words ns in omega arith
+unfolding wordsOf
+length-words ns = length-items wordsOf 4 (λ n. refl) ns

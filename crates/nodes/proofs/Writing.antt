@@ -1,14 +1,29 @@
 -- Words stored right behind those that were written, or right before them, lengthen what is written; so an output is filled word by word, from
 -- either end. A store one place off, or one that reached beyond the result, would fall here.
 use mathlib.Core.Path.{_≡_, refl, sym, ap, _∙_}
-use mathlib.Core.List.{List, _++_, append-assoc}
-use Prim.Native.Nat.{ℕ, _+_, _≤_, _<_}
+use mathlib.Core.List.{List, _++_, append-assoc, [], _∷_, flatMap}
+use Prim.Native.Nat.{ℕ, _+_, _≤_, _<_, suc, _*_}
+use native.Mathlib.Nat.{mul-zero, mul-add, mul-one}
+use native.Mathlib.Numerals.{add-one}
 use native.Mathlib.Omega.{arith}
 use lib.ListN.{length, take, drop, length-append, length-drop}
 use lib.Seq.{sets, sets-eq, take-append-seam, take-append-le, take-take, length-take-le, drop-append-add, drop-append-seam, drop-drop}
 use borrow.Author.Tests.{lt-ltb, le-ltb, eq-eqb, ne-eqb}
 use Rattle.nodes.specs.Answer.{TAKEN, ROOM}
-use Rattle.nodes.specs.Written.{written, answerOf, ifTaken}
+use Rattle.nodes.specs.Written.{written, answerOf, ifTaken, wordsIn}
+
+-- items of one width have so many times that width of words
+module _ {A : Type 0} (words : A → List ℕ) (width : ℕ) (wide : (x : A) → length (words x) ≡ width) where
+  pub length-items : (xs : List A) → length (wordsIn words xs) ≡ width * length xs
+  unfolding wordsIn flatMap
+  length-items [] = sym (mul-zero width)
+  length-items (x ∷ xs) =
+      let e = length-append (words x) (wordsIn words xs) in
+      let w = wide x in
+      let h = length-items xs in
+      let one : width * suc (length xs) ≡ width * length xs + width =
+      ap (λ k. width * k) (sym (add-one (length xs))) ∙ mul-add width (length xs) 1 ∙ ap (λ k. width * length xs + k) (mul-one width) in
+      omega arith
 
 -- words stored behind others
 pub sets-behind : (front rest vs : List ℕ) → length front + length vs ≤ length (front ++ rest)

@@ -3,7 +3,7 @@
 use mathlib.Core.Path.{_≡_, refl, sym, ap, _∙_}
 use mathlib.Core.Logic.{inl, inr}
 use mathlib.Core.Bool.{true, false}
-use mathlib.Core.List.{List, [], _∷_, flatMap}
+use mathlib.Core.List.{List, [], flatMap}
 use Prim.Native.Nat.{_*_, _≤_}
 use native.Mathlib.Omega.{arith}
 use lib.Dec.{eqb}
@@ -30,6 +30,7 @@ use Rattle.tickets.specs.Row.{PAIR-WORDS, pairWords, room}
 use Rattle.tickets.specs.Ticket.{freshTicket, ticket, spotOf}
 use Rattle.pairs.specs.Calls.{Call, AcceptedCall, fullListing, answer, output, shown}
 use Rattle.pairs.specs.Page.{listingOf, handedOut, saysDone, ticketAfter, pageOf, outputAfter}
+use Rattle.nodes.proofs.Writing.{length-items}
 use Rattle.pairs.proofs.Accepted.{accepted}
 use Rattle.pairs.proofs.Shown.{shown-is}
 
@@ -54,9 +55,8 @@ module _ (c : Call) where
       (ascend (nodes (c .ancestors)) (t .fine-as), ascend (nodes (c .descendants)) (t .fine-ds))
 
 words-length : (ps : List Pair) → length (wordsIn pairWords ps) ≡ PAIR-WORDS * length ps
-unfolding wordsIn flatMap pairWords wordsOf
-words-length [] = refl
-words-length (p ∷ ps) = let h = words-length ps in omega arith
+unfolding pairWords wordsOf
+words-length ps = length-items pairWords PAIR-WORDS (λ p. refl) ps
 
 module _ (t : Ticket) (c : Call) where
   -- what the call hands out
