@@ -13,6 +13,7 @@ use Rattle.nodes.specs.Words.{nodes}
 use Rattle.nodes.specs.Written.{written}
 use Rattle.lists.specs.Refusal.{Faulty, AtOdds}
 use Rattle.lists.specs.Two.{checkTwo}
+use Rattle.lists.specs.Verdict.{ANCESTORS, verdict}
 use Rattle.lists.proofs.Refused.{refused-iff}
 use Rattle.paging.specs.Key.{aboveb}
 use Rattle.tickets.specs.declared.ticket.Order.{Order}
@@ -22,10 +23,21 @@ use Rattle.tickets.specs.Listing.{Pair, relatedb, sortKey}
 use Rattle.tickets.specs.Row.{PAIR-WORDS, room}
 use Rattle.tickets.specs.Ticket.{freshTicket}
 use Rattle.tickets.proofs.Listed.{listed-iff, listing-ascends, listed-once}
-use Rattle.pairs.specs.Calls.{Call, AcceptedCall, fullListing, StandsIn, SameStarts, answer, output, shown, ticketThrough, shownThrough}
+use Rattle.pairs.specs.Calls.{Call, AcceptedCall, fullListing, SameLists, StandsIn, SameStarts, answer, output, shown, ticketThrough, shownThrough}
 use Rattle.pairs.specs.Page.{pageOf}
 use Rattle.pairs.proofs.Answered.{lists-ascend, refusal, beyond-kept, output-length, whole-listing}
 use Rattle.pairs.proofs.Following.{none-lost, none-twice, own-lists, fills-room}
+use Rattle.pairs.proofs.Unaltered.{whole-through}
+use Rattle.contents.specs.Contents.{listsIn, entryAt}
+use Rattle.books.specs.Book.{bodyOf, checkBook}
+use Rattle.books.specs.Find.{foundAt, foundTag}
+use Rattle.books.proofs.FindLaws.{tag-found}
+use Rattle.readers.specs.Reader.{keptBody}
+use Rattle.readers.proofs.Kept.{body-at}
+use Rattle.writing.specs.Back.{entriesFrom, nodesFrom, bodiesIn}
+use Rattle.writing.specs.Wanted.{wanted, bodiesFor}
+use Rattle.writing.specs.Written.{checkWanted, bytesFor, writtenOf, writtenOutput}
+use Rattle.writing.proofs.Returned.{written-taken, entries-back, nodes-back, bodies-back, words-return, book-returns}
 use Rattle.marks.specs.declared.row.Row.{Row}
 use Rattle.marks.specs.Back.{documentOf, Numbering, checkTable}
 use Rattle.marks.specs.Mark.{checkMarks}
@@ -101,6 +113,12 @@ module _ (relation : Relation) (order : Order) (c : Call) where
       → (shown (freshTicket relation order) c ≡ fullListing relation order c) × (answer (freshTicket relation order) c .done ≡ true)
   listing-is-handed-out a l = whole-listing relation order c a l
 
+  -- and page by page, whatever the rooms: calls on the same lists hand out the full listing, in its order, once a call is done
+  pub pages-are-the-listing : AcceptedCall c → (cs : List Call) → All (λ k. SameLists k c) cs
+      → answer (ticketThrough (freshTicket relation order) cs) c .done ≡ true
+      → shownThrough (freshTicket relation order) (cs ++ c ∷ []) ≡ fullListing relation order c
+  pages-are-the-listing a cs s d = whole-through relation order c a cs s d
+
 -- Demand 2, marks. Numbering and writing back marks return each other: `number` and `unnumber` promise these outcomes and outputs.
 module _ (document : ℕ) (marks : List ℕ) (taken : checkMarks marks ≡ TAKEN) where
   -- accepted marks are numbered into the words of their table,
@@ -145,6 +163,39 @@ module _ (table : List ℕ) where
   -- and TABLE is answered exactly when the words make whole rows, not too many, and no accepted marks have this table
   pub refused-as-no-table : (checkTable table ≡ TABLE) ↔ ((rowFault table ≡ TAKEN) × (Numbering (rows table) → ⊥))
   refused-as-no-table = refused-exact table
+
+-- Demand 2, books. Writing and reading a book return each other: `write_book` promises this answer and output, `check_book` this verdict.
+module _ (entries list : List ℕ) (tags : All (λ n. n < 4294967296) entries) (words : All (λ n. n < 4294967296) list)
+    (accepted : checkWanted entries list .answer ≡ TAKEN) where
+  -- accepted lists are written into the bytes of their book,
+  pub lists-are-written : (out : List ℕ) → length (bytesFor entries list) ≤ length out
+      → (writtenOf entries list out ≡ record { verdict = verdict TAKEN ANCESTORS 0; count = length (bytesFor entries list) })
+      × (writtenOutput entries list out ≡ written (bytesFor entries list) out)
+  lists-are-written out l = words-return entries list out tags words accepted l .0
+
+  -- and those bytes are a book,
+  pub written-bytes-are-a-book : checkBook (bytesFor entries list) ≡ verdict TAKEN ANCESTORS 0
+  written-bytes-are-a-book = written-taken entries list accepted tags words
+
+  -- which reads back as the same entries and the same nodes, list by list
+  pub written-lists-come-back : (entriesFrom (bytesFor entries list) ≡ entries)
+      × (nodesFrom (bytesFor entries list) ≡ list)
+      × (bodiesIn (bytesFor entries list) ≡ bodiesFor (wanted entries) (nodes list))
+  written-lists-come-back =
+      (entries-back entries list accepted tags words, nodes-back entries list accepted tags words, bodies-back entries list accepted tags words)
+
+module _ (book : List ℕ) (accepted : checkBook book .answer ≡ TAKEN) where
+  -- what reads as a book is written back to the same bytes
+  pub read-book-comes-back : All (λ b. b < 256) book → (out : List ℕ) → length book ≤ length out
+      → (writtenOf (entriesFrom book) (nodesFrom book) out ≡ record { verdict = verdict TAKEN ANCESTORS 0; count = length book })
+      × (writtenOutput (entriesFrom book) (nodesFrom book) out ≡ written book out)
+  read-book-comes-back bytes out l = book-returns book out bytes accepted l
+
+  -- and each of its lists is found by its tag where it stands
+  pub each-list-is-found : (position : ℕ) → position < listsIn book
+      → (foundTag book (entryAt book position .tag) ≡ foundAt book position)
+      × (keptBody book (entryAt book position .tag) ≡ bodyOf book (entryAt book position))
+  each-list-is-found position h = (tag-found book accepted position h, body-at book accepted position h)
 
 -- Demand 3. A listing followed from a fresh ticket, each call with the ticket that the last one returned and with lists edited at will in between.
 module _ (relation : Relation) (order : Order) where

@@ -16,8 +16,7 @@ use Rattle.paging.specs.Key.{aboveb}
 use Rattle.paging.specs.Page.{pastb, remains, handed, doneb, reached}
 use Rattle.nodes.specs.Written.{wordsIn, written, answerOf, ifTaken, outputOf}
 use Rattle.tickets.specs.Listing.{relatedb, keyOf, leaders, followers, pairOf, everyPair, listing}
-use Rattle.tickets.specs.Row.{pairWords}
-use Rattle.pairs.specs.Calls.{pairsIn}
+use Rattle.tickets.specs.Row.{pairWords, pairsIn}
 use Rattle.pairs.specs.Page.{handedOut, saysDone, ticketAfter, pageOf, outputAfter}
 use Rattle.marks.specs.Back.{tagged, marksOf, documentOf, sameRowb, sameRowsb, numberedb, checkTable}
 use Rattle.marks.specs.Mark.{openAfter, strayb, deepb, markFault, unclosedb, faultFrom, checkMarks}

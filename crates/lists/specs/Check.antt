@@ -7,6 +7,7 @@ use lib.ListN.{length}
 use Rattle.nodes.specs.declared.node.Node.{Node}
 use Rattle.nodes.specs.Answer.{TAKEN, RAGGED, LONG}
 use Rattle.nodes.specs.Words.{NODE-WORDS, MOST-NODES, nodes, count}
+use Rattle.numbers.specs.Little.{NUMBER-BYTES, numbers}
 use Rattle.lists.specs.declared.verdict.Verdict.{Verdict}
 use Rattle.lists.specs.Fault.{fault}
 use Rattle.lists.specs.Verdict.{ANCESTORS, verdict, taken}
@@ -35,3 +36,7 @@ wordFault words = cond (raggedb words) RAGGED (cond (longb words) LONG TAKEN)
 -- the answer for a list of words
 unfoldable pub checkWords : List ℕ → Verdict
 checkWords words = cond (eqb (wordFault words) TAKEN) (checkNodes (nodes words)) (verdict (wordFault words) ANCESTORS 0)
+
+-- the answer for a list that lies in bytes: that for its words; bytes that don't make whole words don't make whole nodes
+unfoldable pub checkBytes : List ℕ → Verdict
+checkBytes bytes = cond (eqb (length bytes % NUMBER-BYTES) 0) (checkWords (numbers bytes)) (verdict RAGGED ANCESTORS 0)

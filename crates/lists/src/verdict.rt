@@ -14,8 +14,8 @@ pub struct Verdict {
     pub index: usize,
 }
 
-// The verdict of an answer that no node draws.
-pub(crate) fn without_node(answer: u32) -> Verdict
+// The caller gets the verdict of an answer that no node draws: it names list 0 and index 0.
+pub fn without_node(answer: u32) -> Verdict
     ensures { λ r. ⌜ r ≡ verdict answer ANCESTORS 0 ⌝ }
 {
     Verdict {

@@ -2,7 +2,7 @@
 -- A row of another tag picked, or one passed over, would fall here.
 use mathlib.Core.Path.{_≡_, refl, sym, ap, _∙_}
 use mathlib.Core.Logic.{inl, inr}
-use mathlib.Core.List.{List, [], _∷_, _++_, append-nil, flatMap}
+use mathlib.Core.List.{List, [], _∷_, _++_, append-nil}
 use Prim.Native.Nat.{ℕ, _+_, _*_, _/_, _≤_, _<_}
 use native.Mathlib.Numerals.{add-one}
 use native.Mathlib.Omega.{arith}
@@ -15,7 +15,7 @@ use Rattle.nodes.specs.Choose.{keep}
 use Rattle.nodes.specs.Words.{NODE-WORDS, node, wordsOf, count, putNode}
 use Rattle.nodes.specs.Written.{wordsIn, written}
 use Rattle.nodes.proofs.Tests.{either}
-use Rattle.nodes.proofs.Writing.{written-more}
+use Rattle.nodes.proofs.Writing.{written-more, words-one-more}
 use Rattle.marks.specs.declared.row.Row.{Row}
 use Rattle.marks.specs.Outcome.{nodesWith, pickedWords}
 use Rattle.marks.specs.Table.{ROW-WORDS, row, rows, rowIn}
@@ -79,12 +79,6 @@ module _ (tag : ℕ) (table : List ℕ) (index : ℕ) where
     pub firsts-no : (r .tag ≡ tag → ⊥) → firstsWith tag table (index + 1) ≡ firstsWith tag table index
     firsts-no k = ap (nodesWith tag) one-more ∙ picked-no tag (take index (rows table)) r k
 
--- nodes as words
-words-one-more : (ns : List Node) (n : Node) → wordsIn wordsOf (ns ++ (n ∷ [])) ≡ wordsIn wordsOf ns ++ wordsOf n
-unfolding wordsIn flatMap wordsOf
-words-one-more [] n = refl
-words-one-more (m ∷ ns) n = ap (λ ws. m .document ∷ m .start ∷ m .end ∷ m .level ∷ ws) (words-one-more ns n)
-
 -- a node put behind those that were written
 pub put-behind : (ns : List Node) (n : Node) (out₀ out : List ℕ) (found : ℕ) → found ≡ length ns → found < count out
     → length out ≡ length out₀ → out ≡ written (wordsIn wordsOf ns) out₀ → putNode out found n ≡ written (wordsIn wordsOf (ns ++ (n ∷ []))) out₀
@@ -92,7 +86,7 @@ unfolding putNode wordsOf
 put-behind ns n out₀ out found e h l f =
     let at : 4 * found ≡ length (wordsIn wordsOf ns) = omega (arith, length-words ns) in
     rw (lt-ltb found (count out) h, at, f) (written-more (wordsIn wordsOf ns) (wordsOf n) out₀ (omega arith))
-    ∙ ap (λ ws. written ws out₀) (sym (words-one-more ns n))
+    ∙ ap (λ ws. written ws out₀) (sym (words-one-more wordsOf ns n))
 
 pub length-put : (ws : List ℕ) (i : ℕ) (n : Node) → length (putNode ws i n) ≡ length ws
 unfolding putNode

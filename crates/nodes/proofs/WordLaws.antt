@@ -2,7 +2,7 @@
 -- A node read one word off, or written over its neighbour, falls here.
 use mathlib.Core.Path.{_≡_, refl, ap, sym, _∙_}
 use mathlib.Core.List.{List, [], _∷_, flatMap}
-use Prim.Native.Nat.{ℕ, zero, suc, _+_, _*_, _-_, _≤_, _<_}
+use Prim.Native.Nat.{ℕ, zero, suc, _+_, _*_, _-_, _%_, _≤_, _<_}
 use native.Mathlib.Omega.{arith}
 use native.Mathlib.Nat.{not-suc-le-zero}
 use lib.ListN.{length, getD, set, take, drop, length-drop, drop-of-length-le}
@@ -122,6 +122,15 @@ pub nodes-of-words : (ns : List Node) → nodes (wordsIn wordsOf ns) ≡ ns
 unfolding nodes wordsIn flatMap wordsOf
 nodes-of-words [] = refl
 nodes-of-words (n ∷ ns) = ap (λ ms. n ∷ ms) (nodes-of-words ns)
+
+-- and whole words read as nodes are written as the same words
+pub words-of-nodes : (ws : List ℕ) → length ws % 4 ≡ 0 → wordsIn wordsOf (nodes ws) ≡ ws
+unfolding nodes wordsIn flatMap wordsOf
+words-of-nodes [] h = refl
+words-of-nodes (d ∷ []) h = absurd (omega arith)
+words-of-nodes (d ∷ s ∷ []) h = absurd (omega arith)
+words-of-nodes (d ∷ s ∷ e ∷ []) h = absurd (omega arith)
+words-of-nodes (d ∷ s ∷ e ∷ l ∷ ws) h = ap (λ vs. d ∷ s ∷ e ∷ l ∷ vs) (words-of-nodes ws (omega arith))
 
 pub length-words : (ns : List Node) → length (wordsIn wordsOf ns) ≡ 4 * length ns
 unfolding wordsOf

@@ -1,12 +1,12 @@
 -- Words stored right behind those that were written, or right before them, lengthen what is written; so an output is filled word by word, from
 -- either end. A store one place off, or one that reached beyond the result, would fall here.
 use mathlib.Core.Path.{_≡_, refl, sym, ap, _∙_}
-use mathlib.Core.List.{List, _++_, append-assoc, [], _∷_, flatMap}
+use mathlib.Core.List.{List, _++_, append-assoc, append-nil, [], _∷_, flatMap}
 use Prim.Native.Nat.{ℕ, _+_, _≤_, _<_, suc, _*_}
 use native.Mathlib.Nat.{mul-zero, mul-add, mul-one}
 use native.Mathlib.Numerals.{add-one}
 use native.Mathlib.Omega.{arith}
-use lib.ListN.{length, take, drop, length-append, length-drop}
+use lib.ListN.{length, take, drop, set, length-append, length-drop}
 use lib.Seq.{sets, sets-eq, take-append-seam, take-append-le, take-take, length-take-le, drop-append-add, drop-append-seam, drop-drop}
 use borrow.Author.Tests.{lt-ltb, le-ltb, eq-eqb, ne-eqb}
 use Rattle.nodes.specs.Answer.{TAKEN, ROOM}
@@ -24,6 +24,31 @@ module _ {A : Type 0} (words : A → List ℕ) (width : ℕ) (wide : (x : A) →
       let one : width * suc (length xs) ≡ width * length xs + width =
       ap (λ k. width * k) (sym (add-one (length xs))) ∙ mul-add width (length xs) 1 ∙ ap (λ k. width * length xs + k) (mul-one width) in
       omega arith
+
+-- the words of items, one behind the other
+module _ {A : Type 0} (words : A → List ℕ) where
+  pub words-append : (xs ys : List A) → wordsIn words (xs ++ ys) ≡ wordsIn words xs ++ wordsIn words ys
+  unfolding wordsIn flatMap
+  words-append [] ys = refl
+  words-append (x ∷ xs) ys = ap (λ zs. words x ++ zs) (words-append xs ys) ∙ sym (append-assoc (words x) (wordsIn words xs) (wordsIn words ys))
+
+  pub words-one-more : (xs : List A) (x : A) → wordsIn words (xs ++ x ∷ []) ≡ wordsIn words xs ++ words x
+  unfolding wordsIn flatMap
+  words-one-more xs x = words-append xs (x ∷ []) ∙ ap (λ zs. wordsIn words xs ++ zs) (append-nil (words x))
+
+-- words stored, and others behind them
+pub sets-more : (us vs ws : List ℕ) (at next : ℕ) → next ≡ at + length us → sets (sets ws at us) next vs ≡ sets ws at (us ++ vs)
+sets-more [] vs ws at next q =
+    let e : next ≡ at = omega arith in
+    ap (λ k. sets ws k vs) e
+sets-more (u ∷ us) vs ws at next q = sets-more us vs (set ws at u) (suc at) next (omega arith)
+
+-- words stored at the beginning
+pub sets-written : (us out : List ℕ) → length us ≤ length out → sets out 0 us ≡ written us out
+unfolding written
+sets-written us out h =
+    let e : 0 + length us ≡ length us = omega arith in
+    sets-eq us out 0 (omega arith) ∙ ap (λ k. us ++ drop k out) e
 
 -- words stored behind others
 pub sets-behind : (front rest vs : List ℕ) → length front + length vs ≤ length (front ++ rest)

@@ -34,18 +34,18 @@ module _ {A : Type 0} (key : A → List ℕ) where
   Stood x (accepted xs room) = In x xs
 
   -- each item lies past the one before it, and the first past a place
-  abbrev Run : Spot → List A → Type 0
+  abbrev pub Run : Spot → List A → Type 0
   Run place [] = Unit {0}
   Run place (x ∷ xs) = (pastb place (key x) ≡ true) × Run (after (key x)) xs
 
   -- what stands above a key past a place lies past it too
-  past-trans : (place : Spot) (j k : List ℕ) → pastb place j ≡ true → aboveb k j ≡ true → pastb place k ≡ true
+  pub past-trans : (place : Spot) (j k : List ℕ) → pastb place j ≡ true → aboveb k j ≡ true → pastb place k ≡ true
   unfolding pastb
   past-trans fresh j k p q = refl
   past-trans (after i) j k p q = above-trans k j i q p
 
   -- all of a run lies past its place
-  run-past : (place : Spot) (xs : List A) → Run place xs → All (λ x. pastb place (key x) ≡ true) xs
+  pub run-past : (place : Spot) (xs : List A) → Run place xs → All (λ x. pastb place (key x) ≡ true) xs
   unfolding pastb
   run-past place [] r = tt
   run-past place (x ∷ xs) r = (r .0, all-map (λ y q. past-trans place (key x) (key y) (r .0) q) xs (run-past (after (key x)) xs (r .1)))
@@ -65,13 +65,13 @@ module _ {A : Type 0} (key : A → List ℕ) where
   run-append place [] ys r s = s
   run-append place (x ∷ xs) ys r s = (r .0, run-append (after (key x)) xs ys (r .1) s)
 
-  run-take : (place : Spot) (n : ℕ) (xs : List A) → Run place xs → Run place (take n xs)
+  pub run-take : (place : Spot) (n : ℕ) (xs : List A) → Run place xs → Run place (take n xs)
   run-take place zero xs r = tt
   run-take place (suc n) [] r = tt
   run-take place (suc n) (x ∷ xs) r = (r .0, run-take (after (key x)) n xs (r .1))
 
   -- what remains of an ascending listing runs on from the place
-  run-remains : (place : Spot) (xs : List A) → Ascends xs → Run place (remains key place xs)
+  pub run-remains : (place : Spot) (xs : List A) → Ascends xs → Run place (remains key place xs)
   unfolding remains
   run-remains place xs a =
       let test : A → Bool = λ x. pastb place (key x) in

@@ -68,10 +68,10 @@ fills-room t c a d =
 
 module _ (relation : Relation) (order : Order) where
   -- a call as paging knows it
-  callOf : Call → PagingCall Pair
+  pub callOf : Call → PagingCall Pair
   callOf c = cond (refusedb (checkTwo (c .ancestors) (c .descendants))) refused (accepted (fullListing relation order c) (room (c .out)))
 
-  called : (c : Call) → AcceptedCall c → callOf c ≡ accepted (fullListing relation order c) (room (c .out))
+  pub called : (c : Call) → AcceptedCall c → callOf c ≡ accepted (fullListing relation order c) (room (c .out))
   unfolding callOf
   called c a = rw (not-refused c a)
 
@@ -105,7 +105,7 @@ module _ (relation : Relation) (order : Order) where
         ∙ ap (reached (λ p. after (sortKey order p)) (spotOf place)) handed-given
 
   -- what a sequence of calls shows is what paging's calls hand out
-  shown-through : (place : Place) (cs : List Call)
+  pub shown-through : (place : Place) (cs : List Call)
       → shownThrough (ticket relation order place) cs ≡ allGiven (sortKey order) (spotOf place) (map callOf cs)
   unfolding shownThrough pageOf ticketAfter allGiven
   shown-through place [] = refl
@@ -114,7 +114,7 @@ module _ (relation : Relation) (order : Order) where
       (λ i. (shown-is t c ∙ handed-given place c) i ++ shown-through (answer t c .ticket .place) cs i)
       ∙ ap (λ s. given (sortKey order) (spotOf place) (callOf c) ++ allGiven (sortKey order) s (map callOf cs)) (moves place c)
 
-  done-through : (place : Place) (cs : List Call) (c : Call) → AcceptedCall c → answer (ticketThrough (ticket relation order place) cs) c .done
+  pub done-through : (place : Place) (cs : List Call) (c : Call) → AcceptedCall c → answer (ticketThrough (ticket relation order place) cs) c .done
       ≡ doneb (sortKey order) (placeAfter (sortKey order) (spotOf place) (map callOf cs)) (room (c .out)) (fullListing relation order c)
   unfolding ticketThrough pageOf ticketAfter saysDone placeAfter
   done-through place [] c a = rw (not-refused c a)

@@ -15,8 +15,8 @@ use Rattle.tickets.specs.declared.ticket.Place.{Place}
 use Rattle.tickets.specs.declared.ticket.Place.the-variants.{After}
 use Rattle.tickets.specs.declared.ticket.Ticket.{Ticket}
 use Rattle.tickets.specs.Listing.{Pair, keyOf}
-use Rattle.tickets.specs.Row.{pairWords}
-use Rattle.pairs.specs.Calls.{Call, pairsIn, shown}
+use Rattle.tickets.specs.Row.{pairWords, pairsIn}
+use Rattle.pairs.specs.Calls.{Call, shown}
 use Rattle.pairs.specs.Page.{handedOut, pageOf, outputAfter}
 use Rattle.pairs.specs.Sweep.{keyIn, placeIn}
 

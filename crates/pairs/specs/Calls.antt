@@ -3,7 +3,6 @@ use Prim.Native.Nat.{ℕ}
 use mathlib.Core.Path.{_≡_}
 use mathlib.Core.List.{List, [], _∷_, _++_}
 use lib.ListN.{take}
-use Rattle.nodes.specs.declared.node.Node.{Node}
 use Rattle.nodes.specs.Answer.{TAKEN}
 use Rattle.nodes.specs.Choose.{In}
 use Rattle.nodes.specs.Words.{nodes}
@@ -12,7 +11,7 @@ use Rattle.tickets.specs.declared.ticket.Order.{Order}
 use Rattle.tickets.specs.declared.ticket.Relation.{Relation}
 use Rattle.tickets.specs.declared.ticket.Ticket.{Ticket}
 use Rattle.tickets.specs.Listing.{Pair, listing}
-use Rattle.tickets.specs.Ticket.{ticket}
+use Rattle.tickets.specs.Row.{pairsIn}
 use Rattle.pairs.specs.declared.page.Page.{Page}
 use Rattle.pairs.specs.Page.{pageOf, outputAfter}
 
@@ -30,6 +29,10 @@ AcceptedCall c = checkTwo (c .ancestors) (c .descendants) .answer ≡ TAKEN
 abbrev pub fullListing : Relation → Order → Call → List Pair
 fullListing relation order c = listing relation order (nodes (c .ancestors)) (nodes (c .descendants))
 
+-- two calls have the same lists
+abbrev pub SameLists : Call → Call → Type 0
+SameLists k c = (k .ancestors ≡ c .ancestors) × (k .descendants ≡ c .descendants)
+
 -- a pair stands unaltered in the two lists, each node in its own
 abbrev pub StandsIn : Pair → Call → Type 0
 StandsIn p c = In (p .ancestor) (nodes (c .ancestors)) × In (p .descendant) (nodes (c .descendants))
@@ -38,12 +41,6 @@ StandsIn p c = In (p .ancestor) (nodes (c .ancestors)) × In (p .descendant) (no
 abbrev pub SameStarts : Pair → Pair → Type 0
 SameStarts p q =
     (p .ancestor .document ≡ q .ancestor .document) × (p .ancestor .start ≡ q .ancestor .start) × (p .descendant .start ≡ q .descendant .start)
-
--- nodes read in twos, an ancestor and then a descendant
-unfoldable pub pairsIn : List Node → List Pair
-pairsIn [] = []
-pairsIn (x ∷ []) = []
-pairsIn (x ∷ y ∷ ns) = record { ancestor = x; descendant = y } ∷ pairsIn ns
 
 -- what a call answers, and its output on return
 abbrev pub answer : Ticket → Call → Page

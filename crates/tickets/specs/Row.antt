@@ -22,6 +22,12 @@ PAIR-WORDS = 8
 unfoldable pub pairWords : Pair → List ℕ
 pairWords p = wordsOf (p .ancestor) ++ wordsOf (p .descendant)
 
+-- nodes read in twos, an ancestor and then a descendant
+unfoldable pub pairsIn : List Node → List Pair
+pairsIn [] = []
+pairsIn (x ∷ []) = []
+pairsIn (x ∷ y ∷ ns) = record { ancestor = x; descendant = y } ∷ pairsIn ns
+
 -- the room of an output: its whole eights of words
 abbrev pub room : List ℕ → ℕ
 room out = length out / PAIR-WORDS

@@ -1,0 +1,101 @@
+-- A body that the contents name has sixteen bytes for each of its nodes and not too many, so its bytes are judged as its nodes are; the first
+-- body that isn't accepted decides on the book. A body checked out of turn, or one that reaches beyond the book, would fall here.
+use mathlib.Core.Path.{_≡_, refl}
+use mathlib.Core.Logic.{inl, inr}
+use mathlib.Core.Bool.{true, false}
+use mathlib.Core.List.{List, [], _∷_, map}
+use Prim.Native.Nat.{ℕ, suc, _+_, _*_, _≤_, _<_}
+use native.Mathlib.Numerals.{add-one}
+use native.Mathlib.Omega.{arith}
+use lib.Dec.{eqb}
+use lib.ListN.{length, drop, length-drop}
+use lib.Seq.{length-take-le}
+use borrow.Author.Tests.{eq-eqb, ne-eqb, eqb-false}
+use Rattle.nodes.specs.declared.node.Node.{Node}
+use Rattle.nodes.specs.Answer.{TAKEN}
+use Rattle.nodes.specs.Words.{MOST-NODES}
+use Rattle.nodes.proofs.Tests.{either, never}
+use Rattle.numbers.specs.Little.{NODE-BYTES}
+use Rattle.numbers.specs.Part.{partOf}
+use Rattle.contents.specs.declared.entry.Entry.{Entry}
+use Rattle.contents.specs.Contents.{listsIn, entryAt, contentsOf, contentsFault}
+use Rattle.contents.proofs.ContentLaws.{entry-within}
+use Rattle.lists.specs.declared.verdict.Verdict.{Verdict}
+use Rattle.lists.specs.Check.{checkNodes, checkBytes}
+use Rattle.lists.specs.Two.{refusedb, inList}
+use Rattle.lists.specs.Verdict.{taken}
+use Rattle.lists.proofs.InBytes.{whole-bytes}
+use Rattle.books.specs.Book.{bodyOf, nodesOf, checkBodies, checkParts, checkBook, openedOf}
+
+-- a verdict refuses just if its answer isn't TAKEN
+pub refuses : (v : Verdict) → (v .answer ≡ TAKEN → ⊥) → refusedb v ≡ true
+unfolding refusedb
+refuses v h = rw (ne-eqb (v .answer) TAKEN h)
+
+pub accepts : (v : Verdict) → v .answer ≡ TAKEN → refusedb v ≡ false
+unfolding refusedb
+accepts v h = rw (eq-eqb (v .answer) TAKEN h)
+
+-- what is left to check of the bodies is the whole, where the next body's verdict is known
+module _ (list : ℕ) (ns : List Node) (later : List (List Node)) (whole : Verdict) (l : checkBodies list (ns ∷ later) ≡ whole)
+    (v : Verdict) (q : v ≡ checkNodes ns) where
+  pub bodies-on : v .answer ≡ TAKEN → checkBodies (list + 1) later ≡ whole
+  unfolding checkBodies
+  bodies-on h = rw (add-one list) (rw (← q, accepts v h) at l)
+
+  pub bodies-stop : (v .answer ≡ TAKEN → ⊥) → inList list v ≡ whole
+  unfolding checkBodies
+  bodies-stop h = rw (← q, refuses v h) at l
+
+pub bodies-end : (list : ℕ) (whole : Verdict) → checkBodies list [] ≡ whole → taken ≡ whole
+unfolding checkBodies
+bodies-end list whole l = l
+
+-- a body within the book has all its bytes
+pub length-body : (book : List ℕ) (e : Entry) → e .offset + NODE-BYTES * e .count ≤ length book → length (bodyOf book e) ≡ NODE-BYTES * e .count
+unfolding bodyOf partOf
+length-body book e h = length-take-le (NODE-BYTES * e .count) (drop (e .offset) book) (omega (arith, length-drop (e .offset) book))
+
+pub body-verdict : (book : List ℕ) (e : Entry) → e .count ≤ MOST-NODES → e .offset + NODE-BYTES * e .count ≤ length book
+    → checkBytes (bodyOf book e) ≡ checkNodes (nodesOf book e)
+unfolding nodesOf
+body-verdict book e m h =
+    let l = length-body book e h in
+    whole-bytes (bodyOf book e) (omega arith) (omega arith)
+
+-- so each body of a book whose contents keep the rules is judged as its nodes are
+pub whole-body : (book : List ℕ) → contentsFault book ≡ TAKEN → (i : ℕ) → i < listsIn book
+    → checkBytes (bodyOf book (entryAt book i)) ≡ checkNodes (nodesOf book (entryAt book i))
+whole-body book good i h = let w = entry-within book good i h in body-verdict book (entryAt book i) (w .0) (w .1)
+
+-- a book that is taken has the one verdict that says so
+bodies-taken : (list : ℕ) (bodies : List (List Node)) → checkBodies list bodies .answer ≡ TAKEN → checkBodies list bodies ≡ taken
+unfolding checkBodies
+bodies-taken list [] t = refl
+bodies-taken list (ns ∷ later) t =
+    elim (either (refusedb (checkNodes ns))) [
+      | inl h ↦ absurd (never h (accepts (checkNodes ns) (rw h at t)))
+      | inr h ↦ rw h (bodies-taken (suc list) later (rw h at t))
+    ]
+
+pub parts-taken : (fault : ℕ) (bodies : List (List Node)) → checkParts fault bodies .answer ≡ TAKEN → checkParts fault bodies ≡ taken
+unfolding checkParts
+parts-taken fault bodies t =
+    elim (either (eqb fault TAKEN)) [
+      | inl h ↦ rw h (bodies-taken 0 bodies (rw h at t))
+      | inr h ↦ absurd (eqb-false fault TAKEN h (rw h at t))
+    ]
+
+-- what an opened book carries
+module _ (book : List ℕ) where
+  pub book-taken : checkBook book .answer ≡ TAKEN → checkBook book ≡ taken
+  unfolding checkBook
+  book-taken t = parts-taken (contentsFault book) (map (nodesOf book) (contentsOf book)) t
+
+  pub opened-verdict : openedOf book .verdict ≡ checkBook book
+  unfolding openedOf
+  opened-verdict = refl
+
+  pub opened-lists : checkBook book .answer ≡ TAKEN → openedOf book .lists ≡ listsIn book
+  unfolding openedOf
+  opened-lists h = rw (accepts (checkBook book) h)

@@ -1,0 +1,91 @@
+-- A book that is refused has no list anywhere, and one that is taken has those that its contents count; so a place answers by two tests alone.
+-- A list found in a refused book, or one behind the last, would fall here.
+use mathlib.Core.Path.{_≡_, refl, sym, ap, _∙_}
+use mathlib.Core.Bool.{true, false}
+use mathlib.Core.List.{List, [], _∷_, map}
+use Prim.Native.Nat.{ℕ, zero, suc, _*_, _≤_, _<_}
+use native.Mathlib.Omega.{arith}
+use lib.Dec.{ltb}
+use lib.ListN.{length, getD}
+use borrow.Author.Tests.{lt-ltb, le-ltb, ltb-true, eq-eqb, ne-eqb}
+use Rattle.nodes.specs.Answer.{TAKEN, ABSENT}
+use Rattle.nodes.specs.Choose.{firstAt}
+use Rattle.nodes.proofs.Tests.{and-read}
+use Rattle.numbers.specs.Little.{NODE-BYTES}
+use Rattle.contents.specs.declared.entry.Entry.{Entry}
+use Rattle.contents.specs.Contents.{entry, listsIn, contentsOf, entryAt, ascendb, contentsFault}
+use Rattle.contents.proofs.ContentLaws.{tags-ascend, count-contents, entry-of}
+use Rattle.lists.specs.declared.verdict.Verdict.{Verdict}
+use Rattle.lists.specs.Two.{refusedb}
+use Rattle.lists.specs.Verdict.{ANCESTORS, verdict, taken}
+use Rattle.books.specs.Book.{nodesOf, checkBook}
+use Rattle.books.specs.Find.{tagAt, found, verdictAt, foundAt, foundTag}
+use Rattle.books.proofs.Answers.{parts-faultless}
+use Rattle.books.proofs.BookLaws.{refuses, accepts, book-taken}
+
+module _ (book : List ℕ) (position : ℕ) where
+  nowhere : (v : Verdict) → verdictAt book position ≡ v → refusedb v ≡ true → foundAt book position ≡ found v 0 0
+  unfolding foundAt
+  nowhere v q h = rw (q, h)
+
+  there : (v : Verdict) → verdictAt book position ≡ v → refusedb v ≡ false
+      → foundAt book position ≡ found v (entryAt book position .offset) (NODE-BYTES * entryAt book position .count)
+  unfolding foundAt
+  there v q h = rw (q, h)
+
+  refused-at : (checkBook book .answer ≡ TAKEN → ⊥) → verdictAt book position ≡ checkBook book
+  unfolding verdictAt
+  refused-at h = rw (refuses (checkBook book) h)
+
+  absent-at : checkBook book .answer ≡ TAKEN → listsIn book ≤ position → verdictAt book position ≡ verdict ABSENT ANCESTORS 0
+  unfolding verdictAt
+  absent-at t h = rw (accepts (checkBook book) t, le-ltb position (listsIn book) h)
+
+  taken-at : checkBook book .answer ≡ TAKEN → position < listsIn book → verdictAt book position ≡ taken
+  unfolding verdictAt
+  taken-at t h = rw (accepts (checkBook book) t, lt-ltb position (listsIn book) h)
+
+  pub book-refused : (checkBook book .answer ≡ TAKEN → ⊥) → foundAt book position ≡ found (checkBook book) 0 0
+  book-refused h = nowhere (checkBook book) (refused-at h) (refuses (checkBook book) h)
+
+  pub list-absent : checkBook book .answer ≡ TAKEN → listsIn book ≤ position → foundAt book position ≡ found (verdict ABSENT ANCESTORS 0) 0 0
+  list-absent t h = nowhere (verdict ABSENT ANCESTORS 0) (absent-at t h) (refuses (verdict ABSENT ANCESTORS 0) (λ e. omega arith))
+
+  pub list-found : checkBook book .answer ≡ TAKEN → position < listsIn book
+      → foundAt book position ≡ found (checkBook book) (entryAt book position .offset) (NODE-BYTES * entryAt book position .count)
+  list-found t h = rw (book-taken book t) (there taken (taken-at t h) (accepts taken refl))
+
+-- tags that strictly ascend: a list's tag is below all later ones, so each list is the first of its own tag
+above-all : (e : Entry) (es : List Entry) → ascendb (e ∷ es) ≡ true → (i : ℕ) → i < length es → e .tag < getD es i (entry 0 0 0) .tag
+unfolding ascendb
+above-all e [] a i h = absurd (omega arith)
+above-all e (f ∷ es) a zero h = ltb-true (e .tag) (f .tag) (and-read (ltb (e .tag) (f .tag)) a .0)
+above-all e (f ∷ es) a (suc i) h =
+    let p = and-read (ltb (e .tag) (f .tag)) a in
+    let first = ltb-true (e .tag) (f .tag) (p .0) in
+    let later = above-all f es (p .1) i (omega arith) in
+    omega arith
+
+later-ascend : (e : Entry) (es : List Entry) → ascendb (e ∷ es) ≡ true → ascendb es ≡ true
+unfolding ascendb
+later-ascend e [] a = refl
+later-ascend e (f ∷ es) a = and-read (ltb (e .tag) (f .tag)) a .1
+
+first-of-tag : (es : List Entry) → ascendb es ≡ true → (i : ℕ) → i < length es → tagAt (getD es i (entry 0 0 0) .tag) es ≡ i
+unfolding tagAt firstAt
+first-of-tag [] a i h = absurd (omega arith)
+first-of-tag (e ∷ es) a zero h = rw (eq-eqb (e .tag) (e .tag) refl)
+first-of-tag (e ∷ es) a (suc i) h =
+    let tag = getD es i (entry 0 0 0) .tag in
+    let below = above-all e es a i (omega arith) in
+    rw (ne-eqb (e .tag) tag (λ q. omega arith)) (ap suc (first-of-tag es (later-ascend e es a) i (omega arith)))
+
+-- in a book that is taken each list is found by its tag where it is found by its place
+pub tag-found : (book : List ℕ) → checkBook book .answer ≡ TAKEN → (position : ℕ) → position < listsIn book
+    → foundTag book (entryAt book position .tag) ≡ foundAt book position
+unfolding foundTag checkBook
+tag-found book t position h =
+    let good : contentsFault book ≡ TAKEN = parts-faultless (contentsFault book) (map (nodesOf book) (contentsOf book)) t in
+    let l = count-contents book good in
+    ap (λ e. foundAt book (tagAt (e .tag) (contentsOf book))) (sym (entry-of book good position h))
+    ∙ ap (foundAt book) (first-of-tag (contentsOf book) (tags-ascend book good) position (omega arith))

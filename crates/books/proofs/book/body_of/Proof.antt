@@ -1,0 +1,34 @@
+-- The body is the part of the book from the entry's offset on, with sixteen bytes for each of its nodes.
+-- A part one byte off, or of as many bytes as there are nodes, falls at the return.
+use borrow.Author.Needs.{needs}
+use mathlib.Core.Path.{_≡_}
+use mathlib.Core.List.{List}
+use Prim.Native.Nat.{ℕ, _*_}
+use Rattle.numbers.specs.Little.{NODE-BYTES}
+use Rattle.numbers.specs.Part.{partOf}
+use Rattle.contents.specs.declared.entry.Entry.{Entry}
+use Rattle.books.specs.Book.{bodyOf}
+use Rattle.books.proofs.book.body_of.Statement.{statement}
+use Rattle.books.proofs.book.body_of.Tie as tie
+
+part : (book : List ℕ) (e : Entry) (r : List ℕ) → r ≡ partOf book (e .offset) (NODE-BYTES * e .count) → r ≡ bodyOf book e
+unfolding bodyOf
+part book e r h = h
+
+cast-part-of : tie.Need-cast-part-of
+cast-part-of c = search needs
+
+cast-part-of-2 : tie.Need-cast-part-of-2
+cast-part-of-2 c = search needs
+
+mul-part-of : tie.Need-mul-part-of
+mul-part-of c = search needs
+
+part-of-requires : tie.Need-part-of-requires
+part-of-requires c κs = search needs
+
+returns : tie.Need-returns
+returns c = part _ _ _ (c .part-of .ensures)
+
+pub body-of-spec : {M : Type 1} → statement M
+body-of-spec = tie.close (tie.spec cast-part-of cast-part-of-2 mul-part-of part-of-requires returns)

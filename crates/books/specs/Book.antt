@@ -1,0 +1,44 @@
+-- Document 01, "The field book": its bodies, and the answer for a book.
+use Prim.Native.Nat.{ℕ, suc, _*_}
+use mathlib.Core.Bool.{cond}
+use mathlib.Core.List.{List, [], _∷_, map}
+use lib.Dec.{eqb}
+use Rattle.nodes.specs.declared.node.Node.{Node}
+use Rattle.nodes.specs.Answer.{TAKEN}
+use Rattle.nodes.specs.Words.{nodes}
+use Rattle.numbers.specs.Little.{NODE-BYTES, numbers}
+use Rattle.numbers.specs.Part.{partOf}
+use Rattle.contents.specs.declared.entry.Entry.{Entry}
+use Rattle.contents.specs.Contents.{listsIn, contentsOf, contentsFault}
+use Rattle.lists.specs.declared.verdict.Verdict.{Verdict}
+use Rattle.lists.specs.Check.{checkNodes}
+use Rattle.lists.specs.Two.{refusedb, inList}
+use Rattle.lists.specs.Verdict.{ANCESTORS, verdict, taken}
+use Rattle.books.specs.declared.book.Opened.{Opened}
+
+-- the body that an entry names, as a part of the book, and its nodes
+unfoldable pub bodyOf : List ℕ → Entry → List ℕ
+bodyOf book e = partOf book (e .offset) (NODE-BYTES * e .count)
+
+unfoldable pub nodesOf : List ℕ → Entry → List Node
+nodesOf book e = nodes (numbers (bodyOf book e))
+
+-- the bodies in order, from a list's number on: the first that isn't accepted, with that number and the node's index
+unfoldable pub checkBodies : ℕ → List (List Node) → Verdict
+checkBodies list [] = taken
+checkBodies list (ns ∷ later) = cond (refusedb (checkNodes ns)) (inList list (checkNodes ns)) (checkBodies (suc list) later)
+
+-- an answer that no list draws, then the bodies
+unfoldable pub checkParts : ℕ → List (List Node) → Verdict
+checkParts fault bodies = cond (eqb fault TAKEN) (checkBodies 0 bodies) (verdict fault ANCESTORS 0)
+
+-- reading: CONTENTS, then the bodies in order
+unfoldable pub checkBook : List ℕ → Verdict
+checkBook book = checkParts (contentsFault book) (map (nodesOf book) (contentsOf book))
+
+-- what opening a book answers: the verdict, and the number of its lists, 0 when it is refused
+abbrev pub opened : Verdict → ℕ → Opened
+opened v lists = record { verdict = v; lists = lists }
+
+unfoldable pub openedOf : List ℕ → Opened
+openedOf book = opened (checkBook book) (cond (refusedb (checkBook book)) 0 (listsIn book))

@@ -1,0 +1,3 @@
+-- What the contracts of `books` cite.
+pub mod Book
+pub mod Find

@@ -1,0 +1,91 @@
+// The check of a book.
+use contents::check::contents_fault;
+use contents::entry::Entry;
+use contents::entry::entry_at;
+use lists::bytes::check_bytes;
+use lists::verdict::Verdict;
+use lists::verdict::without_node;
+use nodes::answer::TAKEN;
+use numbers::little::NODE_BYTES;
+use numbers::little::number_at;
+use numbers::part::part_of;
+ghost use mathlib.Core.Path.{_≡_};
+ghost use mathlib.Core.List.{map};
+ghost use Rattle.nodes.specs.Answer.{TAKEN};
+ghost use Rattle.contents.specs.Contents.{contentsOf, contentsFault};
+ghost use Rattle.lists.specs.Two.{inList};
+ghost use Rattle.books.specs.Book.{bodyOf, nodesOf, checkBodies, checkBook, openedOf};
+
+// What opening a book answers: the verdict, and how many lists the book has, 0 when it is refused.
+pub struct Opened {
+    pub verdict: Verdict,
+    pub lists: u32,
+}
+
+// The body that an entry names, as far as the book goes.
+pub(crate) fn body_of(book: &[u8], entry: Entry) -> &[u8]
+    ensures { λ r. ⌜ now r ≡ bodyOf (now (book .entry)) entry ⌝ }
+{
+    part_of(
+        book,
+        entry.offset as usize,
+        NODE_BYTES * entry.count as usize,
+    )
+}
+
+// The verdict on a list alone, said of the list with a number.
+fn in_list(verdict: Verdict, list: u32) -> Verdict
+    ensures { λ r. ⌜ r ≡ inList list verdict ⌝ }
+{
+    Verdict {
+        answer: verdict.answer,
+        list: list,
+        index: verdict.index,
+    }
+}
+
+// The verdict on the bodies of a book whose contents keep the rules: that on the first one that isn't accepted.
+fn check_bodies(book: &[u8]) -> Verdict
+    requires { ⌜ contentsFault (now book) ≡ TAKEN ⌝ }
+    ensures { λ r. ⌜ r ≡ checkBodies 0 (map (nodesOf (now (book .entry))) (contentsOf (now (book .entry)))) ⌝ }
+{
+    let lists = number_at(book, 0);
+    let mut list = 0;
+    while list < lists {
+        let entry = entry_at(book, list as usize);
+        let verdict = check_bytes(body_of(book, entry));
+        if verdict.answer != TAKEN {
+            return in_list(verdict, list);
+        }
+        list += 1;
+    }
+    without_node(TAKEN)
+}
+
+// The verdict on a book: its contents, then its bodies.
+fn verdict_on(book: &[u8]) -> Verdict
+    ensures { λ r. ⌜ r ≡ checkBook (now (book .entry)) ⌝ }
+{
+    let fault = contents_fault(book);
+    if fault != TAKEN {
+        return without_node(fault);
+    }
+    check_bodies(book)
+}
+
+// The caller learns whether the bytes are a book, and if so, how many lists it has; if not, why, and which node of which list is at fault.
+pub fn check_book(book: &[u8]) -> Opened
+    ensures { λ r. ⌜ r ≡ openedOf (now (book .entry)) ⌝ }
+{
+    let verdict = verdict_on(book);
+    if verdict.answer != TAKEN {
+        return Opened {
+            verdict: verdict,
+            lists: 0,
+        };
+    }
+    Opened {
+        verdict: verdict,
+        lists: number_at(book, 0),
+    }
+}

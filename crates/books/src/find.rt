@@ -1,0 +1,97 @@
+// A book's lists, by tag and by place.
+use crate::book::Opened;
+use crate::book::body_of;
+use crate::book::check_book;
+use contents::entry::entry_at;
+use contents::entry::entry_count;
+use lists::verdict::Verdict;
+use lists::verdict::without_node;
+use nodes::answer::ABSENT;
+use nodes::answer::TAKEN;
+use numbers::little::NODE_BYTES;
+ghost use mathlib.Core.Path.{_≡_};
+ghost use lib.ListN.{take};
+ghost use Rattle.contents.specs.Contents.{entriesIn};
+ghost use Rattle.books.specs.Book.{openedOf};
+ghost use Rattle.books.specs.Find.{tagAt, found, foundAt, foundTag, tagBody};
+
+// What looking for a list answers: the verdict, and where the list's body lies in the book: the place of its first byte and how many bytes
+// it has, both 0 on refusal.
+pub struct Found {
+    pub verdict: Verdict,
+    pub from: usize,
+    pub bytes: usize,
+}
+
+// Nothing is found, for the reason that the verdict gives.
+fn nowhere(verdict: Verdict) -> Found
+    ensures { λ r. ⌜ r ≡ found verdict 0 0 ⌝ }
+{
+    Found {
+        verdict: verdict,
+        from: 0,
+        bytes: 0,
+    }
+}
+
+// Where a tag's list stands among the first so many entries, or how many these are where there is none.
+fn tag_at(book: &[u8], lists: u32, tag: u32) -> usize
+    ensures { λ r. ⌜ r ≡ tagAt tag (take lists (entriesIn (now (book .entry)))) ⌝ }
+{
+    let mut index = 0;
+    while index < lists as usize && index < entry_count(book) {
+        let entry = entry_at(book, index);
+        if entry.tag == tag {
+            return index;
+        }
+        index += 1;
+    }
+    index
+}
+
+// The list at a place of a book that was opened.
+fn found_at(book: &[u8], opened: Opened, position: usize) -> Found
+    requires { ⌜ opened ≡ openedOf (now book) ⌝ }
+    ensures { λ r. ⌜ r ≡ foundAt (now (book .entry)) position ⌝ }
+{
+    let verdict = opened.verdict;
+    if verdict.answer != TAKEN {
+        return nowhere(verdict);
+    }
+    let entry = entry_at(book, position);
+    if opened.lists as usize <= position {
+        return nowhere(without_node(ABSENT));
+    }
+    Found {
+        verdict: verdict,
+        from: entry.offset as usize,
+        bytes: NODE_BYTES * entry.count as usize,
+    }
+}
+
+// The caller gets where the body of the list at a place lies, the first list having place 0; or the book's refusal, or ABSENT.
+pub fn find_list(book: &[u8], position: usize) -> Found
+    ensures { λ r. ⌜ r ≡ foundAt (now (book .entry)) position ⌝ }
+{
+    found_at(book, check_book(book), position)
+}
+
+// The caller gets where the body of a tag's list lies; or the book's refusal, or ABSENT.
+pub fn find_tag(book: &[u8], tag: u32) -> Found
+    ensures { λ r. ⌜ r ≡ foundTag (now (book .entry)) tag ⌝ }
+{
+    let opened = check_book(book);
+    found_at(book, opened, tag_at(book, opened.lists, tag))
+}
+
+// The caller gets the body of a tag out of a book that was opened before and has so many lists, as a part of the very bytes that were lent;
+// an empty part where it has none. Nothing is checked again.
+pub fn tag_body(book: &[u8], lists: u32, tag: u32) -> &[u8]
+    ensures { λ r. ⌜ now r ≡ tagBody (now (book .entry)) lists tag ⌝ }
+{
+    let position = tag_at(book, lists, tag);
+    if lists as usize <= position {
+        return &book[..0];
+    }
+    body_of(book, entry_at(book, position))
+}

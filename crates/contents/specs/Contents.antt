@@ -1,0 +1,81 @@
+-- Document 01, "The field book": the table of contents and its rules.
+use Prim.Native.Nat.{ℕ, _+_, _*_, _-_, _/_}
+use mathlib.Core.Bool.{Bool, true, cond, not, _&&_, _||_}
+use mathlib.Core.List.{List, [], _∷_}
+use lib.Dec.{ltb, eqb}
+use lib.ListN.{length, getD, take, drop}
+use Rattle.nodes.specs.Answer.{TAKEN, CONTENTS}
+use Rattle.nodes.specs.Choose.{any}
+use Rattle.nodes.specs.Words.{MOST-NODES}
+use Rattle.numbers.specs.Little.{NUMBER-BYTES, NODE-BYTES, numbers, numberCount, numberAt}
+use Rattle.contents.specs.declared.entry.Entry.{Entry}
+
+-- the most lists that a book may have
+abbrev pub MOST-LISTS : ℕ
+MOST-LISTS = 16
+
+-- for each list its tag, the offset of its body from the book's first byte, and its node count
+abbrev pub entry : ℕ → ℕ → ℕ → Entry
+entry tag offset count = record { tag = tag; offset = offset; count = count }
+
+-- how many numbers an entry takes
+abbrev pub ENTRY-NUMBERS : ℕ
+ENTRY-NUMBERS = 3
+
+-- the whole entries of the numbers, one after the other; numbers that make no whole entry are left over
+unfoldable pub entries : List ℕ → List Entry
+entries [] = []
+entries (t ∷ []) = []
+entries (t ∷ o ∷ []) = []
+entries (t ∷ o ∷ c ∷ ns) = entry t o c ∷ entries ns
+
+-- the numbers of an entry
+unfoldable pub entryNumbers : Entry → List ℕ
+entryNumbers e = e .tag ∷ e .offset ∷ e .count ∷ []
+
+-- the number of lists, which comes first
+unfoldable pub listsIn : List ℕ → ℕ
+listsIn book = numberAt book 0
+
+-- all entries that there could be behind it, and how many there are
+unfoldable pub entriesIn : List ℕ → List Entry
+entriesIn book = entries (drop 1 (numbers book))
+
+abbrev pub entryCount : List ℕ → ℕ
+entryCount book = (numberCount book - 1) / ENTRY-NUMBERS
+
+-- the entry at an index, or zeros where there is none
+unfoldable pub entryAt : List ℕ → ℕ → Entry
+entryAt book index = getD (entriesIn book) index (entry 0 0 0)
+
+-- the book's own entries, one for each list
+unfoldable pub contentsOf : List ℕ → List Entry
+contentsOf book = take (listsIn book) (entriesIn book)
+
+-- the place right after the contents of so many lists
+unfoldable pub contentsEnd : ℕ → ℕ
+contentsEnd lists = NUMBER-BYTES * (1 + ENTRY-NUMBERS * lists)
+
+-- tags strictly ascend
+unfoldable pub ascendb : List Entry → Bool
+ascendb [] = true
+ascendb (e ∷ []) = true
+ascendb (e ∷ f ∷ es) = ltb (e .tag) (f .tag) && ascendb (f ∷ es)
+
+-- the first body starts at a place, each next one where the last ended, and the book ends with the last
+unfoldable pub laidb : ℕ → List Entry → ℕ → Bool
+laidb at [] size = eqb at size
+laidb at (e ∷ es) size = eqb (e .offset) at && laidb (at + NODE-BYTES * e .count) es size
+
+-- a rule is broken by so many lists, their entries and the book's size: more lists than 16, a count above 4,096, tags that don't ascend, or bodies
+-- that don't lie right after the contents and one another up to the end; so the contents of a book that is cut short break one too
+unfoldable pub brokenb : ℕ → List Entry → ℕ → Bool
+brokenb lists es size =
+    ltb MOST-LISTS lists
+    || (any (λ e. ltb MOST-NODES (e .count)) es
+    || (not (ascendb es)
+    || not (laidb (contentsEnd lists) es size)))
+
+-- CONTENTS: the table of contents breaks a rule
+unfoldable pub contentsFault : List ℕ → ℕ
+contentsFault book = cond (brokenb (listsIn book) (contentsOf book) (length book)) CONTENTS TAKEN

@@ -1,0 +1,20 @@
+-- Each contract equates the answer and the text with definitions, and two things that equal a third are equal.
+-- `Post` is what an `ensures` says of the answer and of what was lent; a contract that left a byte open would fall here.
+use mathlib.Core.Path.{_≡_}
+use denote.Ref.{now}
+use Rattle.nodes.proofs.Only.{only}
+use Rattle.lines.proofs.line.put_lines.Reads as put-lines
+use Rattle.lines.proofs.line.put_refusal.Reads as put-refusal
+use Rattle.lines.proofs.line.put_total.Reads as put-total
+
+pub put-lines-only : (κs : _) (a : _) (r r′ : _) (s s′ : _) → put-lines.Post κs a r s → put-lines.Post κs a r′ s′
+    → (now (s .1 .0) ≡ now (s′ .1 .0)) × (r ≡ r′)
+put-lines-only κs a r r′ s s′ p q = (only (p .1) (q .1), only (p .0) (q .0))
+
+pub put-total-only : (κs : _) (a : _) (r r′ : _) (s s′ : _) → put-total.Post κs a r s → put-total.Post κs a r′ s′
+    → (now (s .1 .0) ≡ now (s′ .1 .0)) × (r ≡ r′)
+put-total-only κs a r r′ s s′ p q = (only (p .1) (q .1), only (p .0) (q .0))
+
+pub put-refusal-only : (κs : _) (a : _) (r r′ : _) (s s′ : _) → put-refusal.Post κs a r s → put-refusal.Post κs a r′ s′
+    → (now (s .1 .0) ≡ now (s′ .1 .0)) × (r ≡ r′)
+put-refusal-only κs a r r′ s s′ p q = (only (p .1) (q .1), only (p .0) (q .0))

@@ -1,0 +1,52 @@
+-- The word and its blank are six bytes, and the number's field behind them has at most twenty-one, so the line has room.
+-- Another word, or a line without its line feed, falls at the return.
+use borrow.Author.Needs.{needs}
+use mathlib.Core.Path.{_≡_}
+use mathlib.Core.List.{List, [], _∷_, _++_}
+use Prim.Native.Nat.{ℕ, _+_, _<_}
+use native.Mathlib.Omega.{arith}
+use denote.Ref.{now}
+use lib.ListN.{length}
+use lib.Seq.{sets}
+use Rattle.nodes.specs.Answer.{row, letterAt}
+use Rattle.nodes.specs.Choose.{keep}
+use Rattle.nodes.specs.Written.{written}
+use Rattle.lines.specs.Line.{BLANK, LINE-FEED, decimal, word, unfilled, totalLine}
+use Rattle.lines.proofs.Digits.{digits-64}
+use Rattle.lines.proofs.Putting.{put-first, put-written}
+use Rattle.lines.proofs.Fields.{field-64, put-field}
+use Rattle.lines.proofs.line.put_total.Statement.{statement}
+use Rattle.lines.proofs.line.put_total.Tie as tie
+
+-- the word's bytes and the field make the line
+whole : (before : List ℕ) (n : ℕ) (one two : List ℕ) (to last : ℕ) → n < 18446744073709551616 → length before ≡ 32
+    → (to ≡ 6) × (one ≡ sets before 0 (112 ∷ 97 ∷ 105 ∷ 114 ∷ 115 ∷ 32 ∷ []))
+    → (last ≡ to + length (decimal n ++ LINE-FEED ∷ [])) × (two ≡ sets one to (decimal n ++ LINE-FEED ∷ []))
+    → (last ≡ length (totalLine n)) × (two ≡ written (totalLine n) before)
+unfolding totalLine word unfilled keep row letterAt
+whole before n one two to last h l p q =
+    let first = put-first before 0 (word "pairs" ++ BLANK ∷ []) p in
+    put-written before (totalLine n) (omega (arith, field-64 n LINE-FEED h)) (put-field (word "pairs") BLANK first n LINE-FEED q)
+
+slice-aggregate-put-bytes : tie.Need-slice-aggregate-put-bytes
+slice-aggregate-put-bytes c = search needs
+
+put-bytes-requires : tie.Need-put-bytes-requires
+put-bytes-requires c κs = search needs
+
+put-field-requires : tie.Need-put-field-requires
+put-field-requires c κs =
+    let n = c .before .before .before .before .args .count in
+    let few = digits-64 n (omega arith) in
+    omega (arith, c .put-field-arg .given)
+
+returns : tie.Need-returns
+returns c =
+    let a = c .before .before .before .before .before .args in
+    whole (now (a .text)) (a .count) _ _ _ _ (omega arith) (omega (arith, c .before .before .before .before .put-bytes-arg .given))
+    (c .before .before .put-bytes .ensures)
+    (c .put-field .ensures)
+
+pub put-total-spec : {M : Type 1} → statement M
+put-total-spec =
+    tie.close (tie.spec slice-aggregate-put-bytes put-bytes-requires put-field-requires returns)

@@ -1,0 +1,2 @@
+-- What the contracts of `lines` cite.
+pub mod Line

@@ -1,0 +1,64 @@
+-- Document 01, "The printing program": the lines that it prints, as ASCII bytes.
+use Prim.Native.Nat.{ℕ, zero, suc, _+_, _/_, _%_}
+use Prim.Native.String.{String}
+use mathlib.Core.Bool.{cond, not}
+use mathlib.Core.List.{List, [], _∷_, _++_}
+use lib.Dec.{ltb, eqb}
+use lib.ListN.{length, take}
+use Rattle.nodes.specs.declared.node.Node.{Node}
+use Rattle.nodes.specs.Answer.{row, rowOf}
+use Rattle.nodes.specs.Choose.{keep}
+use Rattle.nodes.specs.Words.{nodes}
+use Rattle.nodes.specs.Written.{wordsIn}
+use Rattle.tickets.specs.Listing.{Pair}
+use Rattle.tickets.specs.Row.{pairsIn}
+
+abbrev pub BLANK : ℕ
+BLANK = 32
+
+abbrev pub LINE-FEED : ℕ
+LINE-FEED = 10
+
+-- a number of at most so many digits in decimal: the digits of its tenth, and then its last one
+unfoldable pub digitsTo : ℕ → ℕ → List ℕ
+digitsTo zero n = []
+digitsTo (suc most) n = cond (ltb n 10) ((48 + n) ∷ []) (digitsTo most (n / 10) ++ (48 + n % 10) ∷ [])
+
+-- the most digits of a 64-bit number
+abbrev pub MOST-DIGITS : ℕ
+MOST-DIGITS = 20
+
+-- a 64-bit number in decimal
+unfoldable pub decimal : ℕ → List ℕ
+decimal n = digitsTo MOST-DIGITS n
+
+-- a word without its filling blanks
+unfoldable pub unfilled : List ℕ → List ℕ
+unfilled letters = keep (λ b. not (eqb b BLANK)) letters
+
+unfoldable pub word : String → List ℕ
+word text = unfilled (row text)
+
+abbrev pub pairOf : Node → Node → Pair
+pairOf x y = record { ancestor = x; descendant = y }
+
+-- a pair's line: document, ancestor's start, descendant's start, with single blanks
+unfoldable pub pairLine : Pair → List ℕ
+pairLine p =
+    decimal (p .ancestor .document) ++ BLANK ∷ decimal (p .ancestor .start) ++ BLANK ∷ decimal (p .descendant .start) ++ LINE-FEED ∷ []
+
+-- the most bytes of a pair's line: three numbers of ten digits, and a byte behind each
+abbrev pub LINE-BYTES : ℕ
+LINE-BYTES = 33
+
+-- the lines of the pairs that words make, of as many as a text has room for however long their lines are
+unfoldable pub linesFor : List ℕ → List ℕ → List ℕ
+linesFor pairs text = wordsIn pairLine (take (length text / LINE-BYTES) (pairsIn (nodes pairs)))
+
+-- the last line: the word pairs and their number
+unfoldable pub totalLine : ℕ → List ℕ
+totalLine count = word "pairs" ++ BLANK ∷ decimal count ++ LINE-FEED ∷ []
+
+-- a refusal's line: the word refused, the number, and the name without its filling blanks
+unfoldable pub refusalLine : ℕ → List ℕ
+refusalLine answer = word "refused" ++ BLANK ∷ decimal answer ++ BLANK ∷ unfilled (rowOf answer) ++ LINE-FEED ∷ []

@@ -1,0 +1,3 @@
+// The lines of the printing program, made in a buffer.
+pub mod line;
+mod text;

@@ -1,0 +1,72 @@
+// The lines themselves.
+use crate::text::put_byte;
+use crate::text::put_bytes;
+use crate::text::put_field;
+use crate::text::put_unfilled;
+use nodes::answer::name_of;
+use nodes::node::Node;
+use nodes::node::node_at;
+use nodes::node::node_count;
+ghost use mathlib.Core.Path.{_≡_};
+ghost use Prim.Native.Nat.{_+_, _≤_};
+ghost use lib.ListN.{length};
+ghost use lib.Seq.{sets};
+ghost use Rattle.nodes.specs.Written.{written};
+ghost use Rattle.lines.specs.Line.{LINE-BYTES, pairLine, pairOf, linesFor, totalLine, refusalLine};
+
+// The most bytes of a pair's line.
+pub const LINE_BYTES: usize = 33;
+
+// The bytes of a buffer for one of the two other lines.
+pub const NOTE_BYTES: usize = 32;
+
+// The line of a pair is put at a place.
+fn put_line(text: &mut [u8], at: usize, ancestor: Node, descendant: Node) -> usize
+    requires { ⌜ at + LINE-BYTES ≤ length (now text) ⌝ }
+    ensures { λ r. ⌜ (r ≡ at + length (pairLine (pairOf ancestor descendant)))
+        × (now (text .exit) ≡ sets (now (text .entry)) at (pairLine (pairOf ancestor descendant))) ⌝ }
+{
+    let mut to = put_field(text, at, ancestor.document as u64, b' ');
+    to = put_field(text, to, ancestor.start as u64, b' ');
+    put_field(text, to, descendant.start as u64, b'\n')
+}
+
+// The caller gets the lines of the pairs in the text, as many as it has room for however long they are, and the number of their bytes. A pair is
+// eight words, the ancestor's and then the descendant's.
+pub fn put_lines(pairs: &[u32], text: &mut [u8]) -> usize
+    ensures { λ r. ⌜ (r ≡ length (linesFor (now (pairs .entry)) (now (text .entry))))
+        × (now (text .exit) ≡ written (linesFor (now (pairs .entry)) (now (text .entry))) (now (text .entry))) ⌝ }
+{
+    let room = text.len() / LINE_BYTES;
+    let mut to = 0;
+    let mut index = 0;
+    while index < node_count(pairs) / 2 && index < room {
+        to = put_line(
+            text,
+            to,
+            node_at(pairs, 2 * index),
+            node_at(pairs, 2 * index + 1),
+        );
+        index += 1;
+    }
+    to
+}
+
+// The caller gets the line that says how many pairs there are, and the number of its bytes.
+pub fn put_total(count: u64, text: &mut [u8; NOTE_BYTES]) -> usize
+    ensures { λ r. ⌜ (r ≡ length (totalLine count)) × (now (text .exit) ≡ written (totalLine count) (now (text .entry))) ⌝ }
+{
+    let to = put_bytes(text, 0, b"pairs ");
+    put_field(text, to, count, b'\n')
+}
+
+// The caller gets the line that says why nothing is listed, and the number of its bytes: the answer's number, and its name out of the one table.
+pub fn put_refusal(answer: u32, text: &mut [u8; NOTE_BYTES]) -> usize
+    ensures { λ r. ⌜ (r ≡ length (refusalLine answer)) × (now (text .exit) ≡ written (refusalLine answer) (now (text .entry))) ⌝ }
+{
+    let mut to = put_bytes(text, 0, b"refused ");
+    to = put_field(text, to, answer as u64, b' ');
+    let name = name_of(answer);
+    to = put_unfilled(text, to, &name);
+    put_byte(text, to, b'\n')
+}

@@ -1,0 +1,93 @@
+-- The invariant is the walk along the nodes from the index on; each turn reads the next one where it lies and passes it.
+-- A node read twice or passed over falls at the next turn, one left over at the last return.
+use borrow.Author.Needs.{needs}
+use mathlib.Core.Path.{_≡_, refl}
+use mathlib.Core.List.{List, _∷_}
+use Prim.Native.Nat.{ℕ, _+_, _-_, _/_, _≤_, _<_, zero-le}
+use native.Mathlib.Omega.{arith}
+use lib.ListN.{length, drop}
+use denote.Ref.{now}
+use Rattle.nodes.specs.declared.node.Node.{Node}
+use Rattle.nodes.specs.Node.{MOST-LEVELS}
+use Rattle.nodes.specs.Words.{nodes}
+use Rattle.numbers.specs.Little.{NODE-BYTES, numbers, nodeIn}
+use Rattle.numbers.proofs.LittleLaws.{node-in-from, node-in-behind}
+use Rattle.lists.specs.Check.{checkNodes}
+use Rattle.lists.specs.Walk.{firsts}
+use Rattle.lists.proofs.Walking.{Walk, walk-as, walk-start, walk-on, walk-stop, walk-end}
+use Rattle.lists.proofs.bytes.pass_bytes.Statement.{statement}
+use Rattle.lists.proofs.bytes.pass_bytes.Tie as tie
+
+next : (bs : List ℕ) (i : ℕ) (n : Node) → n ≡ nodeIn bs i → i < length bs / NODE-BYTES
+    → drop i (nodes (numbers bs)) ≡ n ∷ drop (i + 1) (nodes (numbers bs))
+next bs i n q h = rw q (node-in-from bs i h)
+
+abbrev Inv-loop : tie.InvT-loop
+Inv-loop bytes stack₀ place₀ index₀ stack place index =
+    (index ≤ length bytes / NODE-BYTES) × (place .index ≡ index) × (place .depth ≤ MOST-LEVELS)
+    × Walk (firsts (place .depth) (nodes stack)) (place .index) (drop index (nodes (numbers bytes))) (checkNodes (nodes (numbers bytes)))
+
+abbrev μ-loop : tie.MeasureT-loop
+μ-loop bytes stack₀ place₀ index₀ stack place index = length bytes / NODE-BYTES - index
+
+loop-holds : tie.Need-loop-holds Inv-loop μ-loop
+unfolding firsts
+loop-holds c = (zero-le, refl, zero-le, walk-start (nodes (numbers (now (c .before .args .bytes)))))
+
+node-in-requires : tie.Need-node-in-requires Inv-loop μ-loop
+node-in-requires c κs = search needs
+
+pass-node-requires : tie.Need-pass-node-requires Inv-loop μ-loop
+pass-node-requires c κs = (omega arith, omega arith, c .before .before .before .loop .inv .3 .kept .stands .chain)
+
+enum-known-step : tie.Need-enum-known-step Inv-loop μ-loop
+enum-known-step c = search needs
+
+enum-told : tie.Need-enum-told Inv-loop μ-loop
+enum-told c = search needs
+
+returns : tie.Need-returns Inv-loop μ-loop
+returns c =
+    let stepped = c .before .before in
+    let l = stepped .before .before .before .before .loop in
+    let a = stepped .before .before .before .before .before .before .args in
+    let n = next (now (a .bytes)) (l .index) _ (stepped .before .node-in .ensures) (omega arith) in
+    walk-stop (walk-as n (l .inv .3)) _ _ (stepped .pass-node .ensures) _ (c .enum-told .given .1)
+
+add-index : tie.Need-add-index Inv-loop μ-loop
+add-index c = search needs
+
+loop-less : tie.Need-loop-less Inv-loop μ-loop
+loop-less c = search needs
+
+loop-again : tie.Need-loop-again Inv-loop μ-loop
+loop-again c =
+    let stepped = c .before .before .before in
+    let l = stepped .before .before .before .before .loop in
+    let a = stepped .before .before .before .before .before .before .args in
+    let n = next (now (a .bytes)) (l .index) _ (stepped .before .node-in .ensures) (omega arith) in
+    let w = walk-on (walk-as n (l .inv .3)) _ _ (stepped .pass-node .ensures) _ (c .before .step .given .1) in
+    let i = w .0 in
+    (omega arith, omega arith, w .1, w .2)
+
+returns-2 : tie.Need-returns-2 Inv-loop μ-loop
+returns-2 c =
+    let l = c .before .loop in
+    walk-end (walk-as (node-in-behind (now (c .before .before .before .args .bytes)) (l .index) (omega arith)) (l .inv .3))
+
+pub pass-bytes-spec : {M : Type 1} → statement M
+pass-bytes-spec =
+    tie.close
+    (tie.spec
+    Inv-loop
+    μ-loop
+    loop-holds
+    node-in-requires
+    pass-node-requires
+    enum-known-step
+    enum-told
+    returns
+    add-index
+    loop-less
+    loop-again
+    returns-2)

@@ -1,0 +1,82 @@
+-- A start behind the end leaves nothing, a count that reaches beyond it leaves all from the start on, and else the part is the definition's own.
+-- A part one byte off, or one byte short, falls at its return.
+use borrow.Author.Needs.{needs}
+use mathlib.Core.Path.{_≡_, sym, ap, _∙_}
+use mathlib.Core.List.{List, []}
+use Prim.Native.Nat.{ℕ, _+_, _-_, _≤_}
+use native.Mathlib.Omega.{arith}
+use lib.ListN.{length, take, drop, length-drop, drop-of-length-le}
+use lib.Seq.{take-all, take-nil}
+use Rattle.numbers.specs.Part.{partOf}
+use Rattle.numbers.proofs.part.part_of.Statement.{statement}
+use Rattle.numbers.proofs.part.part_of.Tie as tie
+
+module _ (bs : List ℕ) (from count : ℕ) where
+  behind : length bs ≤ from → [] ≡ partOf bs from count
+  unfolding partOf
+  behind h = sym (ap (take count) (drop-of-length-le bs {i = from} h) ∙ take-nil count)
+
+  to-the-end : length bs - from ≤ count → take (length bs - from) (drop from bs) ≡ partOf bs from count
+  unfolding partOf
+  to-the-end h =
+      let e = length-drop from bs in
+      take-all (length bs - from) (drop from bs) (omega arith) ∙ sym (take-all count (drop from bs) (omega arith))
+
+  within : take (from + count - from) (drop from bs) ≡ partOf bs from count
+  unfolding partOf
+  within =
+      let e : from + count - from ≡ count = omega arith in
+      ap (λ k. take k (drop from bs)) e
+
+slice-aggregate-result : tie.Need-slice-aggregate-result
+slice-aggregate-result c = search needs
+
+returns : tie.Need-returns
+returns c = behind _ _ _ (omega arith)
+
+sub-if2 : tie.Need-sub-if2
+sub-if2 c = search needs
+
+sub-result : tie.Need-sub-result
+sub-result c = search needs
+
+part-result-start : tie.Need-part-result-start
+part-result-start c = search needs
+
+part-result-end : tie.Need-part-result-end
+part-result-end c = search needs
+
+returns-2 : tie.Need-returns-2
+returns-2 c = to-the-end _ _ _ (omega arith)
+
+add-result : tie.Need-add-result
+add-result c = search needs
+
+sub-result-2 : tie.Need-sub-result-2
+sub-result-2 c = search needs
+
+part-result-start-2 : tie.Need-part-result-start-2
+part-result-start-2 c = search needs
+
+part-result-end-2 : tie.Need-part-result-end-2
+part-result-end-2 c = search needs
+
+returns-3 : tie.Need-returns-3
+returns-3 c = within _ _ _
+
+pub part-of-spec : {M : Type 1} → statement M
+part-of-spec =
+    tie.close
+    (tie.spec
+    slice-aggregate-result
+    returns
+    sub-if2
+    sub-result
+    part-result-start
+    part-result-end
+    returns-2
+    add-result
+    sub-result-2
+    part-result-start-2
+    part-result-end-2
+    returns-3)

@@ -1,0 +1,29 @@
+// A part of the bytes, and the numbers of bytes as words.
+use crate::little::NUMBER_BYTES;
+use crate::little::number_at;
+ghost use mathlib.Core.Path.{_≡_};
+ghost use Rattle.numbers.specs.Part.{partOf, copied};
+
+// The caller gets so many of the bytes from a place on, as far as they go, as a part of the very bytes that were lent.
+pub fn part_of(bytes: &[u8], from: usize, count: usize) -> &[u8]
+    ensures { λ r. ⌜ now r ≡ partOf (now (bytes .entry)) from count ⌝ }
+{
+    if bytes.len() < from {
+        return &bytes[..0];
+    }
+    if bytes.len() - from < count {
+        return &bytes[from..];
+    }
+    &bytes[from..from + count]
+}
+
+// The words begin with the numbers of the bytes, as many as there is room for; no word beyond them changes.
+pub fn copy_numbers(bytes: &[u8], words: &mut [u32])
+    ensures { λ r. ⌜ now (words .exit) ≡ copied (now (bytes .entry)) (now (words .entry)) ⌝ }
+{
+    let mut index = 0;
+    while index < words.len() && index < bytes.len() / NUMBER_BYTES {
+        words[index] = number_at(bytes, index);
+        index += 1;
+    }
+}

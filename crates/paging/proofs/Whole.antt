@@ -1,0 +1,91 @@
+-- The place that a call reaches leaves of an unaltered listing just what the call did not hand out, so the pages put together are the listing.
+-- Were a page to begin before or behind where the last one ended, this would fall.
+use mathlib.Core.Path.{_≡_, refl, ap, _∙_}
+use mathlib.Core.Logic.{inl, inr}
+use mathlib.Core.Bool.{Bool, true, false}
+use mathlib.Core.List.{List, [], _∷_, _++_, map, append-nil}
+use Prim.Native.Nat.{ℕ, zero, suc}
+use native.Mathlib.Omega.{arith}
+use lib.ListN.{length, take, drop, length-take, take-append-drop}
+use lib.Seq.{take-all}
+use borrow.Author.Tests.{eqb-true}
+use Rattle.nodes.specs.Choose.{keep}
+use Rattle.nodes.proofs.Choices.{keep-failed, keep-all, all-of}
+use Rattle.nodes.proofs.Tests.{never, not-so, either}
+use Rattle.paging.specs.Calls.{accepted, given, moved, placeAfter, allGiven}
+use Rattle.paging.specs.Page.{Spot, fresh, after, pastb, remains, handed, doneb, reached}
+use Rattle.paging.proofs.Demand.{Ascends, Run, past-trans, run-past, run-take, run-remains}
+use Rattle.paging.proofs.KeyLaws.{above-self, above-trans}
+
+module _ {A : Type 0} (key : A → List ℕ) where
+  -- the place that a run reaches
+  abbrev end : Spot → List A → Spot
+  end place xs = reached (λ x. after (key x)) place xs
+
+  -- what lies past it lies past the place where the run began
+  end-past : (place : Spot) (xs : List A) → Run key place xs → (k : List ℕ) → pastb (end place xs) k ≡ true → pastb place k ≡ true
+  unfolding reached pastb
+  end-past place [] r k p = p
+  end-past place (x ∷ xs) r k p = past-trans key place (key x) k (r .0) (end-past (after (key x)) xs (r .1) k p)
+
+  -- and the key of that place doesn't
+  end-behind : (j : List ℕ) (xs : List A) → Run key (after j) xs → pastb (end (after j) xs) j ≡ false
+  unfolding reached pastb
+  end-behind j [] r = above-self j
+  end-behind j (x ∷ xs) r =
+      not-so (λ p. never (above-trans j (key x) j (end-past (after (key x)) xs (r .1) j p) (r .0)) (above-self j))
+
+  -- of a run all but its first n items lie past the place that these reach
+  run-rest : (place : Spot) (n : ℕ) (xs : List A) → Run key place xs → remains key (end place (take n xs)) xs ≡ drop n xs
+  unfolding remains reached keep
+  run-rest place zero xs r = keep-all (λ x. pastb place (key x)) xs (run-past key place xs r)
+  run-rest place (suc n) [] r = refl
+  run-rest place (suc n) (x ∷ xs) r =
+      keep-failed (λ y. pastb (end (after (key x)) (take n xs)) (key y)) x xs
+      (end-behind (key x) (take n xs) (run-take key (after (key x)) n xs (r .1)))
+      ∙ run-rest (after (key x)) n xs (r .1)
+
+  -- a test that only elements kept by another pass keeps the same of both
+  keep-kept : (outer inner : A → Bool) → ((x : A) → inner x ≡ true → outer x ≡ true) → (xs : List A) → keep inner xs ≡ keep inner (keep outer xs)
+  unfolding keep
+  keep-kept outer inner h [] = refl
+  keep-kept outer inner h (x ∷ xs) =
+      elim (either (inner x)) [
+        | inl i ↦ rw (i, h x i, i) (ap (λ ys. x ∷ ys) (keep-kept outer inner h xs))
+        | inr i ↦ elim (either (outer x)) [
+          | inl o ↦ rw (i, o, i) (keep-kept outer inner h xs)
+          | inr o ↦ rw (i, o) (keep-kept outer inner h xs)
+        ]
+      ]
+
+  -- past the place that a page reaches, there remains what it did not hand out
+  page-rest : (place : Spot) (xs : List A) → Ascends key xs → (room : ℕ)
+      → remains key (moved key place (accepted xs room)) xs ≡ drop room (remains key place xs)
+  unfolding moved given handed remains
+  page-rest place xs a room =
+      let rest = remains key place xs in
+      let run : Run key place rest = run-remains key place xs a in
+      keep-kept (λ x. pastb place (key x)) (λ x. pastb (end place (take room rest)) (key x))
+      (λ x. end-past place (take room rest) (run-take key place room rest run) (key x)) xs
+      ∙ run-rest place room rest run
+
+  -- pages of a listing that nobody alters, up to one that is done, are what remained of it
+  pages-from : (place : Spot) (xs : List A) → Ascends key xs → (rooms : List ℕ) (room : ℕ)
+      → doneb key (placeAfter key place (map (accepted xs) rooms)) room xs ≡ true
+      → allGiven key place (map (accepted xs) rooms ++ accepted xs room ∷ []) ≡ remains key place xs
+  unfolding placeAfter allGiven given handed doneb
+  pages-from place xs a [] room d =
+      let rest = remains key place xs in
+      let full : length (take room rest) ≡ length rest = eqb-true (length (take room rest)) (length rest) d in
+      append-nil (take room rest) ∙ take-all room rest (omega (arith, full, length-take room rest))
+  pages-from place xs a (r ∷ rooms) room d =
+      let rest = remains key place xs in
+      ap (λ ys. take r rest ++ ys) (pages-from (moved key place (accepted xs r)) xs a rooms room d ∙ page-rest place xs a r)
+      ∙ take-append-drop r rest
+
+  -- from a fresh start they are all of it, in its order
+  pub pages-whole : (xs : List A) → Ascends key xs → (rooms : List ℕ) (room : ℕ)
+      → doneb key (placeAfter key fresh (map (accepted xs) rooms)) room xs ≡ true
+      → allGiven key fresh (map (accepted xs) rooms ++ accepted xs room ∷ []) ≡ xs
+  unfolding remains pastb
+  pages-whole xs a rooms room d = pages-from fresh xs a rooms room d ∙ keep-all (λ x. pastb fresh (key x)) xs (all-of (λ x. refl) xs)

@@ -1,0 +1,5 @@
+-- `Only` says that no second answer satisfies the contract. Laws for the code: `Given` says what a page shows and that its lines are those of its
+-- pairs, `Answering` which lists of a book are joined.
+pub mod Answering
+pub mod Given
+pub mod Only

@@ -1,0 +1,2 @@
+-- What the contract of `printing` cites.
+pub mod Print

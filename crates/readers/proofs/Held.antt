@@ -1,0 +1,17 @@
+-- What the walks over a reader share: its type, its description and its laws, over the one lifetime that a signature names.
+use denote.RattleType.{RattleType}
+use denote.Signature.{namedLft}
+use denote.Struct.Declared.{Declared}
+use denote.Struct.Laws as LL
+use contract.Lifetimes.{Lfts}
+use Rattle.readers.proofs.reader.Reader as T
+use Rattle.readers.proofs.reader.Reader.Laws as T′
+
+abbrev pub B : Lfts 1 → RattleType
+B κs = T.the-row (namedLft 1 0 tt κs)
+
+abbrev pub D : Lfts 1 → Declared
+D κs = T.the-type (namedLft 1 0 tt κs)
+
+abbrev pub L : (κs : Lfts 1) → LL.Laws (D κs)
+L κs = T′.the-laws (namedLft 1 0 tt κs)

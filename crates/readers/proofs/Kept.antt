@@ -1,0 +1,75 @@
+-- Of an accepted book all is kept, and a tag's body is the part whose place and size the search by tag answers; of a refused one nothing is kept.
+-- A body of a list that the book hasn't, or of bytes that are no book, would fall here.
+use mathlib.Core.Path.{_≡_, refl, ap, _∙_}
+use mathlib.Core.Logic.{inl, inr}
+use mathlib.Core.List.{List, []}
+use Prim.Native.Nat.{ℕ, _<_, _≤_}
+use native.Mathlib.Omega.{arith}
+use lib.Dec.{ltb}
+use lib.ListN.{getD, take, List·getD-eq-default}
+use lib.Seq.{getD-take}
+use borrow.Author.Tests.{ltb-true, ltb-false}
+use Rattle.nodes.specs.Answer.{TAKEN}
+use Rattle.nodes.specs.Choose.{firstAt}
+use Rattle.nodes.proofs.Tests.{either}
+use Rattle.numbers.specs.Little.{numbers, numberAt}
+use Rattle.numbers.specs.Part.{partOf}
+use Rattle.contents.specs.Contents.{entry, listsIn, entriesIn, contentsOf, entryAt}
+use Rattle.contents.proofs.ContentLaws.{few-entries}
+use Rattle.books.specs.Book.{bodyOf, checkBook}
+use Rattle.books.specs.Find.{tagAt, foundAt, foundTag, tagBody}
+use Rattle.books.proofs.BookLaws.{refuses, accepts}
+use Rattle.books.proofs.FindLaws.{list-absent, list-found, tag-found}
+use Rattle.readers.specs.Reader.{keptOf, keptLists, keptBody}
+
+module _ (book : List ℕ) (bad : checkBook book .answer ≡ TAKEN → ⊥) where
+  pub kept-nothing : keptOf book ≡ []
+  unfolding keptOf
+  kept-nothing = rw (refuses (checkBook book) bad)
+
+  pub no-lists : keptLists book ≡ 0
+  unfolding keptLists listsIn numberAt numbers
+  no-lists = ap listsIn kept-nothing
+
+  pub no-body : (tag : ℕ) → keptBody book tag ≡ []
+  unfolding keptBody tagBody bodyOf partOf tagAt firstAt
+  no-body tag = rw (kept-nothing, no-lists) refl
+
+module _ (book : List ℕ) (ok : checkBook book .answer ≡ TAKEN) where
+  pub kept-whole : keptOf book ≡ book
+  unfolding keptOf
+  kept-whole = rw (accepts (checkBook book) ok)
+
+  pub all-lists : keptLists book ≡ listsIn book
+  unfolding keptLists
+  all-lists = ap listsIn kept-whole
+
+  -- the body at a place among the book's own entries is the part that the search by place answers, empty where the book has fewer lists
+  module _ (position : ℕ) where
+    abbrev Answered : Type 0
+    Answered = bodyOf book (getD (contentsOf book) position (entry 0 0 0)) ≡ partOf book (foundAt book position .from) (foundAt book position .bytes)
+
+    there : position < listsIn book → Answered
+    unfolding contentsOf entryAt bodyOf
+    there h = rw (list-found book position ok h, getD-take (listsIn book) (entriesIn book) position (entry 0 0 0) h) refl
+
+    past : listsIn book ≤ position → Answered
+    unfolding contentsOf bodyOf
+    past h =
+        let few = few-entries book (listsIn book) in
+        let e = List·getD-eq-default (take (listsIn book) (entriesIn book)) (entry 0 0 0) {n = position} (omega arith) in
+        rw (list-absent book position ok h, e) refl
+
+    answered : Answered
+    answered = elim (either (ltb position (listsIn book))) [ inl h ↦ there (ltb-true _ _ h) | inr h ↦ past (ltb-false _ _ h) ]
+
+  pub body-found : (tag : ℕ) → keptBody book tag ≡ partOf book (foundTag book tag .from) (foundTag book tag .bytes)
+  unfolding keptBody keptLists tagBody foundTag contentsOf
+  body-found tag = rw kept-whole (answered (tagAt tag (contentsOf book)))
+
+  -- so each list's body comes back under its tag
+  pub body-at : (position : ℕ) → position < listsIn book → keptBody book (entryAt book position .tag) ≡ bodyOf book (entryAt book position)
+  unfolding bodyOf
+  body-at position h =
+      let q = tag-found book ok position h ∙ list-found book position ok h in
+      body-found (entryAt book position .tag) ∙ λ i. partOf book (q i .from) (q i .bytes)

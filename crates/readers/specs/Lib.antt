@@ -1,0 +1,2 @@
+-- What the contracts of `readers` cite.
+pub mod Reader

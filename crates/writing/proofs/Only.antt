@@ -1,0 +1,10 @@
+-- The contract equates the answer and the output with definitions, and two things that equal a third are equal.
+-- `Post` is what an `ensures` says of the answer and of what was lent; a contract that left a field or a byte open would fall here.
+use mathlib.Core.Path.{_≡_}
+use denote.Ref.{now}
+use Rattle.nodes.proofs.Only.{only}
+use Rattle.writing.proofs.write.write_book.Reads as write-book
+
+pub write-book-only : (κs : _) (a : _) (r r′ : _) (s s′ : _) → write-book.Post κs a r s → write-book.Post κs a r′ s′
+    → (now (s .1 .1 .0) ≡ now (s′ .1 .1 .0)) × (r ≡ r′)
+write-book-only κs a r r′ s s′ p q = (only (p .1) (q .1), only (p .0) (q .0))

@@ -1,0 +1,57 @@
+-- A call is refused for what its check finds, then for want of room, and only a call that is taken writes and counts.
+-- A refusal with a count, a count or a room other than the book's length, or an output altered by a refusal would fall here.
+use mathlib.Core.Path.{_≡_, sym, subst, _∙_}
+use mathlib.Core.List.{List}
+use Prim.Native.Nat.{ℕ, _≤_, _<_}
+use native.Mathlib.Omega.{arith}
+use lib.ListN.{length}
+use Rattle.nodes.specs.Answer.{TAKEN, ROOM}
+use Rattle.nodes.specs.Written.{written, answerOf, outputOf}
+use Rattle.nodes.proofs.Writing.{answer-fault, answer-room, answer-taken, if-taken, if-refused}
+use Rattle.lists.specs.declared.verdict.Verdict.{Verdict}
+use Rattle.lists.specs.Verdict.{ANCESTORS, verdict, taken}
+use Rattle.writing.specs.Written.{checkWanted, bytesFor, writtenOf, writtenOutput}
+use Rattle.writing.proofs.Checking.{taken-all}
+
+-- a call that writes a book
+abbrev pub WritesBook : List ℕ → List ℕ → List ℕ → List ℕ → Type 0
+WritesBook entries list out book =
+    (writtenOf entries list out ≡ record { verdict = taken; count = length book }) × (writtenOutput entries list out ≡ written book out)
+
+-- a call that is refused by a verdict
+abbrev pub Refuses : List ℕ → List ℕ → List ℕ → Verdict → Type 0
+Refuses entries list out v = (writtenOf entries list out ≡ record { verdict = v; count = 0 }) × (writtenOutput entries list out ≡ out)
+
+module _ (entries list out : List ℕ) where
+  refused : (answer : ℕ) → (answer ≡ TAKEN → ⊥)
+      → answerOf (checkWanted entries list .answer) (bytesFor entries list) out ≡ answer
+      → Refuses entries list out (verdict answer (checkWanted entries list .list) (checkWanted entries list .index))
+  unfolding writtenOf writtenOutput outputOf
+  refused answer h a =
+      let v = checkWanted entries list in
+      let b = bytesFor entries list in
+      let n : answerOf (v .answer) b out ≡ TAKEN → ⊥ = λ z. h (sym a ∙ z) in (
+        λ k. record { verdict = verdict (a k) (v .list) (v .index); count = if-refused (v .answer) b out (length b) 0 n k },
+        if-refused (v .answer) b out (written b out) out n,
+      )
+
+  pub write-refused : (checkWanted entries list .answer ≡ TAKEN → ⊥) → Refuses entries list out (checkWanted entries list)
+  write-refused h = refused (checkWanted entries list .answer) h (answer-fault (checkWanted entries list .answer) (bytesFor entries list) out h)
+
+  module _ (t : checkWanted entries list .answer ≡ TAKEN) where
+    pub write-room : length out < length (bytesFor entries list) → Refuses entries list out (verdict ROOM ANCESTORS 0)
+    write-room room =
+        let e = taken-all entries list t in
+        subst (λ v. Refuses entries list out (verdict ROOM (v .list) (v .index))) e
+        (refused ROOM (λ z. omega arith) (answer-room (checkWanted entries list .answer) (bytesFor entries list) out t room))
+
+    pub write-taken : length (bytesFor entries list) ≤ length out → WritesBook entries list out (bytesFor entries list)
+    unfolding writtenOf writtenOutput outputOf
+    write-taken room =
+        let v = checkWanted entries list in
+        let b = bytesFor entries list in
+        let a = answer-taken (v .answer) b out t room in
+        let e = taken-all entries list t in (
+          λ k. record { verdict = verdict (a k) (e k .list) (e k .index); count = if-taken (v .answer) b out (length b) 0 a k },
+          if-taken (v .answer) b out (written b out) out a,
+        )

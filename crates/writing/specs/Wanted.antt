@@ -1,0 +1,64 @@
+-- Document 01, "The field book": a book is written from (tag, count) entries and all nodes one after the other.
+use Prim.Native.Nat.{ℕ, _+_, _*_, _%_}
+use mathlib.Core.Bool.{Bool, cond, not}
+use mathlib.Core.List.{List, [], _∷_, _++_}
+use lib.Dec.{eqb}
+use lib.ListN.{length, take, drop}
+use Rattle.nodes.specs.declared.node.Node.{Node}
+use Rattle.nodes.specs.Answer.{TAKEN, CONTENTS}
+use Rattle.nodes.specs.Words.{wordsOf}
+use Rattle.nodes.specs.Written.{wordsIn}
+use Rattle.numbers.specs.Little.{NODE-BYTES, bytesOf}
+use Rattle.contents.specs.declared.entry.Entry.{Entry}
+use Rattle.contents.specs.Contents.{entry, entryNumbers, contentsEnd, brokenb}
+use Rattle.writing.specs.declared.wanted.Wanted.{Wanted}
+
+-- a list that is wanted in the book: its tag and its node count
+abbrev pub want : ℕ → ℕ → Wanted
+want tag count = record { tag = tag; count = count }
+
+-- how many words such an entry takes
+abbrev pub WANTED-WORDS : ℕ
+WANTED-WORDS = 2
+
+-- the whole entries of the words, one after the other
+unfoldable pub wanted : List ℕ → List Wanted
+wanted [] = []
+wanted (t ∷ []) = []
+wanted (t ∷ c ∷ words) = want t c ∷ wanted words
+
+-- the words of an entry
+unfoldable pub wantedWords : Wanted → List ℕ
+wantedWords w = w .tag ∷ w .count ∷ []
+
+-- RAGGED: the words don't make whole entries, or the others whole nodes
+unfoldable pub raggedEntries : List ℕ → Bool
+raggedEntries words = not (eqb (length words % WANTED-WORDS) 0)
+
+-- the contents: the first body starts at a place, and each next one where the last ended
+unfoldable pub laidOut : ℕ → List Wanted → List Entry
+laidOut at [] = []
+laidOut at (w ∷ ws) = entry (w .tag) at (w .count) ∷ laidOut (at + NODE-BYTES * w .count) ws
+
+unfoldable pub contentsFor : List Wanted → List Entry
+contentsFor ws = laidOut (contentsEnd (length ws)) ws
+
+-- the bodies: each list has so many of the nodes that the lists before it left
+unfoldable pub bodiesFor : List Wanted → List Node → List (List Node)
+bodiesFor [] ns = []
+bodiesFor (w ∷ ws) ns = take (w .count) ns ∷ bodiesFor ws (drop (w .count) ns)
+
+-- how many bytes the book has: its contents and all nodes
+unfoldable pub sizeFor : List Wanted → List Node → ℕ
+sizeFor ws ns = contentsEnd (length ws) + NODE-BYTES * length ns
+
+-- CONTENTS: the book's contents would break a rule; where the counts don't add up to the nodes, its last body wouldn't end where the book does
+unfoldable pub wantedFault : List Wanted → List Node → ℕ
+wantedFault ws ns = cond (brokenb (length ws) (contentsFor ws) (sizeFor ws ns)) CONTENTS TAKEN
+
+-- the numbers of the book: how many lists, the contents, and the nodes; and its bytes
+unfoldable pub bookNumbers : List Wanted → List Node → List ℕ
+bookNumbers ws ns = length ws ∷ wordsIn entryNumbers (contentsFor ws) ++ wordsIn wordsOf ns
+
+unfoldable pub bookBytes : List Wanted → List Node → List ℕ
+bookBytes ws ns = wordsIn bytesOf (bookNumbers ws ns)
