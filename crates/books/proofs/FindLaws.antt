@@ -1,5 +1,5 @@
--- A book that is refused has no list anywhere, and one that is taken has those that its contents count; so a place answers by two tests alone.
--- A list found in a refused book, or one behind the last, would fall here.
+-- A book that is refused has no list anywhere, and one that is taken has those that its contents count, each the first of its tag, since tags ascend.
+-- A list found in a refused book, one behind the last, or another list of the same tag would fall here.
 use mathlib.Core.Path.{_≡_, refl, sym, ap, _∙_}
 use mathlib.Core.Bool.{true, false}
 use mathlib.Core.List.{List, [], _∷_, map}

@@ -1,4 +1,5 @@
 -- What the walks over a reader share: its type, its description and its laws, over the one lifetime that a signature names.
+-- A reader with another field, or one of another width, would fall here first.
 use denote.RattleType.{RattleType}
 use denote.Signature.{namedLft}
 use denote.Struct.Declared.{Declared}

@@ -1,3 +1,5 @@
+-- Every page answers the check of the two lists, so the first one refused ends the loop, and a page behind the first is of accepted lists.
+-- A refusal handed back as TAKEN, or a count that could overflow, falls at its return or its sum.
 use borrow.Author.Needs.{needs}
 use mathlib.Core.Path.{_≡_, sym, _∙_}
 use Prim.Native.Nat.{_*_, _-_, _≤_, _<_}

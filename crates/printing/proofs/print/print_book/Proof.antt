@@ -1,5 +1,6 @@
 -- Each return answers by the first check that refuses, and the two lists that are joined are the book's first and second.
 -- ABSENT or the book's refusal passed over, or a longer input taken, falls at its return.
+use borrow.Author.Needs.{needs}
 use mathlib.Core.Path.{sym, subst, _∙_}
 use Prim.Native.Nat.{_≤_}
 use native.Mathlib.Omega.{arith}
@@ -9,7 +10,6 @@ use Rattle.numbers.specs.Little.{numbers}
 use Rattle.lists.specs.Two.{checkTwo}
 use Rattle.printing.specs.Print.{MOST-BYTES}
 use Rattle.printing.proofs.Answering.{part-within, too-long, refused-second, joined}
-use borrow.Author.Needs.{needs}
 use Rattle.printing.proofs.print.print_book.Statement.{statement}
 use Rattle.printing.proofs.print.print_book.Tie as tie
 

@@ -1,5 +1,6 @@
 -- The words copied from each list are its numbers, all of them, since a list of the longest input has room.
 -- A list whose end was left out of the words, or one joined with itself, falls at the return.
+use borrow.Author.Needs.{needs}
 use mathlib.Core.Path.{ap, _∙_}
 use Prim.Native.Nat.{_-_, _/_}
 use native.Mathlib.Omega.{arith}
@@ -8,7 +9,6 @@ use denote.Ref.{now}
 use Rattle.numbers.specs.Little.{NUMBER-BYTES}
 use Rattle.lists.specs.Two.{checkTwo}
 use Rattle.printing.proofs.Answering.{copied-back}
-use borrow.Author.Needs.{needs}
 use Rattle.printing.proofs.print.print_lists.Statement.{statement}
 use Rattle.printing.proofs.print.print_lists.Tie as tie
 
