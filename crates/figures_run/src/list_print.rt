@@ -5,7 +5,6 @@ use crate::print::print_number;
 use crate::print::print_spot;
 use crate::print::print_words;
 use lists::list::check_list;
-use lists::part::faulty_part;
 use lists::two::check_two;
 use lists::verdict::Verdict;
 use nodes::node::Node;
@@ -14,6 +13,7 @@ use nodes::node::is_after;
 use nodes::node::is_inside;
 use nodes::node::is_open;
 use nodes::node::is_same;
+use repairs::part::faulty_part;
 
 // Prints a verdict behind a colon.
 fn print_verdict(verdict: Verdict) {

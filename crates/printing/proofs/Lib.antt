@@ -1,5 +1,6 @@
--- `Only` says that no second answer satisfies the contract. Laws for the code: `Given` says what a page shows and that its lines are those of its
--- pairs, `Answering` which lists of a book are joined.
+-- For the reader: `Printed` says that pages of a book's two lists, line by line, are what is printed, and `Only` that no second answer satisfies the
+-- contract. Laws for the code: `Given` says what a page shows and that its lines are those of its pairs, `Answering` which lists of a book are joined.
 pub mod Answering
 pub mod Given
 pub mod Only
+pub mod Printed

@@ -1,15 +1,21 @@
--- Document 01, "The printing program": its checks, in their order.
+-- Document 01, "The printing program": its checks, in their order, and what it prints.
 use Prim.Native.Nat.{ℕ}
 use mathlib.Core.Bool.{cond}
-use mathlib.Core.List.{List}
-use lib.Dec.{ltb}
+use mathlib.Core.List.{List, _++_}
+use lib.Dec.{ltb, eqb}
 use lib.ListN.{length}
-use Rattle.nodes.specs.Answer.{LONG}
+use Rattle.nodes.specs.Answer.{TAKEN, LONG}
+use Rattle.nodes.specs.Words.{nodes}
+use Rattle.nodes.specs.Written.{wordsIn}
 use Rattle.numbers.specs.Little.{numbers}
 use Rattle.contents.specs.Contents.{entryAt}
 use Rattle.lists.specs.Two.{refusedb, checkTwo}
+use Rattle.tickets.specs.declared.ticket.Order.the-variants.{Descendant}
+use Rattle.tickets.specs.declared.ticket.Relation.the-variants.{Inside}
+use Rattle.tickets.specs.Listing.{Pair, listing}
 use Rattle.books.specs.Book.{bodyOf}
 use Rattle.books.specs.Find.{verdictAt}
+use Rattle.lines.specs.Line.{pairLine, totalLine, refusalLine}
 
 -- the most bytes of the program's input
 abbrev pub MOST-BYTES : ℕ
@@ -29,3 +35,13 @@ printedAnswer book =
     cond (ltb MOST-BYTES (length book)) LONG
     (cond (refusedb (verdictAt book 1)) (verdictAt book 1 .answer)
     (checkTwo (listAt book 0) (listAt book 1) .answer))
+
+-- the full listing of the first list and the second: relation inside, descendant order
+unfoldable pub listingIn : List ℕ → List Pair
+listingIn book = listing Inside Descendant (nodes (listAt book 0)) (nodes (listAt book 1))
+
+-- what the program prints, whole: a line for each pair and then their number, or a refusal's one line
+unfoldable pub printed : List ℕ → List ℕ
+printed book =
+    cond (eqb (printedAnswer book) TAKEN) (wordsIn pairLine (listingIn book) ++ totalLine (length (listingIn book)))
+    (refusalLine (printedAnswer book))

@@ -9,8 +9,8 @@ use denote.Ref.{now}
 use lib.ListN.{length, take, drop, length-drop, drop-of-length-le}
 use lib.Seq.{take-all}
 use Rattle.nodes.specs.Words.{NODE-WORDS, count}
-use Rattle.lists.proofs.part.part_from.Statement.{statement}
-use Rattle.lists.proofs.part.part_from.Tie as tie
+use Rattle.repairs.proofs.part.part_from.Statement.{statement}
+use Rattle.repairs.proofs.part.part_from.Tie as tie
 
 behind : (ws : List ℕ) (i : ℕ) → count ws < i → [] ≡ drop (NODE-WORDS * i) ws
 behind ws i h = sym (drop-of-length-le ws {i = NODE-WORDS * i} (omega arith))

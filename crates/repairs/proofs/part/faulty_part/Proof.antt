@@ -10,12 +10,12 @@ use lib.ListN.{drop}
 use borrow.Author.Tests.{eq-eqb, ne-eqb, le-leb, lt-leb}
 use Rattle.nodes.specs.Answer.{LEVEL, DEPTH}
 use Rattle.nodes.specs.Words.{NODE-WORDS}
 use Rattle.lists.specs.declared.verdict.Verdict.{Verdict}
-use Rattle.lists.specs.Part.{showsb, partAt, faultyPart}
+use Rattle.repairs.specs.Part.{showsb, partAt, faultyPart}
 use Rattle.lists.specs.Two.{checkTwo}
 use Rattle.lists.specs.Verdict.{DESCENDANTS}
-use Rattle.lists.proofs.part.faulty_part.Statement.{statement}
-use Rattle.lists.proofs.part.faulty_part.Tie as tie
+use Rattle.repairs.proofs.part.faulty_part.Statement.{statement}
+use Rattle.repairs.proofs.part.faulty_part.Tie as tie
 
 module _ (xs ys : List ℕ) (v : Verdict) (q : v ≡ checkTwo xs ys) where
   shown : partAt v xs ys ≡ faultyPart xs ys

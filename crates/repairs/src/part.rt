@@ -1,6 +1,6 @@
 // The part of a list that starts at its faulty node.
-use crate::two::check_two;
-use crate::verdict::DESCENDANTS;
+use lists::two::check_two;
+use lists::verdict::DESCENDANTS;
 use nodes::answer::DEPTH;
 use nodes::answer::LEVEL;
 use nodes::node::NODE_WORDS;
@@ -9,7 +9,7 @@ ghost use mathlib.Core.Path.{_≡_};
 ghost use Prim.Native.Nat.{_*_};
 ghost use lib.ListN.{drop};
 ghost use Rattle.nodes.specs.Words.{NODE-WORDS};
-ghost use Rattle.lists.specs.Part.{faultyPart};
+ghost use Rattle.repairs.specs.Part.{faultyPart};
 
 // The part of a list from the node at an index on; an empty one where the list has ended before.
 fn part_from(words: &[u32], index: usize) -> &[u32]

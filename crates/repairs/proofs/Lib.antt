@@ -1,0 +1,2 @@
+-- `Only` says that no second answer satisfies the contract.
+pub mod Only

@@ -1,0 +1,2 @@
+-- What the contract of `repairs` cites.
+pub mod Part

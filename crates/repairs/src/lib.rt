@@ -1,0 +1,2 @@
+// The part of a list that starts at its faulty node, for a person who repairs lists.
+pub mod part;
