@@ -28,7 +28,7 @@ module _ {A : Type 0} (key : A → List ℕ) where
   end-past place [] r k p = p
   end-past place (x ∷ xs) r k p = past-trans key place (key x) k (r .0) (end-past (after (key x)) xs (r .1) k p)
 
-  -- and the key where it began doesn't
+  -- and the key of that place doesn't
   end-behind : (j : List ℕ) (xs : List A) → Run key (after j) xs → pastb (end (after j) xs) j ≡ false
   unfolding reached pastb
   end-behind j [] r = above-self j

@@ -31,7 +31,7 @@ wanted (t ∷ c ∷ words) = want t c ∷ wanted words
 unfoldable pub wantedWords : Wanted → List ℕ
 wantedWords w = w .tag ∷ w .count ∷ []
 
--- RAGGED: the words don't make whole entries
+-- RAGGED: the words don't make whole entries, or the others whole nodes
 unfoldable pub raggedEntries : List ℕ → Bool
 raggedEntries words = not (eqb (length words % WANTED-WORDS) 0)
 
