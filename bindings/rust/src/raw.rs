@@ -1,0 +1,176 @@
+//! The C interface as it is: its structs, and each of its functions over slices. All that is unsafe in this crate is here: a slice is handed
+//! over as its address and its length, which is what the archive reads and writes, and no function keeps an address.
+
+/// The answer of a check: its number, the list that it names, and the index of the faulty node there, or 0.
+#[repr(C)]
+#[derive(Clone, Copy, Debug, PartialEq, Eq)]
+pub struct Verdict {
+    pub answer: u32,
+    pub list: u32,
+    pub index: u32,
+}
+
+/// The answer of a check, and the part of the named list that starts at the faulty node, in words; 0 and 0 when it is empty.
+#[repr(C)]
+#[derive(Clone, Copy, Debug, PartialEq, Eq)]
+pub struct Part {
+    pub answer: u32,
+    pub list: u32,
+    pub index: u32,
+    pub from: usize,
+    pub words: usize,
+}
+
+/// What is kept between two pages. Any words make a usable ticket.
+#[repr(C)]
+#[derive(Clone, Copy, Debug, PartialEq, Eq)]
+pub struct Ticket {
+    pub relation: u32,
+    pub order: u32,
+    pub placed: u32,
+    pub document: u32,
+    pub first: u32,
+    pub second: u32,
+}
+
+/// What a page call answers.
+#[repr(C)]
+#[derive(Clone, Copy, Debug, PartialEq, Eq)]
+pub struct Page {
+    pub answer: u32,
+    pub list: u32,
+    pub index: u32,
+    pub done: u32,
+    pub count: usize,
+    pub ticket: Ticket,
+}
+
+/// What a call answers that writes.
+#[repr(C)]
+#[derive(Clone, Copy, Debug, PartialEq, Eq)]
+pub struct Written {
+    pub answer: u32,
+    pub list: u32,
+    pub index: u32,
+    pub count: usize,
+}
+
+/// What the way back from a table to marks answers.
+#[repr(C)]
+#[derive(Clone, Copy, Debug, PartialEq, Eq)]
+pub struct Unnumbered {
+    pub answer: u32,
+    pub document: u32,
+    pub count: usize,
+}
+
+/// The answer of the check of a book, and how many lists it has.
+#[repr(C)]
+#[derive(Clone, Copy, Debug, PartialEq, Eq)]
+pub struct Book {
+    pub answer: u32,
+    pub list: u32,
+    pub index: u32,
+    pub lists: u32,
+}
+
+/// Where a list's body lies in a book, in bytes; 0 and 0 on refusal.
+#[repr(C)]
+#[derive(Clone, Copy, Debug, PartialEq, Eq)]
+pub struct Body {
+    pub answer: u32,
+    pub list: u32,
+    pub index: u32,
+    pub from: usize,
+    pub bytes: usize,
+}
+
+extern "C" {
+    fn belfry_check(list: *const u32, words: usize) -> Verdict;
+    fn belfry_check_two(ancestors: *const u32, ancestor_words: usize, descendants: *const u32, descendant_words: usize) -> Verdict;
+    fn belfry_faulty(ancestors: *const u32, ancestor_words: usize, descendants: *const u32, descendant_words: usize) -> Part;
+    fn belfry_list(
+        ancestors: *const u32,
+        ancestor_words: usize,
+        descendants: *const u32,
+        descendant_words: usize,
+        ticket: Ticket,
+        out: *mut u32,
+        out_words: usize,
+    ) -> Page;
+    fn belfry_number(document: u32, marks: *const u32, mark_words: usize, out: *mut u32, out_words: usize) -> Written;
+    fn belfry_unnumber(table: *const u32, table_words: usize, out: *mut u32, out_words: usize) -> Unnumbered;
+    fn belfry_pick(table: *const u32, table_words: usize, tag: u32, out: *mut u32, out_words: usize) -> Written;
+    fn belfry_links(list: *const u32, words: usize, out: *mut u32, out_words: usize) -> Written;
+    fn belfry_book_check(book: *const u8, bytes: usize) -> Book;
+    fn belfry_book_body(book: *const u8, bytes: usize, tag: u32) -> Body;
+    fn belfry_book_write(
+        entries: *const u32,
+        entry_words: usize,
+        nodes: *const u32,
+        node_words: usize,
+        out: *mut u8,
+        out_bytes: usize,
+    ) -> Written;
+    fn belfry_name(answer: u32, out: *mut u8);
+}
+
+pub fn check(list: &[u32]) -> Verdict {
+    unsafe { belfry_check(list.as_ptr(), list.len()) }
+}
+
+pub fn check_two(ancestors: &[u32], descendants: &[u32]) -> Verdict {
+    unsafe { belfry_check_two(ancestors.as_ptr(), ancestors.len(), descendants.as_ptr(), descendants.len()) }
+}
+
+pub fn faulty(ancestors: &[u32], descendants: &[u32]) -> Part {
+    unsafe { belfry_faulty(ancestors.as_ptr(), ancestors.len(), descendants.as_ptr(), descendants.len()) }
+}
+
+pub fn list(ancestors: &[u32], descendants: &[u32], ticket: Ticket, out: &mut [u32]) -> Page {
+    unsafe {
+        belfry_list(
+            ancestors.as_ptr(),
+            ancestors.len(),
+            descendants.as_ptr(),
+            descendants.len(),
+            ticket,
+            out.as_mut_ptr(),
+            out.len(),
+        )
+    }
+}
+
+pub fn number(document: u32, marks: &[u32], out: &mut [u32]) -> Written {
+    unsafe { belfry_number(document, marks.as_ptr(), marks.len(), out.as_mut_ptr(), out.len()) }
+}
+
+pub fn unnumber(table: &[u32], out: &mut [u32]) -> Unnumbered {
+    unsafe { belfry_unnumber(table.as_ptr(), table.len(), out.as_mut_ptr(), out.len()) }
+}
+
+pub fn pick(table: &[u32], tag: u32, out: &mut [u32]) -> Written {
+    unsafe { belfry_pick(table.as_ptr(), table.len(), tag, out.as_mut_ptr(), out.len()) }
+}
+
+pub fn links(list: &[u32], out: &mut [u32]) -> Written {
+    unsafe { belfry_links(list.as_ptr(), list.len(), out.as_mut_ptr(), out.len()) }
+}
+
+pub fn book_check(book: &[u8]) -> Book {
+    unsafe { belfry_book_check(book.as_ptr(), book.len()) }
+}
+
+pub fn book_body(book: &[u8], tag: u32) -> Body {
+    unsafe { belfry_book_body(book.as_ptr(), book.len(), tag) }
+}
+
+pub fn book_write(entries: &[u32], nodes: &[u32], out: &mut [u8]) -> Written {
+    unsafe { belfry_book_write(entries.as_ptr(), entries.len(), nodes.as_ptr(), nodes.len(), out.as_mut_ptr(), out.len()) }
+}
+
+pub fn name(answer: u32) -> [u8; 8] {
+    let mut out = [0; 8];
+    unsafe { belfry_name(answer, out.as_mut_ptr()) };
+    out
+}

@@ -1,0 +1,48 @@
+// Numbering, the way back, picking a tag, and the links of a list.
+use crate::result::BelfryResult;
+use crate::result::counted;
+use forest::forest::link_list;
+use lists::verdict::without_node;
+use marks::number::number;
+use marks::pick::pick;
+use marks::unnumber::unnumber;
+
+// The answer of the way back: its number, the document's number and how many marks were written, both 0 on refusal.
+#[repr(C)]
+pub struct BelfryUnnumbered {
+    pub answer: u32,
+    pub document: u32,
+    pub count: usize,
+}
+
+// The caller gets what `number` writes and answers.
+#[no_mangle]
+pub extern "C" fn belfry_number(document: u32, marks: &[u32], out: &mut [u32]) -> BelfryResult {
+    let outcome = number(document, marks, out);
+    counted(without_node(outcome.answer), outcome.count)
+}
+
+// The caller gets what `unnumber` writes and answers.
+#[no_mangle]
+pub extern "C" fn belfry_unnumber(table: &[u32], out: &mut [u32]) -> BelfryUnnumbered {
+    let outcome = unnumber(table, out);
+    BelfryUnnumbered {
+        answer: outcome.answer,
+        document: outcome.document,
+        count: outcome.count,
+    }
+}
+
+// The caller gets what `pick` writes and answers.
+#[no_mangle]
+pub extern "C" fn belfry_pick(table: &[u32], tag: u32, out: &mut [u32]) -> BelfryResult {
+    let outcome = pick(table, tag, out);
+    counted(without_node(outcome.answer), outcome.count)
+}
+
+// The caller gets what `link_list` writes and answers.
+#[no_mangle]
+pub extern "C" fn belfry_links(list: &[u32], out: &mut [u32]) -> BelfryResult {
+    let linked = link_list(list, out);
+    counted(linked.verdict, linked.count)
+}
