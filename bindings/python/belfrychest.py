@@ -368,6 +368,7 @@ def _word(what: str, number: int) -> int:
 
 
 def _ticket_words(ticket: Ticket) -> Tuple[int, ...]:
+    """The six numbers of a ticket, if each is one of 32 bits."""
     if not isinstance(ticket, Ticket):
         raise TypeError(f"ticket must be a Ticket, not {type(ticket).__name__}")
     return tuple(_word(what, number) for what, number in zip(ticket._fields, ticket))
@@ -457,6 +458,7 @@ def pairs(ancestors: Buffer, descendants: Buffer, relation: int = Relation.INSID
 
 
 def _listing(ancestors: Buffer, descendants: Buffer, ticket: Ticket, out: Words) -> Iterator[Pair]:
+    """The pairs of page after page, until one says done."""
     done = False
     while not done:
         written = page(ancestors, descendants, ticket, out)

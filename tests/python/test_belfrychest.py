@@ -359,6 +359,8 @@ class Memory(unittest.TestCase):
                 self.assertEqual(belfry.page(nothing, nothing, INSIDE, array("I")), Page(0, True, INSIDE))
                 self.assertRaisesRegex(Refused, "UNCLOSED", belfry.number, 5, nothing)
                 self.assertRaisesRegex(Refused, "TABLE", belfry.unnumber, nothing)
+                with belfry._lent("memory", nothing, belfry._WORDS) as lent:
+                    self.assertEqual((lent.address == 0, lent.length, lent.end), (False, 0, lent.address))
         for nothing in (b"", bytearray(), memoryview(b""), array("B")):
             self.assertRaisesRegex(Refused, "CONTENTS", belfry.book_check, nothing)
         for nothing in (array("I"), memoryview(bytearray()).cast("I"), (ctypes.c_uint32 * 0)()):
@@ -399,18 +401,20 @@ class Memory(unittest.TestCase):
         self.assertTrue(belfry.book_body(BOOK, 3).readonly)
 
     def test_a_list_can_be_resized_after_a_call_and_not_while_a_part_is_kept(self):
-        nodes, kept = S + S, []
-        try:
-            belfry.check_two(Z, nodes)
-        except Refused as refused:
-            kept.append(refused)
-        nodes.append(5)
-        nodes.pop()
+        nodes, signed, kept = S + S, array("i", [1]), []
+        for call in (lambda: belfry.check_two(Z, nodes), lambda: belfry.page(Z, nodes, INSIDE, nodes), lambda: belfry.check_two(nodes, signed)):
+            try:
+                call()
+            except (Refused, TypeError, ValueError) as error:
+                kept.append(error)
+            nodes.extend(Z)
+            signed.append(1)
+        self.assertEqual((list(map(type, kept)), len(nodes), len(signed)), ([Refused, ValueError, TypeError], 40, 4))
         part = belfry.faulty(Z, nodes)
         self.assertRaises(BufferError, nodes.append, 5)
         part.release()
         nodes.append(5)
-        self.assertEqual((len(kept), len(nodes)), (1, 17))
+        self.assertEqual(len(nodes), 41)
 
     def test_other_threads_wait_during_a_call(self):
         self.assertIs(type(belfry._library), ctypes.PyDLL)
