@@ -12,6 +12,7 @@ from array import array
 from itertools import chain
 from mmap import mmap
 from pathlib import Path
+from types import SimpleNamespace
 from typing import get_type_hints
 
 ROOT = Path(__file__).resolve().parents[2]
@@ -478,16 +479,10 @@ class WrongArguments(unittest.TestCase):
             with self.subTest(function=function, position=position, wrong=value), self.assertRaises(expected):
                 function(*values[:position], value, *values[position + 1:])
 
-    def test_words_of_eight_bytes_are_refused_by_their_size(self):
-        long_words = array("L", [5, 2, 10, 2])
-        accepted = long_words.itemsize == 4
-        try:
-            belfry.check(long_words)
-        except TypeError as error:
-            self.assertFalse(accepted)
-            self.assertIn("8 bytes an item", str(error))
-        else:
-            self.assertTrue(accepted)
+    def test_words_of_format_l_are_taken_where_they_have_four_bytes(self):
+        self.assertRaisesRegex(TypeError, "format 'L' with 8 bytes an item", belfry.check, array("L", [5, 2, 10, 2]))
+        short = SimpleNamespace(format="L", itemsize=4, readonly=False, nbytes=16, c_contiguous=True)
+        self.assertIsNone(belfry._judge("nodes", short, belfry._WORDS, writable=False))
 
     def test_the_message_names_the_argument(self):
         with self.assertRaisesRegex(TypeError, r"descendants must be a buffer of unsigned 32-bit words, such as array\('I'\), not list"):
