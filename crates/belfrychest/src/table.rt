@@ -25,8 +25,8 @@ pub extern "C" fn belfry_number(document: u32, marks: &[u32], out: &mut [u32]) -
     ensures { λ r. ⌜ (r ≡ shownOutcome (numberOutcome document (now (marks .entry)) (now (out .entry))))
         × (now (out .exit) ≡ numberOutput document (now (marks .entry)) (now (out .entry))) ⌝ }
 {
-    let outcome = number(document, marks, out);
-    counted(without_node(outcome.answer), outcome.count)
+    let numbered = number(document, marks, out);
+    counted(without_node(numbered.answer), numbered.count)
 }
 
 // The caller gets what `unnumber` writes and answers.
@@ -35,11 +35,11 @@ pub extern "C" fn belfry_unnumber(table: &[u32], out: &mut [u32]) -> BelfryUnnum
     ensures { λ r. ⌜ (r ≡ shownUnnumbered (unnumberOutcome (now (table .entry)) (now (out .entry))))
         × (now (out .exit) ≡ unnumberOutput (now (table .entry)) (now (out .entry))) ⌝ }
 {
-    let outcome = unnumber(table, out);
+    let marked = unnumber(table, out);
     BelfryUnnumbered {
-        answer: outcome.answer,
-        document: outcome.document,
-        count: outcome.count,
+        answer: marked.answer,
+        document: marked.document,
+        count: marked.count,
     }
 }
 
@@ -49,8 +49,8 @@ pub extern "C" fn belfry_pick(table: &[u32], tag: u32, out: &mut [u32]) -> Belfr
     ensures { λ r. ⌜ (r ≡ shownOutcome (pickOutcome (now (table .entry)) tag (now (out .entry))))
         × (now (out .exit) ≡ pickOutput (now (table .entry)) tag (now (out .entry))) ⌝ }
 {
-    let outcome = pick(table, tag, out);
-    counted(without_node(outcome.answer), outcome.count)
+    let picked = pick(table, tag, out);
+    counted(without_node(picked.answer), picked.count)
 }
 
 // The caller gets what `link_list` writes and answers.
