@@ -153,6 +153,7 @@ static void call_book(void) {
     belfry_result written = belfry_book_write(entries, 4, nodes, 16, book, sizeof book);
     VERDICT("belfry_book_write", written, BELFRY_TAKEN, 0, 0);
     expect("count", written.count, 92);
+    expect("the size of the book", BELFRY_BOOK_BYTES(2, 4), 92);
     for (size_t i = 0; i < 23; i++)
         expect("a number of the book", number_at(book, i), numbers[i]);
     expect("the byte behind the book", book[92], PAINT);

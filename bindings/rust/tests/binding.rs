@@ -78,6 +78,23 @@ fn numbers_are_those_of_the_header() {
     assert_eq!((PAIR_WORDS, ROW_WORDS, MOST_CONTAINING), (8, 5, 63));
 }
 
+/// Nodes side by side, so many.
+fn siblings(count: usize) -> Vec<u32> {
+    (0..count as u32).flat_map(|start| Node { document: 5, start, end: start, level: 1 }.to_words()).collect()
+}
+
+#[test]
+fn limits_are_those_of_the_archive() {
+    assert_eq!(check(&siblings(MOST_NODES)), Ok(()));
+    assert_eq!(check(&siblings(MOST_NODES + 1)), Err(refusal(Answer::Long, 0, 0)));
+    assert_eq!(check(&[5, 2, 2, MOST_LEVELS as u32]), Ok(()));
+    assert_eq!(check(&[5, 2, 2, MOST_LEVELS as u32 + 1]), Err(refusal(Answer::Level, 0, 0)));
+    let empty_lists = |count: u32| (0..count).flat_map(|tag| [tag, 0]).collect::<Vec<u32>>();
+    let mut book = vec![0xAB; book_bytes(MOST_LISTS + 1, 0)];
+    assert_eq!(book_write(&empty_lists(MOST_LISTS as u32), &[], &mut book), Ok(book_bytes(MOST_LISTS, 0)));
+    assert_eq!(book_write(&empty_lists(MOST_LISTS as u32 + 1), &[], &mut book), Err(refusal(Answer::Contents, 0, 0)));
+}
+
 #[test]
 fn answers_have_their_numbers_and_no_other_number_has_one() {
     for (number, answer) in Answer::ALL.iter().enumerate() {
@@ -269,7 +286,8 @@ fn nodes_are_linked() {
 fn books_are_written_and_read() {
     let stored = include_bytes!("../../../examples/figure.book");
     let nodes = [ZONES, SAMPLES].concat();
-    let mut book = vec![0xAB; book_bytes(2, 4) + 1];
+    let mut book = [0xAB; 93];
+    assert_eq!(book_bytes(2, 4), 92);
     assert_eq!(book_write(&[2, 2, 3, 2], &nodes, &mut book), Ok(92));
     assert_eq!((&book[..92], book[92]), (&stored[..], 0xAB));
     assert_eq!(book_check(stored), Ok(2));
