@@ -197,7 +197,7 @@ belfry_result belfry_book_write(const uint32_t *entries, size_t entry_words, con
                                 uint8_t *out, size_t out_bytes);
 
 /* Writes an answer's name into all eight bytes, filled up with blanks; eight blanks for a number above BELFRY_ABSENT. It is never refused. */
-void belfry_name(uint32_t answer, uint8_t out[8]);
+void belfry_name(uint32_t answer, uint8_t out[BELFRY_NAME_BYTES]);
 
 #ifdef __cplusplus
 }
