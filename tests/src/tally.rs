@@ -3,7 +3,7 @@
 use crate::model::answers::{Answer, NAMES};
 
 /// Fewer than this many of an answer say too little.
-const LEAST: u64 = 20;
+const LEAST: u64 = 5;
 
 #[derive(Default)]
 pub struct Tally {

@@ -61,9 +61,11 @@ fn damage_bytes(random: &mut Random, book: &mut Vec<u8>, contents_end: usize) {
     }
 }
 
-/// A tag that the lists mostly have.
+/// A tag that the book mostly has.
 pub fn tag(random: &mut Random, book: &[u8]) -> u32 {
-    let tags: Vec<u32> = numbers(book).iter().skip(1).step_by(3).take(MOST_LISTS).copied().collect();
+    let numbers = numbers(book);
+    let lists = numbers.first().map_or(0, |&lists| lists as usize);
+    let tags: Vec<u32> = numbers.iter().skip(1).step_by(3).take(lists).copied().collect();
     if tags.is_empty() || random.one_in(8) {
         random.word()
     } else {
