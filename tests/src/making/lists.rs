@@ -8,18 +8,20 @@ use crate::random::Random;
 /// Ascending numbers of documents, some of which differ high up only.
 const DOCUMENTS: [u32; 6] = [0, 5, 5 + (1 << 16), 5 + (1 << 24), 5 + (1 << 31), u32::MAX];
 
-/// Nodes of one document that are nested or apart, with positions from 0 on. Levels may jump.
-fn shape(random: &mut Random) -> Vec<Node> {
+/// A size of documents of which every answer comes often.
+pub const SMALL: usize = 12;
+
+/// Fewer than this many nodes of one document that are nested or apart, with positions from 0 on. Levels may jump.
+fn shape(random: &mut Random, size: usize) -> Vec<Node> {
     let mut nodes: Vec<Node> = Vec::new();
     let mut open: Vec<usize> = Vec::new();
     let mut position = 0;
-    for _ in 0..random.below(12) {
+    for _ in 0..random.below(size) {
         let kind = random.below(5);
         if kind < 2 {
             open.pop().map(|index| nodes[index].end = position);
         } else {
-            let jump = if random.one_in(6) { random.small(3) } else { 0 };
-            let level = open.last().map_or(0, |&index| nodes[index].level) + 1 + jump;
+            let level = open.last().map_or(0, |&index| nodes[index].level) + 1 + u32::from(random.one_in(6));
             nodes.push(Node { document: 0, start: position, end: position, level });
         }
         if kind > 2 {
@@ -56,12 +58,12 @@ fn settle(random: &mut Random, document: u32, nodes: &mut [Node]) {
     }
 }
 
-/// The nodes of up to three whole documents. Any part of them is an accepted list, and any two parts agree.
-pub fn family(random: &mut Random) -> Vec<Node> {
+/// The nodes of some whole documents, fewer than this many of each. Any part of them is an accepted list, and any two parts agree.
+pub fn family(random: &mut Random, size: usize) -> Vec<Node> {
     let mut nodes = Vec::new();
     for document in DOCUMENTS {
         if random.one_in(3) {
-            let mut document_nodes = shape(random);
+            let mut document_nodes = shape(random, size);
             settle(random, document, &mut document_nodes);
             nodes.extend(document_nodes);
         }
@@ -119,7 +121,7 @@ fn mostly_sound(random: &mut Random, mut nodes: Vec<Node>) -> Vec<u32> {
 }
 
 pub fn list(random: &mut Random) -> Vec<u32> {
-    let nodes = if random.one_in(4) { wild(random) } else { family(random) };
+    let nodes = if random.one_in(4) { wild(random) } else { family(random, SMALL) };
     mostly_sound(random, nodes)
 }
 
@@ -128,7 +130,7 @@ pub fn two_lists(random: &mut Random) -> (Vec<u32>, Vec<u32>) {
     let (ancestors, descendants) = if random.one_in(4) {
         (wild(random), wild(random))
     } else {
-        let all = family(random);
+        let all = family(random, SMALL);
         (some_of(random, &all), some_of(random, &all))
     };
     (mostly_sound(random, ancestors), mostly_sound(random, descendants))
