@@ -16,9 +16,9 @@ use Rattle.lists.specs.declared.walk.Step.{Step}
 use Rattle.lists.specs.declared.walk.Step.the-variants.{Reached, Refused}
 use Rattle.lists.specs.Fault.{levelb, spanb, orderb}
 use Rattle.lists.specs.Verdict.{ANCESTORS, verdict}
-use Rattle.lists.specs.Walk.{place, firsts, unended, Behind, Chain, headFault, topFault, Passed, SteppedPast, SteppedOnto}
+use Rattle.lists.specs.Walk.{place, firsts, unended, firstb, Behind, Chain, headFault, topFault, Passed, SteppedPast, SteppedOnto}
 use Rattle.lists.proofs.Faults.{Sound, level-sound, span-sound}
-use Rattle.lists.proofs.WalkLaws.{head-at, length-firsts, chain-length}
+use Rattle.lists.proofs.WalkLaws.{head-at, length-firsts, chain-length, first-unended, first-next}
 
 -- a node that is deeper than the head of a row is at most as deep as the deepest level, so the row has room for it
 pub room : (k : ℕ) (ws : List ℕ) (n e : Node) → 0 < k → e ≡ nodeAt ws (k - 1) → Chain (firsts k (nodes ws)) → e .level < n .level
@@ -99,3 +99,10 @@ module _ (st : List ℕ) (k : ℕ) (n : Node) (i : ℕ) (ws : List ℕ) (r : Ste
       passed-on l m p =
           reach (headFault (firsts k (nodes st)) n) (firsts k (nodes st)) n i ws r k (head ∙ rw (sym by-end ∙ h, lt-ltb (e .level) (n .level) l) refl) m
           (p .0) (p .1)
+
+-- the first node of a document comes to lie alone
+pub passed-first : (s : List Node) (n : Node) (i : ℕ) (ws : List ℕ) (r : Step) → Sound n → Chain s → firstb s n ≡ true
+    → (st : List ℕ) → Pushed st 0 n i ws r → SteppedPast s n i r ws
+unfolding firsts
+passed-first s n i ws r g ch f st p =
+    passed-rest s n i ws r g (first-next n s f) (firsts 0 (nodes st)) (sym (first-unended n s ch f)) (passed-alone st 0 n i ws r refl p)

@@ -1,8 +1,8 @@
 -- The first nodes of a list, the last one first, gain and lose their head with the count, so popping and pushing are the count's steps.
 -- A node read or written one place off falls here.
-use mathlib.Core.Path.{_≡_, refl, sym, ap, _∙_}
+use mathlib.Core.Path.{_≡_, refl, sym, ap, subst, _∙_}
 use mathlib.Core.Bool.{true, false, not}
-use mathlib.Core.Logic.{inl, inr}
+use mathlib.Core.Logic.{inl, inr, ⊎-elim}
 use mathlib.Core.List.{List, [], _∷_}
 use Prim.Native.Nat.{ℕ, zero, suc, _+_, _-_, _≤_, _<_}
 use native.Mathlib.Nat.{not-suc-le-zero}
@@ -10,14 +10,15 @@ use native.Mathlib.Numerals.{sub-one, add-one}
 use native.Mathlib.Omega.{arith}
 use lib.ListN.{length, getD, set}
 use lib.Seq.{getD-set-same, getD-set-other}
+use borrow.Author.Tests.{ltb-true, ltb-false}
 use Rattle.nodes.specs.declared.node.Node.{Node}
 use Rattle.nodes.specs.Node.{afterb, openb}
 use Rattle.nodes.specs.Words.{node, nodes, count, nodeAt, putNode}
-use Rattle.nodes.proofs.NodeLaws.{inside-after, after-starts, after-trans, open-read}
-use Rattle.nodes.proofs.Tests.{either, not-none}
+use Rattle.nodes.proofs.NodeLaws.{within, inside-after, after-read, after-starts, after-document, after-trans, open-read, open-make}
+use Rattle.nodes.proofs.Tests.{either, never, not-so, not-none}
 use Rattle.nodes.proofs.WordLaws.{length-nodes, nodes-put}
 use Rattle.lists.specs.Fault.{orderb}
-use Rattle.lists.specs.Walk.{firsts, unended, Behind, Chain}
+use Rattle.lists.specs.Walk.{firsts, unended, firstb, InDocument, Behind, Chain}
 use Rattle.nodes.specs.Choose.{All}
 
 -- the head of the first k nodes is the one before index k
@@ -70,6 +71,20 @@ unfolding firsts unended
 head-none zero ws n h = refl
 head-none (suc k) ws n h = absurd (not-suc-le-zero h)
 
+-- the head of a row of n's document is open where it ends at n's start or later, and has ended where it doesn't
+module _ (k : ℕ) (ws : List ℕ) (n e : Node) (h : 0 < k) (q : e ≡ nodeAt ws (k - 1)) (a : InDocument (n .document) (firsts k (nodes ws))) where
+  by-head : InDocument (n .document) (e ∷ firsts (k - 1) (nodes ws))
+  by-head = rw q (subst (InDocument (n .document)) (head-at k ws h) a)
+
+  pub head-reaches : n .start ≤ e .end → firsts k (nodes ws) ≡ unended n (firsts k (nodes ws))
+  head-reaches r = head-open k ws n e h q (open-make n e (by-head .0) r)
+
+  pub head-ended : e .end < n .start → unended n (firsts (k - 1) (nodes ws)) ≡ unended n (firsts k (nodes ws))
+  head-ended r = head-shut k ws n e h q (not-so (λ o. let p = open-read n e o .reaches in omega arith))
+
+  pub under-head : InDocument (n .document) (firsts (k - 1) (nodes ws))
+  under-head = by-head .1
+
 -- a row is at most as long as its head is deep
 pub chain-length : (e : Node) (es : List Node) → Chain (e ∷ es) → length (e ∷ es) ≤ e .level
 chain-length e [] h = h .0
@@ -90,6 +105,43 @@ chain-after n (e ∷ f ∷ s) ch o =
     let a : afterb n e ≡ true = not-none _ o in
     let b : afterb n f ≡ true = after-trans n e f a (inside-after e f (ch .1 .0)) in
     (a, chain-after n (f ∷ s) (ch .2) (ap not b))
+
+-- the nodes of a row are of one document: at the first node of a later one all have ended
+chain-document : (d : ℕ) (e : Node) (s : List Node) → Chain (e ∷ s) → e .document ≡ d → InDocument d (e ∷ s)
+chain-document d e [] ch q = (q, tt)
+chain-document d e (f ∷ s) ch q = (q, chain-document d f s (ch .2) (sym (within e f (ch .1 .0) .document) ∙ q))
+
+all-ended : (n : Node) (d : ℕ) (s : List Node) → d < n .document → InDocument d s → unended n s ≡ []
+unfolding unended
+all-ended n d [] h a = refl
+all-ended n d (e ∷ s) h a =
+    let q = a .0 in
+    let o : openb n e ≡ false = not-so (λ o. let p = open-read n e o .document in omega arith) in
+    rw o (all-ended n d s h (a .1))
+
+pub first-unended : (n : Node) (s : List Node) → Chain s → firstb s n ≡ true → unended n s ≡ []
+unfolding firstb unended
+first-unended n [] ch f = refl
+first-unended n (e ∷ s) ch f = all-ended n (e .document) (e ∷ s) (ltb-true _ _ f) (chain-document (e .document) e s ch refl)
+
+pub first-next : (n : Node) (s : List Node) → firstb s n ≡ true → orderb s n ≡ false
+unfolding firstb orderb
+first-next n [] f = refl
+first-next n (e ∷ s) f = ap not (after-document n e (ltb-true _ _ f))
+
+-- a node that isn't the first of its document has one before it
+pub not-first : (k : ℕ) (ns : List Node) (n : Node) → firstb (firsts k ns) n ≡ false → 0 < k
+unfolding firsts firstb
+not-first zero ns n f = absurd (never refl f)
+not-first (suc k) ns n f = omega arith
+
+-- and where it comes next it is of the row's
+pub next-document : (n : Node) (s : List Node) → Chain s → firstb s n ≡ false → orderb s n ≡ false → InDocument (n .document) s
+unfolding firstb orderb
+next-document n [] ch f o = tt
+next-document n (e ∷ s) ch f o =
+    let above : n .document ≤ e .document = ltb-false _ _ f in
+    chain-document (n .document) e s ch (⊎-elim (λ p. omega arith) (λ p. sym (p .0)) (after-read n e (not-none _ o)))
 
 -- of those left, the head is of n's document and before it
 pub behind-left : (n : Node) (s : List Node) → All (λ e. afterb n e ≡ true) s → Behind n (unended n s)

@@ -7,7 +7,7 @@ use lib.Dec.{ltb}
 use lib.ListN.{getD}
 use Rattle.nodes.specs.declared.node.Node.{Node}
 use Rattle.nodes.specs.Answer.{TAKEN, LEVEL, SPAN, ORDER, CROSS, DEPTH}
-use Rattle.nodes.specs.Choose.{keep}
+use Rattle.nodes.specs.Choose.{All, keep}
 use Rattle.nodes.specs.Node.{insideb, openb, MOST-LEVELS}
 use Rattle.nodes.specs.Words.{node, nodes}
 use Rattle.lists.specs.declared.walk.Place.{Place}
@@ -43,6 +43,15 @@ Chain (e ∷ es) = (1 ≤ e .level) × Upon e es × Chain es
 pub record Stands (P : Node → Type 0) (before s : List Node) : Type 0 where
   pub chain : Chain s
   pub keeps : (n : Node) → P n → (test : Node → Bool) → ((e : Node) → test e ≡ true → openb n e ≡ true) → keep test before ≡ keep test s
+
+-- n is the first node of its document, as far as the head of a row tells
+unfoldable pub firstb : List Node → Node → Bool
+firstb [] n = true
+firstb (e ∷ es) n = ltb (e .document) (n .document)
+
+-- all nodes of a row are of one document
+abbrev pub InDocument : ℕ → List Node → Type 0
+InDocument d es = All (λ e. e .document ≡ d) es
 
 -- n stands in the document of a row's head, after it
 abbrev pub Behind : Node → List Node → Type 0

@@ -14,7 +14,6 @@ use nodes::node::NODE_WORDS;
 use nodes::node::Node;
 use nodes::node::ends_within;
 use nodes::node::is_after;
-use nodes::node::is_open;
 ghost use mathlib.Core.Path.{_≡_};
 ghost use mathlib.Core.Bool.{not};
 ghost use mathlib.Core.List.{_∷_};
@@ -23,7 +22,7 @@ ghost use Rattle.nodes.specs.Node.{MOST-LEVELS};
 ghost use Rattle.nodes.specs.Words.{nodes, count, nodeAt, putNode, MOST-NODES};
 ghost use Rattle.lists.specs.Fault.{orderb};
 ghost use Rattle.lists.specs.Verdict.{ANCESTORS, verdict, verdictOf};
-ghost use Rattle.lists.specs.Walk.{firsts, unended, place, Behind, Chain, SteppedPast, SteppedOnto};
+ghost use Rattle.lists.specs.Walk.{firsts, unended, place, firstb, InDocument, Behind, Chain, SteppedPast, SteppedOnto};
 
 // The stack's words.
 pub(crate) const STACK_WORDS: usize = NODE_WORDS * MOST_LEVELS;
@@ -75,26 +74,35 @@ fn open_at(stack: &[u32], k: usize) -> Node
     }
 }
 
-// Whether the node stands after the last one passed, which lies on top of the stack.
-fn is_next(stack: &[u32; STACK_WORDS], depth: usize, node: Node) -> bool
+// Whether the node is the first one of its document: the last one passed, which lies on top of the stack, is of an earlier one, or there is
+// none.
+fn is_first(stack: &[u32; STACK_WORDS], depth: usize, node: Node) -> bool
     requires { ⌜ depth ≤ MOST-LEVELS ⌝ }
-    ensures { λ r. ⌜ r ≡ not (orderb (firsts depth (nodes (now (stack .entry)))) node) ⌝ }
+    ensures { λ r. ⌜ r ≡ firstb (firsts depth (nodes (now (stack .entry)))) node ⌝ }
 {
     if depth == 0 {
         return true;
     }
+    open_at(stack, depth - 1).document < node.document
+}
+
+// Whether the node stands after the last one passed.
+fn is_next(stack: &[u32; STACK_WORDS], depth: usize, node: Node) -> bool
+    requires { ⌜ (0 < depth) × (depth ≤ MOST-LEVELS) ⌝ }
+    ensures { λ r. ⌜ r ≡ not (orderb (firsts depth (nodes (now (stack .entry)))) node) ⌝ }
+{
     is_after(node, open_at(stack, depth - 1))
 }
 
-// How many of the nodes on the stack are left once those on top that ended before the node are taken off. What lies under an open
-// node contains it and is open too, so the first open one ends the search.
+// How many of the nodes on the stack, all of the node's document, are left once those on top that ended before it are taken off. What lies
+// under an open node contains it and is open too, so the first open one ends the search.
 fn left_open(stack: &[u32; STACK_WORDS], depth: usize, node: Node) -> usize
-    requires { ⌜ depth ≤ MOST-LEVELS ⌝ }
+    requires { ⌜ (depth ≤ MOST-LEVELS) × InDocument (node .document) (firsts depth (nodes (now stack))) ⌝ }
     ensures { λ r. ⌜ (r ≤ depth) × (firsts r (nodes (now (stack .entry))) ≡ unended node (firsts depth (nodes (now (stack .entry))))) ⌝ }
 {
     let mut left = depth;
     while 0 < left {
-        if is_open(node, open_at(stack, left - 1)) {
+        if node.start <= open_at(stack, left - 1).end {
             return left;
         }
         left -= 1;
@@ -161,6 +169,9 @@ pub(crate) fn pass_node(stack: &mut [u32; STACK_WORDS], place: Place, node: Node
     }
     if node.end < node.start {
         return refused(SPAN, index);
+    }
+    if is_first(stack, place.depth, node) {
+        return push(stack, index, 0, node);
     }
     if !is_next(stack, place.depth, node) {
         return refused(ORDER, index);
