@@ -4,7 +4,7 @@ use mathlib.Core.Path.{_≡_, refl, sym, ap, subst, _∙_}
 use mathlib.Core.Bool.{true, false, not}
 use mathlib.Core.Logic.{inl, inr, ⊎-elim}
 use mathlib.Core.List.{List, [], _∷_}
-use Prim.Native.Nat.{ℕ, zero, suc, _+_, _-_, _≤_, _<_}
+use Prim.Native.Nat.{ℕ, zero, suc, _+_, _*_, _-_, _/_, _%_, _≤_, _<_}
 use native.Mathlib.Nat.{not-suc-le-zero}
 use native.Mathlib.Numerals.{sub-one, add-one}
 use native.Mathlib.Omega.{arith}
@@ -16,9 +16,9 @@ use Rattle.nodes.specs.Node.{afterb, openb}
 use Rattle.nodes.specs.Words.{node, nodes, count, nodeAt, putNode}
 use Rattle.nodes.proofs.NodeLaws.{within, inside-after, after-read, after-starts, after-document, after-trans, open-read, open-make}
 use Rattle.nodes.proofs.Tests.{either, never, not-so, not-none}
-use Rattle.nodes.proofs.WordLaws.{length-nodes, nodes-put}
+use Rattle.nodes.proofs.WordLaws.{length-nodes, node-words, four-stores, nodes-put}
 use Rattle.lists.specs.Fault.{orderb}
-use Rattle.lists.specs.Walk.{firsts, unended, firstb, InDocument, Behind, Chain}
+use Rattle.lists.specs.Walk.{firsts, opened, unended, firstb, InDocument, Behind, Chain}
 use Rattle.nodes.specs.Choose.{All}
 
 -- the head of the first k nodes is the one before index k
@@ -54,6 +54,22 @@ firsts-put ws us k n h e =
     ∙ ap (firsts (k + 1)) (nodes-put ws k n h)
     ∙ firsts-push k (nodes ws) n (omega (arith, length-nodes ws))
 
+-- a node's words where they start, read and stored
+pub words-at : (ws : List ℕ) (w k : ℕ) → w ≡ 4 * k → k < count ws
+    → node (getD ws w 0) (getD ws (w + 1) 0) (getD ws (w + 2) 0) (getD ws (w + 3) 0) ≡ nodeAt ws k
+words-at ws w k q h = rw q (sym (node-words ws k h))
+
+pub stores-at : (ws : List ℕ) (w k : ℕ) (n : Node) → w ≡ 4 * k → k < count ws
+    → set (set (set (set ws w (n .document)) (w + 1) (n .start)) (w + 2) (n .end)) (w + 3) (n .level) ≡ putNode ws k n
+stores-at ws w k n q h = rw q (four-stores ws k n h)
+
+-- so a stack grows and shrinks by the words of a node
+pub top-at : (u : ℕ) (ws : List ℕ) → 0 < u → u % 4 ≡ 0 → opened u ws ≡ nodeAt ws (u / 4 - 1) ∷ opened (u - 4) ws
+top-at u ws h m = head-at (u / 4) ws (omega arith) ∙ ap (λ k. nodeAt ws (u / 4 - 1) ∷ firsts k (nodes ws)) (omega arith)
+
+pub top-put : (ws us : List ℕ) (u : ℕ) (n : Node) → u / 4 < count ws → us ≡ putNode ws (u / 4) n → opened (u + 4) us ≡ n ∷ opened u ws
+top-put ws us u n h e = ap (λ k. firsts k (nodes us)) (omega arith) ∙ firsts-put ws us (u / 4) n h e
+
 -- an open head ends the taking off; one that isn't open is taken off
 pub head-open : (k : ℕ) (ws : List ℕ) (n e : Node) → 0 < k → e ≡ nodeAt ws (k - 1) → openb n e ≡ true
     → firsts k (nodes ws) ≡ unended n (firsts k (nodes ws))
@@ -71,19 +87,21 @@ unfolding firsts unended
 head-none zero ws n h = refl
 head-none (suc k) ws n h = absurd (not-suc-le-zero h)
 
--- the head of a row of n's document is open where it ends at n's start or later, and has ended where it doesn't
-module _ (k : ℕ) (ws : List ℕ) (n e : Node) (h : 0 < k) (q : e ≡ nodeAt ws (k - 1)) (a : InDocument (n .document) (firsts k (nodes ws))) where
-  by-head : InDocument (n .document) (e ∷ firsts (k - 1) (nodes ws))
-  by-head = rw q (subst (InDocument (n .document)) (head-at k ws h) a)
+-- the top of a stack of n's document is open where it ends at n's start or later, and has ended where it doesn't
+module _ (u : ℕ) (ws : List ℕ) (n e : Node) (h : 0 < u) (m : u % 4 ≡ 0) (q : e ≡ nodeAt ws (u / 4 - 1)) (a : InDocument (n .document) (opened u ws)) where
+  by-top : InDocument (n .document) (e ∷ opened (u - 4) ws)
+  by-top = rw q (subst (InDocument (n .document)) (top-at u ws h m) a)
 
-  pub head-reaches : n .start ≤ e .end → firsts k (nodes ws) ≡ unended n (firsts k (nodes ws))
-  head-reaches r = head-open k ws n e h q (open-make n e (by-head .0) r)
+  pub top-reaches : n .start ≤ e .end → opened u ws ≡ unended n (opened u ws)
+  top-reaches r = head-open (u / 4) ws n e (omega arith) q (open-make n e (by-top .0) r)
 
-  pub head-ended : e .end < n .start → unended n (firsts (k - 1) (nodes ws)) ≡ unended n (firsts k (nodes ws))
-  head-ended r = head-shut k ws n e h q (not-so (λ o. let p = open-read n e o .reaches in omega arith))
+  pub top-ended : e .end < n .start → unended n (opened (u - 4) ws) ≡ unended n (opened u ws)
+  top-ended r =
+      ap (λ k. unended n (firsts k (nodes ws))) (omega arith)
+      ∙ head-shut (u / 4) ws n e (omega arith) q (not-so (λ o. let p = open-read n e o .reaches in omega arith))
 
-  pub under-head : InDocument (n .document) (firsts (k - 1) (nodes ws))
-  under-head = by-head .1
+  pub under-top : InDocument (n .document) (opened (u - 4) ws)
+  under-top = by-top .1
 
 -- a row is at most as long as its head is deep
 pub chain-length : (e : Node) (es : List Node) → Chain (e ∷ es) → length (e ∷ es) ≤ e .level

@@ -1,5 +1,5 @@
 -- Words of the contracts of private functions: what a walk along a list keeps. No public contract cites this file.
-use Prim.Native.Nat.{ℕ, zero, suc, _+_, _≤_, _<_}
+use Prim.Native.Nat.{ℕ, zero, suc, _+_, _*_, _/_, _%_, _≤_, _<_}
 use mathlib.Core.Path.{_≡_}
 use mathlib.Core.Bool.{Bool, true, cond, not}
 use mathlib.Core.List.{List, [], _∷_}
@@ -9,7 +9,7 @@ use Rattle.nodes.specs.declared.node.Node.{Node}
 use Rattle.nodes.specs.Answer.{TAKEN, LEVEL, SPAN, ORDER, CROSS, DEPTH}
 use Rattle.nodes.specs.Choose.{All, keep}
 use Rattle.nodes.specs.Node.{insideb, openb, MOST-LEVELS}
-use Rattle.nodes.specs.Words.{node, nodes}
+use Rattle.nodes.specs.Words.{node, nodes, NODE-WORDS}
 use Rattle.lists.specs.declared.walk.Place.{Place}
 use Rattle.lists.specs.declared.walk.Step.{Step}
 use Rattle.lists.specs.declared.walk.Step.the-variants.{Reached, Refused}
@@ -17,12 +17,20 @@ use Rattle.lists.specs.Fault.{levelb, spanb, orderb}
 use Rattle.lists.specs.Verdict.{ANCESTORS, verdict}
 
 abbrev pub place : ℕ → ℕ → Place
-place index depth = record { index = index; depth = depth }
+place index used = record { index = index; used = used }
 
 -- the first k nodes of a list, the last one first
 unfoldable pub firsts : ℕ → List Node → List Node
 firsts zero ns = []
 firsts (suc k) ns = getD ns k (node 0 0 0 0) ∷ firsts k ns
+
+-- the nodes in the first words of a stack, the last one first
+abbrev pub opened : ℕ → List ℕ → List Node
+opened used words = firsts (used / NODE-WORDS) (nodes words)
+
+-- so many words are whole nodes, no more than there are levels
+abbrev pub Fits : ℕ → Type 0
+Fits used = (used % NODE-WORDS ≡ 0) × (used ≤ NODE-WORDS * MOST-LEVELS)
 
 -- what is left of a row of nodes once those at its head that aren't open at n are taken off
 unfoldable pub unended : Node → List Node → List Node
@@ -70,7 +78,7 @@ topFault opened n = cond (levelb n) LEVEL (cond (spanb n) SPAN (cond (orderb ope
 -- a step past n, at an index: where nothing is wrong it lies at the head of those left, else it is refused for what is wrong
 abbrev pub Passed : ℕ → List Node → Node → ℕ → Step → List ℕ → Type 0
 Passed wrong left n index (Reached reached) words =
-    (wrong ≡ TAKEN) × (reached .index ≡ index + 1) × (reached .depth ≤ MOST-LEVELS) × (firsts (reached .depth) (nodes words) ≡ n ∷ left)
+    (wrong ≡ TAKEN) × (reached .index ≡ index + 1) × Fits (reached .used) × (opened (reached .used) words ≡ n ∷ left)
 Passed wrong left n index (Refused refusal) words = (wrong ≡ TAKEN → ⊥) × (refusal ≡ verdict wrong ANCESTORS index)
 
 -- a step past n from the row that was open at the node before

@@ -68,7 +68,7 @@ pub(crate) fn pass_both(xs: &[u32], ys: &[u32]) -> Step
     ensures { λ r. ⌜ verdictOf r ≡ checkNodes (merge (nodes (now (xs .entry))) (nodes (now (ys .entry)))) ⌝ }
 {
     let mut stack = [0u32; STACK_WORDS];
-    let mut place = Place { index: 0, depth: 0 };
+    let mut place = Place { index: 0, used: 0 };
     let mut i = 0;
     let mut j = 0;
     while i + j < node_count(xs) + node_count(ys) {

@@ -1,16 +1,16 @@
 -- The invariant is the walk along what is left of the merge; each turn draws its next node and passes it.
 -- A node drawn and not passed, or a list that goes on at the wrong place, falls at the next turn.
 use borrow.Author.Needs.{needs}
+use mathlib.Core.Path.{refl}
 use Prim.Native.Nat.{_+_, _-_, _≤_, zero-le}
 use native.Mathlib.Omega.{arith}
 use lib.ListN.{drop}
 use denote.Ref.{now}
-use Rattle.nodes.specs.Node.{MOST-LEVELS}
 use Rattle.nodes.specs.Words.{nodes, count}
 use Rattle.nodes.proofs.WordLaws.{length-nodes}
 use Rattle.lists.specs.Check.{checkNodes}
 use Rattle.lists.specs.Merge.{merge}
-use Rattle.lists.specs.Walk.{firsts}
+use Rattle.lists.specs.Walk.{firsts, opened, Fits}
 use Rattle.lists.proofs.Drawing.{none-left}
 use Rattle.lists.proofs.Walking.{Walk, walk-as, walk-start, walk-on, walk-stop, walk-end}
 use Rattle.lists.proofs.merge.pass_both.Statement.{statement}
@@ -18,15 +18,15 @@ use Rattle.lists.proofs.merge.pass_both.Tie as tie
 
 abbrev Inv-loop : tie.InvT-loop
 Inv-loop xs ys stack₀ place₀ i₀ j₀ stack place i j =
-    (i ≤ count xs) × (j ≤ count ys) × (place .index ≤ i + j) × (place .depth ≤ MOST-LEVELS)
-    × Walk (firsts (place .depth) (nodes stack)) (place .index) (merge (drop i (nodes xs)) (drop j (nodes ys))) (checkNodes (merge (nodes xs) (nodes ys)))
+    (i ≤ count xs) × (j ≤ count ys) × (place .index ≤ i + j) × Fits (place .used)
+    × Walk (opened (place .used) stack) (place .index) (merge (drop i (nodes xs)) (drop j (nodes ys))) (checkNodes (merge (nodes xs) (nodes ys)))
 
 abbrev μ-loop : tie.MeasureT-loop
 μ-loop xs ys stack₀ place₀ i₀ j₀ stack place i j = count xs + count ys - (i + j)
 
 loop-holds : tie.Need-loop-holds Inv-loop μ-loop
 unfolding firsts
-loop-holds c = (zero-le, zero-le, zero-le, zero-le, walk-start (merge (nodes (now (c .before .before .args .xs))) (nodes (now (c .before .before .args .ys)))))
+loop-holds c = (zero-le, zero-le, zero-le, (refl, zero-le), walk-start (merge (nodes (now (c .before .before .args .xs))) (nodes (now (c .before .before .args .ys)))))
 
 add-if1 : tie.Need-add-if1 Inv-loop μ-loop
 add-if1 c = search needs
@@ -44,7 +44,9 @@ next-of-requires : tie.Need-next-of-requires Inv-loop μ-loop
 next-of-requires c κs = search needs
 
 pass-node-requires : tie.Need-pass-node-requires Inv-loop μ-loop
-pass-node-requires c κs = (omega arith, omega arith, c .before .before .before .before .before .loop .inv .4 .kept .stands .chain)
+pass-node-requires c κs =
+    let i = c .before .before .before .before .before .loop .inv in
+    (omega arith, i .3, i .4 .kept .stands .chain)
 
 enum-known-step : tie.Need-enum-known-step Inv-loop μ-loop
 enum-known-step c = search needs

@@ -4,27 +4,24 @@ use borrow.Author.Needs.{needs}
 use mathlib.Core.Path.{_≡_, refl, sym, _∙_}
 use mathlib.Core.Bool.{true, not, Bool·not-not}
 use mathlib.Core.List.{List}
-use Prim.Native.Nat.{ℕ, _-_, _<_}
+use Prim.Native.Nat.{ℕ, _-_, _/_, _%_, _<_}
 use native.Mathlib.Omega.{arith}
 use denote.Ref.{now}
 use Rattle.nodes.specs.declared.node.Node.{Node}
 use Rattle.nodes.specs.Node.{afterb}
-use Rattle.nodes.specs.Words.{nodes, nodeAt}
+use Rattle.nodes.specs.Words.{nodeAt}
 use Rattle.lists.specs.Fault.{orderb}
-use Rattle.lists.specs.Walk.{firsts}
-use Rattle.lists.proofs.WalkLaws.{head-at}
+use Rattle.lists.specs.Walk.{opened}
+use Rattle.lists.proofs.WalkLaws.{top-at}
 use Rattle.lists.proofs.walk.is_next.Statement.{statement}
 use Rattle.lists.proofs.walk.is_next.Tie as tie
 
-next : (ws : List ℕ) (k : ℕ) (n e : Node) → 0 < k → e ≡ nodeAt ws (k - 1) → afterb n e ≡ not (orderb (firsts k (nodes ws)) n)
+next : (ws : List ℕ) (u : ℕ) (n e : Node) → 0 < u → u % 4 ≡ 0 → e ≡ nodeAt ws (u / 4 - 1) → afterb n e ≡ not (orderb (opened u ws) n)
 unfolding orderb
-next ws k n e h q = rw (head-at k ws h, ← q) (sym (Bool·not-not (afterb n e)))
+next ws u n e h m q = rw (top-at u ws h m, ← q) (sym (Bool·not-not (afterb n e)))
 
-sub-open-at : tie.Need-sub-open-at
-sub-open-at c = search needs
-
-open-at-requires : tie.Need-open-at-requires
-open-at-requires c κs = search needs
+top-of-requires : tie.Need-top-of-requires
+top-of-requires c κs = search needs
 
 is-after-requires : tie.Need-is-after-requires
 is-after-requires c κs = search needs
@@ -32,8 +29,8 @@ is-after-requires c κs = search needs
 returns : tie.Need-returns
 returns c =
     let a = c .before .before .before .args in
-    c .is-after .ensures ∙ next (now (a .stack)) (a .depth) (a .node) _ (omega arith) (c .before .open-at .ensures)
+    c .is-after .ensures ∙ next (now (a .stack)) (a .used) (a .node) _ (omega arith) (omega arith) (c .before .top-of .ensures)
 
 pub is-next-spec : {M : Type 1} → statement M
 is-next-spec =
-    tie.close (tie.spec sub-open-at open-at-requires is-after-requires returns)
+    tie.close (tie.spec top-of-requires is-after-requires returns)

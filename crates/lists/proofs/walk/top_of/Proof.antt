@@ -1,13 +1,13 @@
--- The four words at four times the place are the node's.
+-- The four words under the top of the words in use are the node's.
 -- A word one off falls at the return.
 use borrow.Author.Needs.{needs}
-use mathlib.Core.Path.{sym}
-use Rattle.nodes.proofs.WordLaws.{node-words}
-use Rattle.lists.proofs.walk.open_at.Statement.{statement}
-use Rattle.lists.proofs.walk.open_at.Tie as tie
+use native.Mathlib.Omega.{arith}
+use Rattle.lists.proofs.WalkLaws.{words-at}
+use Rattle.lists.proofs.walk.top_of.Statement.{statement}
+use Rattle.lists.proofs.walk.top_of.Tie as tie
 
-mul-at : tie.Need-mul-at
-mul-at c = search needs
+sub-at : tie.Need-sub-at
+sub-at c = search needs
 
 mul-t4 : tie.Need-mul-t4
 mul-t4 c = search needs
@@ -43,13 +43,13 @@ shared-slice-read-t18 : tie.Need-shared-slice-read-t18
 shared-slice-read-t18 c = search needs
 
 returns : tie.Need-returns
-returns c = sym (node-words _ _ (c .before .before .before .before .pre))
+returns c = words-at _ _ _ (omega arith) (omega arith)
 
-pub open-at-spec : {M : Type 1} → statement M
-open-at-spec =
+pub top-of-spec : {M : Type 1} → statement M
+top-of-spec =
     tie.close
     (tie.spec
-    mul-at
+    sub-at
     mul-t4
     shared-slice-read-t6
     add-t7
