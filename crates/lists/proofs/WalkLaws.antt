@@ -18,7 +18,7 @@ use Rattle.nodes.proofs.NodeLaws.{within, inside-after, after-read, after-start
 use Rattle.nodes.proofs.Tests.{either, never, not-so, not-none}
 use Rattle.nodes.proofs.WordLaws.{length-nodes, node-words, four-stores, nodes-put}
 use Rattle.lists.specs.Fault.{orderb}
-use Rattle.lists.specs.Walk.{firsts, opened, unended, firstb, InDocument, Behind, Chain}
+use Rattle.lists.specs.Walk.{nodeFrom, firsts, opened, unended, firstb, InDocument, Behind, Chain}
 use Rattle.nodes.specs.Choose.{All}
 
 -- the head of the first k nodes is the one before index k
@@ -55,8 +55,8 @@ firsts-put ws us k n h e =
     ∙ firsts-push k (nodes ws) n (omega (arith, length-nodes ws))
 
 -- a node's words where they start, read and stored
-pub words-at : (ws : List ℕ) (w k : ℕ) → w ≡ 4 * k → k < count ws
-    → node (getD ws w 0) (getD ws (w + 1) 0) (getD ws (w + 2) 0) (getD ws (w + 3) 0) ≡ nodeAt ws k
+pub words-at : (ws : List ℕ) (w k : ℕ) → w ≡ 4 * k → k < count ws → nodeFrom ws w ≡ nodeAt ws k
+unfolding nodeFrom
 words-at ws w k q h = rw q (sym (node-words ws k h))
 
 pub stores-at : (ws : List ℕ) (w k : ℕ) (n : Node) → w ≡ 4 * k → k < count ws

@@ -19,6 +19,10 @@ use Rattle.lists.specs.Verdict.{ANCESTORS, verdict}
 abbrev pub place : ℕ → ℕ → Place
 place index used = record { index = index; used = used }
 
+-- the node whose words start at a place
+unfoldable pub nodeFrom : List ℕ → ℕ → Node
+nodeFrom words w = node (getD words w 0) (getD words (w + 1) 0) (getD words (w + 2) 0) (getD words (w + 3) 0)
+
 -- the first k nodes of a list, the last one first
 unfoldable pub firsts : ℕ → List Node → List Node
 firsts zero ns = []

@@ -23,7 +23,7 @@ ghost use Rattle.nodes.specs.Node.{MOST-LEVELS};
 ghost use Rattle.nodes.specs.Words.{nodeAt, putNode, NODE-WORDS, MOST-NODES};
 ghost use Rattle.lists.specs.Fault.{orderb};
 ghost use Rattle.lists.specs.Verdict.{ANCESTORS, verdict, verdictOf};
-ghost use Rattle.lists.specs.Walk.{opened, unended, place, firstb, Fits, InDocument, Behind, Chain, SteppedPast, SteppedOnto};
+ghost use Rattle.lists.specs.Walk.{nodeFrom, opened, unended, place, firstb, Fits, InDocument, Behind, Chain, SteppedPast, SteppedOnto};
 
 // The stack's words.
 pub(crate) const STACK_WORDS: usize = NODE_WORDS * MOST_LEVELS;
@@ -61,18 +61,25 @@ fn refused(answer: u32, index: usize) -> Step
     })
 }
 
+// The node whose words start at a place.
+pub(crate) fn node_from(words: &[u32], at: usize) -> Node
+    requires { ⌜ at + 3 < length (now words) ⌝ }
+    ensures { λ r. ⌜ r ≡ nodeFrom (now (words .entry)) at ⌝ }
+{
+    Node {
+        document: words[at],
+        start: words[at + 1],
+        end: words[at + 2],
+        level: words[at + 3],
+    }
+}
+
 // The node on top where so many words of the stack are in use.
 fn top_of(stack: &[u32], used: usize) -> Node
     requires { ⌜ (0 < used) × (used % NODE-WORDS ≡ 0) × (used ≤ length (now stack)) ⌝ }
     ensures { λ r. ⌜ r ≡ nodeAt (now (stack .entry)) (used / NODE-WORDS - 1) ⌝ }
 {
-    let at = used - NODE_WORDS;
-    Node {
-        document: stack[at],
-        start: stack[at + 1],
-        end: stack[at + 2],
-        level: stack[at + 3],
-    }
+    node_from(stack, used - NODE_WORDS)
 }
 
 // Whether the node is the first one of its document: the last one passed, which lies on top of the stack, is of an earlier one, or there is

@@ -1,64 +1,20 @@
 -- The four words under the top of the words in use are the node's.
 -- A word one off falls at the return.
 use borrow.Author.Needs.{needs}
+use mathlib.Core.Path.{_∙_}
 use native.Mathlib.Omega.{arith}
 use Rattle.lists.proofs.WalkLaws.{words-at}
 use Rattle.lists.proofs.walk.top_of.Statement.{statement}
 use Rattle.lists.proofs.walk.top_of.Tie as tie
 
-sub-at : tie.Need-sub-at
-sub-at c = search needs
+sub-node-from : tie.Need-sub-node-from
+sub-node-from c = search needs
 
-mul-t4 : tie.Need-mul-t4
-mul-t4 c = search needs
-
-shared-slice-read-t6 : tie.Need-shared-slice-read-t6
-shared-slice-read-t6 c = search needs
-
-add-t7 : tie.Need-add-t7
-add-t7 c = search needs
-
-mul-t8 : tie.Need-mul-t8
-mul-t8 c = search needs
-
-shared-slice-read-t10 : tie.Need-shared-slice-read-t10
-shared-slice-read-t10 c = search needs
-
-add-t11 : tie.Need-add-t11
-add-t11 c = search needs
-
-mul-t12 : tie.Need-mul-t12
-mul-t12 c = search needs
-
-shared-slice-read-t14 : tie.Need-shared-slice-read-t14
-shared-slice-read-t14 c = search needs
-
-add-t15 : tie.Need-add-t15
-add-t15 c = search needs
-
-mul-t16 : tie.Need-mul-t16
-mul-t16 c = search needs
-
-shared-slice-read-t18 : tie.Need-shared-slice-read-t18
-shared-slice-read-t18 c = search needs
+node-from-requires : tie.Need-node-from-requires
+node-from-requires c κs = search needs
 
 returns : tie.Need-returns
-returns c = words-at _ _ _ (omega arith) (omega arith)
+returns c = c .node-from .ensures ∙ words-at _ _ _ (omega arith) (omega arith)
 
 pub top-of-spec : {M : Type 1} → statement M
-top-of-spec =
-    tie.close
-    (tie.spec
-    sub-at
-    mul-t4
-    shared-slice-read-t6
-    add-t7
-    mul-t8
-    shared-slice-read-t10
-    add-t11
-    mul-t12
-    shared-slice-read-t14
-    add-t15
-    mul-t16
-    shared-slice-read-t18
-    returns)
+top-of-spec = tie.close (tie.spec sub-node-from node-from-requires returns)
