@@ -38,9 +38,9 @@ unfolding merge
 none-left xs ys i j h k = rw (ended xs i h, ended ys j k) refl
 
 -- what is drawn, as a return says it
-pub drawn-as : (xs ys : List ℕ) (i j : ℕ) {m n : Node} {f s first second : ℕ} → (n ≡ m) × (first ≡ f) × (second ≡ s) → Drawn xs ys i j m f s
-    → Drawn xs ys i j n first second
-drawn-as xs ys i j e d = rw (e .0, e .1, e .2) d
+pub drawn-as : {xs ys : List ℕ} {i j : ℕ} {m n : Node} {f s first second : ℕ} → (n ≡ m) × (first ≡ f) × (second ≡ s)
+    → Drawn xs ys i j m f s → Drawn xs ys i j n first second
+drawn-as e d = rw (e .0, e .1, e .2) d
 
 module _ (xs ys : List ℕ) (i j : ℕ) (iₙ : Cut i xs) (jₙ : Cut j ys) where
   pub only-first : i < length xs → length ys ≤ j → Drawn xs ys i j (nodeFrom xs i) (i + 4) j

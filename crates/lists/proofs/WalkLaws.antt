@@ -88,7 +88,8 @@ head-none zero ws n h = refl
 head-none (suc k) ws n h = absurd (not-suc-le-zero h)
 
 -- the top of a stack of n's document is open where it ends at n's start or later, and has ended where it doesn't
-module _ (u : ℕ) (ws : List ℕ) (n e : Node) (h : 0 < u) (m : u % 4 ≡ 0) (q : e ≡ nodeAt ws (u / 4 - 1)) (a : InDocument (n .document) (opened u ws)) where
+module _ (u : ℕ) (ws : List ℕ) (n e : Node) (h : 0 < u) (m : u % 4 ≡ 0) (q : e ≡ nodeAt ws (u / 4 - 1))
+    (a : InDocument (n .document) (opened u ws)) where
   by-top : InDocument (n .document) (e ∷ opened (u - 4) ws)
   by-top = rw q (subst (InDocument (n .document)) (top-at u ws h m) a)
 

@@ -3,7 +3,6 @@
 use borrow.Author.Needs.{needs}
 use mathlib.Core.Path.{ap}
 use native.Mathlib.Omega.{arith}
-use denote.Ref.{now}
 use Rattle.nodes.specs.declared.node.Node.{Node}
 use Rattle.lists.proofs.Drawing.{drawn-as, only-first, only-second, earlier-first, earlier-second}
 use Rattle.lists.proofs.merge.next_of.Statement.{statement}
@@ -14,18 +13,16 @@ first-of-requires c κs = search needs
 
 returns : tie.Need-returns
 returns c =
-    let start = c .before .before .before .before in
-    let a = start .args in
-    drawn-as _ _ _ _ (c .first-of .ensures) (only-first (now (a .xs)) (now (a .ys)) (a .i) (a .j) (start .pre .0) (start .pre .1) (omega arith) (omega arith))
+    let pre = c .before .before .before .before .pre in
+    drawn-as (c .first-of .ensures) (only-first _ _ _ _ (pre .0) (pre .1) (omega arith) (omega arith))
 
 second-of-requires : tie.Need-second-of-requires
 second-of-requires c κs = search needs
 
 returns-2 : tie.Need-returns-2
 returns-2 c =
-    let start = c .before .before .before .before .before in
-    let a = start .args in
-    drawn-as _ _ _ _ (c .second-of .ensures) (only-second (now (a .xs)) (now (a .ys)) (a .i) (a .j) (start .pre .0) (start .pre .1) (omega arith) (omega arith))
+    let pre = c .before .before .before .before .before .pre in
+    drawn-as (c .second-of .ensures) (only-second _ _ _ _ (pre .0) (pre .1) (omega arith) (omega arith))
 
 node-from-requires : tie.Need-node-from-requires
 node-from-requires c κs = search needs
@@ -35,10 +32,10 @@ node-from-requires-2 c κs = search needs
 
 next-within-requires : tie.Need-next-within-requires
 next-within-requires c κs =
-    let start = c .before .before .before .before .before .before .before in
+    let pre = c .before .before .before .before .before .before .before .pre in
     let p = ap (λ (n : Node). n .document) (c .before .before .node-from .ensures) in
     let q = ap (λ (n : Node). n .document) (c .before .node-from2 .ensures) in
-    (start .pre .0, start .pre .1, omega arith, omega arith, omega (arith, p, q))
+    (pre .0, pre .1, omega arith, omega arith, omega (arith, p, q))
 
 returns-3 : tie.Need-returns-3
 returns-3 c = search needs
@@ -48,22 +45,20 @@ first-of-requires-2 c κs = search needs
 
 returns-4 : tie.Need-returns-4
 returns-4 c =
-    let start = c .before .before .before .before .before .before .before .before .before in
-    let a = start .args in
+    let pre = c .before .before .before .before .before .before .before .before .before .pre in
     let p = ap (λ (n : Node). n .document) (c .before .before .before .before .node-from .ensures) in
     let q = ap (λ (n : Node). n .document) (c .before .before .before .node-from2 .ensures) in
-    drawn-as _ _ _ _ (c .first-of2 .ensures) (earlier-first (now (a .xs)) (now (a .ys)) (a .i) (a .j) (start .pre .0) (start .pre .1) (omega arith) (omega arith) (omega (arith, p, q)))
+    drawn-as (c .first-of2 .ensures) (earlier-first _ _ _ _ (pre .0) (pre .1) (omega arith) (omega arith) (omega (arith, p, q)))
 
 second-of-requires-2 : tie.Need-second-of-requires-2
 second-of-requires-2 c κs = search needs
 
 returns-5 : tie.Need-returns-5
 returns-5 c =
-    let start = c .before .before .before .before .before .before .before .before .before in
-    let a = start .args in
+    let pre = c .before .before .before .before .before .before .before .before .before .pre in
     let p = ap (λ (n : Node). n .document) (c .before .before .before .before .node-from .ensures) in
     let q = ap (λ (n : Node). n .document) (c .before .before .before .node-from2 .ensures) in
-    drawn-as _ _ _ _ (c .second-of2 .ensures) (earlier-second (now (a .xs)) (now (a .ys)) (a .i) (a .j) (start .pre .0) (start .pre .1) (omega arith) (omega arith) (omega (arith, p, q)))
+    drawn-as (c .second-of2 .ensures) (earlier-second _ _ _ _ (pre .0) (pre .1) (omega arith) (omega arith) (omega (arith, p, q)))
 
 pub next-of-spec : {M : Type 1} → statement M
 next-of-spec =

@@ -27,22 +27,20 @@ first-of-requires c κs = search needs
 
 returns : tie.Need-returns
 returns c =
-    let start = c .before .before .before .before .before .before in
-    let a = start .args in
+    let pre = c .before .before .before .before .before .before .pre in
     let p = ap (λ (n : Node). n .start) (c .before .before .before .node-from .ensures) in
     let q = ap (λ (n : Node). n .start) (c .before .before .node-from2 .ensures) in
-    drawn-as _ _ _ _ (c .first-of .ensures) (starts-first (now (a .xs)) (now (a .ys)) (a .i) (a .j) (start .pre .0) (start .pre .1) (start .pre .2) (start .pre .3) (start .pre .4) (omega (arith, p, q)))
+    drawn-as (c .first-of .ensures) (starts-first _ _ _ _ (pre .0) (pre .1) (pre .2) (pre .3) (pre .4) (omega (arith, p, q)))
 
 second-of-requires : tie.Need-second-of-requires
 second-of-requires c κs = search needs
 
 returns-2 : tie.Need-returns-2
 returns-2 c =
-    let start = c .before .before .before .before .before .before .before in
-    let a = start .args in
+    let pre = c .before .before .before .before .before .before .before .pre in
     let p = ap (λ (n : Node). n .start) (c .before .before .before .before .node-from .ensures) in
     let q = ap (λ (n : Node). n .start) (c .before .before .before .node-from2 .ensures) in
-    drawn-as _ _ _ _ (c .second-of .ensures) (starts-second (now (a .xs)) (now (a .ys)) (a .i) (a .j) (start .pre .0) (start .pre .1) (start .pre .2) (start .pre .3) (start .pre .4) (omega (arith, p, q)))
+    drawn-as (c .second-of .ensures) (starts-second _ _ _ _ (pre .0) (pre .1) (pre .2) (pre .3) (pre .4) (omega (arith, p, q)))
 
 node-from-requires-3 : tie.Need-node-from-requires-3
 node-from-requires-3 c κs = search needs
@@ -61,12 +59,11 @@ first-of-requires-2 c κs = search needs
 
 returns-3 : tie.Need-returns-3
 returns-3 c =
-    let start = c .before .before .before .before .before .before .before .before .before .before .before in
-    let a = start .args in
+    let pre = c .before .before .before .before .before .before .before .before .before .before .before .pre in
     let p = ap (λ (n : Node). n .start) (c .before .before .before .before .before .before .before .before .node-from .ensures) in
     let q = ap (λ (n : Node). n .start) (c .before .before .before .before .before .before .before .node-from2 .ensures) in
-    drawn-as _ _ _ _ (c .first-of2 .ensures) (
-    same-both (now (a .xs)) (now (a .ys)) (a .i) (a .j) (start .pre .0) (start .pre .1) (start .pre .2) (start .pre .3) (start .pre .4) (omega (arith, p, q))
+    drawn-as (c .first-of2 .ensures) (
+    same-both _ _ _ _ (pre .0) (pre .1) (pre .2) (pre .3) (pre .4) (omega (arith, p, q))
     (sym (alike (c .before .before)) ∙ c .before .if3 .taken))
 
 second-of-requires-2 : tie.Need-second-of-requires-2
@@ -74,12 +71,11 @@ second-of-requires-2 c κs = search needs
 
 returns-4 : tie.Need-returns-4
 returns-4 c =
-    let start = c .before .before .before .before .before .before .before .before .before .before .before in
-    let a = start .args in
+    let pre = c .before .before .before .before .before .before .before .before .before .before .before .pre in
     let p = ap (λ (n : Node). n .start) (c .before .before .before .before .before .before .before .before .node-from .ensures) in
     let q = ap (λ (n : Node). n .start) (c .before .before .before .before .before .before .before .node-from2 .ensures) in
-    drawn-as _ _ _ _ (c .second-of2 .ensures) (
-    other-second (now (a .xs)) (now (a .ys)) (a .i) (a .j) (start .pre .0) (start .pre .1) (start .pre .2) (start .pre .3) (start .pre .4) (omega (arith, p, q))
+    drawn-as (c .second-of2 .ensures) (
+    other-second _ _ _ _ (pre .0) (pre .1) (pre .2) (pre .3) (pre .4) (omega (arith, p, q))
     (sym (alike (c .before .before)) ∙ c .before .if3 .left))
 
 pub next-within-spec : {M : Type 1} → statement M

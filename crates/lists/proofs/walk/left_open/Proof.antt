@@ -26,7 +26,8 @@ returns : tie.Need-returns Inv-loop μ-loop
 returns c =
     let a = c .before .before .before .before .before .before .before .args in
     let l = c .before .before .before .before .before .before .loop in
-    (l .inv .0, top-reaches _ (now (a .stack)) (a .node) _ (omega arith) (l .inv .0 .0) (c .before .before .before .top-of .ensures) (l .inv .2) (omega arith) ∙ l .inv .1)
+    let top = c .before .before .before .top-of .ensures in
+    (l .inv .0, top-reaches _ (now (a .stack)) (a .node) _ (omega arith) (l .inv .0 .0) top (l .inv .2) (omega arith) ∙ l .inv .1)
 
 sub-left : tie.Need-sub-left Inv-loop μ-loop
 sub-left c = search needs

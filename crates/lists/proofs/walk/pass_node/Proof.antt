@@ -59,13 +59,15 @@ returns-4 : tie.Need-returns-4
 returns-4 c =
     let start = c .before .before .before .before .before .before .before .before .before .before .before in
     let a = start .args in
-    passed-first (opened (a .place .used) (now (a .stack))) (a .node) _ _ _ (record { lowest = omega arith; highest = omega arith; span = omega arith })
+    passed-first (opened (a .place .used) (now (a .stack))) (a .node) _ _ _
+    (record { lowest = omega arith; highest = omega arith; span = omega arith })
     (start .pre .2) (sym (c .before .before .before .is-first .ensures) ∙ c .before .before .if4 .taken) (now (a .stack)) (c .push .ensures)
 
 is-next-requires : tie.Need-is-next-requires
 is-next-requires c κs =
     let a = c .before .before .before .before .before .before .before .before .before .before .args in
-    let some = not-first (a .place .used / 4) (nodes (now (a .stack))) (a .node) (sym (c .before .before .is-first .ensures) ∙ c .before .if4 .left) in
+    let told = sym (c .before .before .is-first .ensures) ∙ c .before .if4 .left in
+    let some = not-first (a .place .used / 4) (nodes (now (a .stack))) (a .node) told in
     (omega arith, (omega arith, omega arith))
 
 refused-requires-4 : tie.Need-refused-requires-4
@@ -74,7 +76,8 @@ refused-requires-4 c κs = search needs
 returns-5 : tie.Need-returns-5
 returns-5 c =
     let a = c .before .before .before .before .before .before .before .before .before .before .before .before .before .args in
-    passed-order (opened (a .place .used) (now (a .stack))) (a .node) _ _ _ (record { lowest = omega arith; highest = omega arith; span = omega arith })
+    passed-order (opened (a .place .used) (now (a .stack))) (a .node) _ _ _
+    (record { lowest = omega arith; highest = omega arith; span = omega arith })
     (strays (c .before .before .is-next .ensures) (c .before .if5 .taken)) (c .refused4 .ensures)
 
 left-open-requires : tie.Need-left-open-requires
