@@ -3,7 +3,7 @@
 use mathlib.Core.Path.{_≡_, refl, sym, ap, subst, _∙_}
 use mathlib.Core.Bool.{true, false}
 use mathlib.Core.List.{List, _∷_}
-use Prim.Native.Nat.{ℕ, suc, _+_, _-_, _≤_, _<_}
+use Prim.Native.Nat.{ℕ, suc, _+_, _-_, _/_, _≤_, _<_}
 use native.Mathlib.Omega.{arith}
 use lib.ListN.{length}
 use borrow.Author.Tests.{eq-eqb, ne-eqb, lt-ltb, le-ltb}
@@ -16,12 +16,12 @@ use Rattle.lists.specs.declared.walk.Step.{Step}
 use Rattle.lists.specs.declared.walk.Step.the-variants.{Reached, Refused}
 use Rattle.lists.specs.Fault.{levelb, spanb, orderb}
 use Rattle.lists.specs.Verdict.{ANCESTORS, verdict}
-use Rattle.lists.specs.Walk.{place, firsts, unended, Behind, Chain, headFault, topFault, Passed, SteppedPast, SteppedOnto}
+use Rattle.lists.specs.Walk.{place, firsts, opened, unended, firstb, Fits, Behind, Chain, headFault, topFault, Passed, SteppedPast, SteppedOnto}
 use Rattle.lists.proofs.Faults.{Sound, level-sound, span-sound}
-use Rattle.lists.proofs.WalkLaws.{head-at, length-firsts, chain-length}
+use Rattle.lists.proofs.WalkLaws.{head-at, top-at, length-firsts, chain-length, first-unended, first-next}
 
 -- a node that is deeper than the head of a row is at most as deep as the deepest level, so the row has room for it
-pub room : (k : ℕ) (ws : List ℕ) (n e : Node) → 0 < k → e ≡ nodeAt ws (k - 1) → Chain (firsts k (nodes ws)) → e .level < n .level
+room : (k : ℕ) (ws : List ℕ) (n e : Node) → 0 < k → e ≡ nodeAt ws (k - 1) → Chain (firsts k (nodes ws)) → e .level < n .level
     → n .level ≤ MOST-LEVELS → k < MOST-LEVELS
 room k ws n e h q ch below above =
     let w : Chain (nodeAt ws (k - 1) ∷ firsts (k - 1) (nodes ws)) = subst Chain (head-at k ws h) ch in
@@ -30,6 +30,13 @@ room k ws n e h q ch below above =
     let v : e .level ≡ nodeAt ws (k - 1) .level = ap (λ (x : Node). x .level) q in
     omega arith
 
+pub room-on : (u : ℕ) (ws : List ℕ) (n e : Node) → 0 < u → Fits u → e ≡ nodeAt ws (u / 4 - 1) → Chain (opened u ws) → e .level < n .level
+    → n .level ≤ MOST-LEVELS → Fits (u + 4)
+room-on u ws n e h f q ch below above =
+    let m = f .0 in
+    let r = room (u / 4) ws n e (omega arith) q ch below above in
+    (omega arith, omega arith)
+
 -- a step's answer r to what is wrong at n, over the nodes that are left
 module _ (wrong : ℕ) (left : List Node) (n : Node) (i : ℕ) (ws : List ℕ) (r : Step) where
   refuse : (f : ℕ) → wrong ≡ suc f → r ≡ Refused (verdict (suc f) ANCESTORS i) → Passed wrong left n i r ws
@@ -37,9 +44,9 @@ module _ (wrong : ℕ) (left : List Node) (n : Node) (i : ℕ) (ws : List ℕ) (
       subst (λ (step : Step). Passed wrong left n i step ws) (sym e)
       ((λ t. let z : suc f ≡ 0 = sym q ∙ t in omega arith), ap (λ (k : ℕ). verdict k ANCESTORS i) (sym q))
 
-  reach : (k : ℕ) → wrong ≡ TAKEN → k < MOST-LEVELS → r ≡ Reached (place (i + 1) (k + 1)) → firsts (k + 1) (nodes ws) ≡ n ∷ left
+  reach : (u : ℕ) → wrong ≡ TAKEN → Fits (u + 4) → r ≡ Reached (place (i + 1) (u + 4)) → opened (u + 4) ws ≡ n ∷ left
       → Passed wrong left n i r ws
-  reach k h l e p = subst (λ (step : Step). Passed wrong left n i step ws) (sym e) (h, refl, omega arith, p)
+  reach u h l e p = subst (λ (step : Step). Passed wrong left n i step ws) (sym e) (h, refl, l, p)
 
 -- the returns of `pass_node`, which knows the row s that was open at the node before
 module _ (s : List Node) (n : Node) (i : ℕ) (ws : List ℕ) (r : Step) where
@@ -66,36 +73,43 @@ module _ (s : List Node) (n : Node) (i : ℕ) (ws : List ℕ) (r : Step) where
     unfolding topFault
     passed-rest o left q h = rw (level-sound n .1 (g .lowest, g .highest), span-sound n .1 (g .span), o, ← q) h
 
--- the returns of `put_on_top`, which knows the k nodes that are left in the words of a stack
-module _ (st : List ℕ) (k : ℕ) (n : Node) (i : ℕ) (ws : List ℕ) (r : Step) where
+-- the returns of `put_on_top`, which knows the u words that are left of a stack
+module _ (st : List ℕ) (u : ℕ) (n : Node) (i : ℕ) (ws : List ℕ) (r : Step) where
   abbrev Pushed : Type 0
-  Pushed = (r ≡ Reached (place (i + 1) (k + 1))) × (firsts (k + 1) (nodes ws) ≡ n ∷ firsts k (nodes st))
+  Pushed = (r ≡ Reached (place (i + 1) (u + 4))) × (opened (u + 4) ws ≡ n ∷ opened u st)
 
-  pub passed-alone : k ≡ 0 → Pushed → SteppedOnto (firsts k (nodes st)) n i r ws
+  pub passed-alone : u ≡ 0 → Pushed → SteppedOnto (opened u st) n i r ws
   unfolding firsts headFault
-  passed-alone z p = reach (headFault (firsts k (nodes st)) n) (firsts k (nodes st)) n i ws r k (rw z refl) (omega arith) (p .0) (p .1)
+  passed-alone z p = reach (headFault (opened u st) n) (opened u st) n i ws r u (rw z refl) (omega arith, omega arith) (p .0) (p .1)
 
-  module _ (e : Node) (some : 0 < k) (top : e ≡ nodeAt st (k - 1)) (b : Behind n (firsts k (nodes st))) where
+  module _ (e : Node) (some : 0 < u) (fits : Fits u) (top : e ≡ nodeAt st (u / 4 - 1)) (b : Behind n (opened u st)) where
     by-end : endsb n e ≡ insideb n e
     by-end =
-        let w : Behind n (e ∷ firsts (k - 1) (nodes st)) = rw top (subst (Behind n) (head-at k st some) b) in
+        let w : Behind n (e ∷ opened (u - 4) st) = rw top (subst (Behind n) (top-at u st some (fits .0)) b) in
         inside-by-end n e (w .0) (w .1)
 
-    head : headFault (firsts k (nodes st)) n ≡ headFault (e ∷ firsts (k - 1) (nodes st)) n
-    head = rw (head-at k st some, top) refl
+    head : headFault (opened u st) n ≡ headFault (e ∷ opened (u - 4) st) n
+    head = rw (top-at u st some (fits .0), top) refl
 
-    pub passed-cross : endsb n e ≡ false → r ≡ Refused (verdict CROSS ANCESTORS i) → SteppedOnto (firsts k (nodes st)) n i r ws
+    pub passed-cross : endsb n e ≡ false → r ≡ Refused (verdict CROSS ANCESTORS i) → SteppedOnto (opened u st) n i r ws
     unfolding headFault
-    passed-cross h q = refuse (headFault (firsts k (nodes st)) n) (firsts k (nodes st)) n i ws r 5 (head ∙ rw (sym by-end ∙ h) refl) q
+    passed-cross h q = refuse (headFault (opened u st) n) (opened u st) n i ws r 5 (head ∙ rw (sym by-end ∙ h) refl) q
 
     module _ (h : endsb n e ≡ true) where
-      pub passed-depth : n .level ≤ e .level → r ≡ Refused (verdict DEPTH ANCESTORS i) → SteppedOnto (firsts k (nodes st)) n i r ws
+      pub passed-depth : n .level ≤ e .level → r ≡ Refused (verdict DEPTH ANCESTORS i) → SteppedOnto (opened u st) n i r ws
       unfolding headFault
       passed-depth l q =
-          refuse (headFault (firsts k (nodes st)) n) (firsts k (nodes st)) n i ws r 6 (head ∙ rw (sym by-end ∙ h, le-ltb (e .level) (n .level) l) refl) q
+          refuse (headFault (opened u st) n) (opened u st) n i ws r 6 (head ∙ rw (sym by-end ∙ h, le-ltb (e .level) (n .level) l) refl) q
 
-      pub passed-on : e .level < n .level → k < MOST-LEVELS → Pushed → SteppedOnto (firsts k (nodes st)) n i r ws
+      pub passed-on : e .level < n .level → Fits (u + 4) → Pushed → SteppedOnto (opened u st) n i r ws
       unfolding headFault
       passed-on l m p =
-          reach (headFault (firsts k (nodes st)) n) (firsts k (nodes st)) n i ws r k (head ∙ rw (sym by-end ∙ h, lt-ltb (e .level) (n .level) l) refl) m
+          reach (headFault (opened u st) n) (opened u st) n i ws r u (head ∙ rw (sym by-end ∙ h, lt-ltb (e .level) (n .level) l) refl) m
           (p .0) (p .1)
+
+-- the first node of a document comes to lie alone
+pub passed-first : (s : List Node) (n : Node) (i : ℕ) (ws : List ℕ) (r : Step) → Sound n → Chain s → firstb s n ≡ true
+    → (st : List ℕ) → Pushed st 0 n i ws r → SteppedPast s n i r ws
+unfolding firsts
+passed-first s n i ws r g ch f st p =
+    passed-rest s n i ws r g (first-next n s f) (opened 0 st) (sym (first-unended n s ch f)) (passed-alone st 0 n i ws r refl p)

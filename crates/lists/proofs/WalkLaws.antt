@@ -1,23 +1,24 @@
 -- The first nodes of a list, the last one first, gain and lose their head with the count, so popping and pushing are the count's steps.
 -- A node read or written one place off falls here.
-use mathlib.Core.Path.{_≡_, refl, sym, ap, _∙_}
+use mathlib.Core.Path.{_≡_, refl, sym, ap, subst, _∙_}
 use mathlib.Core.Bool.{true, false, not}
-use mathlib.Core.Logic.{inl, inr}
+use mathlib.Core.Logic.{inl, inr, ⊎-elim}
 use mathlib.Core.List.{List, [], _∷_}
-use Prim.Native.Nat.{ℕ, zero, suc, _+_, _-_, _≤_, _<_}
+use Prim.Native.Nat.{ℕ, zero, suc, _+_, _*_, _-_, _/_, _%_, _≤_, _<_}
 use native.Mathlib.Nat.{not-suc-le-zero}
 use native.Mathlib.Numerals.{sub-one, add-one}
 use native.Mathlib.Omega.{arith}
 use lib.ListN.{length, getD, set}
 use lib.Seq.{getD-set-same, getD-set-other}
+use borrow.Author.Tests.{ltb-true, ltb-false}
 use Rattle.nodes.specs.declared.node.Node.{Node}
 use Rattle.nodes.specs.Node.{afterb, openb}
 use Rattle.nodes.specs.Words.{node, nodes, count, nodeAt, putNode}
-use Rattle.nodes.proofs.NodeLaws.{inside-after, after-starts, after-trans, open-read}
-use Rattle.nodes.proofs.Tests.{either, not-none}
-use Rattle.nodes.proofs.WordLaws.{length-nodes, nodes-put}
+use Rattle.nodes.proofs.NodeLaws.{within, inside-after, after-read, after-starts, after-document, after-trans, open-read, open-make}
+use Rattle.nodes.proofs.Tests.{either, never, not-so, not-none}
+use Rattle.nodes.proofs.WordLaws.{length-nodes, node-words, four-stores, nodes-put}
 use Rattle.lists.specs.Fault.{orderb}
-use Rattle.lists.specs.Walk.{firsts, unended, Behind, Chain}
+use Rattle.lists.specs.Walk.{nodeFrom, firsts, opened, unended, firstb, InDocument, Behind, Chain}
 use Rattle.nodes.specs.Choose.{All}
 
 -- the head of the first k nodes is the one before index k
@@ -53,6 +54,22 @@ firsts-put ws us k n h e =
     ∙ ap (firsts (k + 1)) (nodes-put ws k n h)
     ∙ firsts-push k (nodes ws) n (omega (arith, length-nodes ws))
 
+-- a node's words where they start, read and stored
+pub words-at : (ws : List ℕ) (w k : ℕ) → w ≡ 4 * k → k < count ws → nodeFrom ws w ≡ nodeAt ws k
+unfolding nodeFrom
+words-at ws w k q h = rw q (sym (node-words ws k h))
+
+pub stores-at : (ws : List ℕ) (w k : ℕ) (n : Node) → w ≡ 4 * k → k < count ws
+    → set (set (set (set ws w (n .document)) (w + 1) (n .start)) (w + 2) (n .end)) (w + 3) (n .level) ≡ putNode ws k n
+stores-at ws w k n q h = rw q (four-stores ws k n h)
+
+-- so a stack grows and shrinks by the words of a node
+pub top-at : (u : ℕ) (ws : List ℕ) → 0 < u → u % 4 ≡ 0 → opened u ws ≡ nodeAt ws (u / 4 - 1) ∷ opened (u - 4) ws
+top-at u ws h m = head-at (u / 4) ws (omega arith) ∙ ap (λ k. nodeAt ws (u / 4 - 1) ∷ firsts k (nodes ws)) (omega arith)
+
+pub top-put : (ws us : List ℕ) (u : ℕ) (n : Node) → u / 4 < count ws → us ≡ putNode ws (u / 4) n → opened (u + 4) us ≡ n ∷ opened u ws
+top-put ws us u n h e = ap (λ k. firsts k (nodes us)) (omega arith) ∙ firsts-put ws us (u / 4) n h e
+
 -- an open head ends the taking off; one that isn't open is taken off
 pub head-open : (k : ℕ) (ws : List ℕ) (n e : Node) → 0 < k → e ≡ nodeAt ws (k - 1) → openb n e ≡ true
     → firsts k (nodes ws) ≡ unended n (firsts k (nodes ws))
@@ -69,6 +86,23 @@ pub head-none : (k : ℕ) (ws : List ℕ) (n : Node) → k ≤ 0 → firsts k (n
 unfolding firsts unended
 head-none zero ws n h = refl
 head-none (suc k) ws n h = absurd (not-suc-le-zero h)
+
+-- the top of a stack of n's document is open where it ends at n's start or later, and has ended where it doesn't
+module _ (u : ℕ) (ws : List ℕ) (n e : Node) (h : 0 < u) (m : u % 4 ≡ 0) (q : e ≡ nodeAt ws (u / 4 - 1))
+    (a : InDocument (n .document) (opened u ws)) where
+  by-top : InDocument (n .document) (e ∷ opened (u - 4) ws)
+  by-top = rw q (subst (InDocument (n .document)) (top-at u ws h m) a)
+
+  pub top-reaches : n .start ≤ e .end → opened u ws ≡ unended n (opened u ws)
+  top-reaches r = head-open (u / 4) ws n e (omega arith) q (open-make n e (by-top .0) r)
+
+  pub top-ended : e .end < n .start → unended n (opened (u - 4) ws) ≡ unended n (opened u ws)
+  top-ended r =
+      ap (λ k. unended n (firsts k (nodes ws))) (omega arith)
+      ∙ head-shut (u / 4) ws n e (omega arith) q (not-so (λ o. let p = open-read n e o .reaches in omega arith))
+
+  pub under-top : InDocument (n .document) (opened (u - 4) ws)
+  under-top = by-top .1
 
 -- a row is at most as long as its head is deep
 pub chain-length : (e : Node) (es : List Node) → Chain (e ∷ es) → length (e ∷ es) ≤ e .level
@@ -90,6 +124,43 @@ chain-after n (e ∷ f ∷ s) ch o =
     let a : afterb n e ≡ true = not-none _ o in
     let b : afterb n f ≡ true = after-trans n e f a (inside-after e f (ch .1 .0)) in
     (a, chain-after n (f ∷ s) (ch .2) (ap not b))
+
+-- the nodes of a row are of one document: at the first node of a later one all have ended
+chain-document : (d : ℕ) (e : Node) (s : List Node) → Chain (e ∷ s) → e .document ≡ d → InDocument d (e ∷ s)
+chain-document d e [] ch q = (q, tt)
+chain-document d e (f ∷ s) ch q = (q, chain-document d f s (ch .2) (sym (within e f (ch .1 .0) .document) ∙ q))
+
+all-ended : (n : Node) (d : ℕ) (s : List Node) → d < n .document → InDocument d s → unended n s ≡ []
+unfolding unended
+all-ended n d [] h a = refl
+all-ended n d (e ∷ s) h a =
+    let q = a .0 in
+    let o : openb n e ≡ false = not-so (λ o. let p = open-read n e o .document in omega arith) in
+    rw o (all-ended n d s h (a .1))
+
+pub first-unended : (n : Node) (s : List Node) → Chain s → firstb s n ≡ true → unended n s ≡ []
+unfolding firstb unended
+first-unended n [] ch f = refl
+first-unended n (e ∷ s) ch f = all-ended n (e .document) (e ∷ s) (ltb-true _ _ f) (chain-document (e .document) e s ch refl)
+
+pub first-next : (n : Node) (s : List Node) → firstb s n ≡ true → orderb s n ≡ false
+unfolding firstb orderb
+first-next n [] f = refl
+first-next n (e ∷ s) f = ap not (after-document n e (ltb-true _ _ f))
+
+-- a node that isn't the first of its document has one before it
+pub not-first : (k : ℕ) (ns : List Node) (n : Node) → firstb (firsts k ns) n ≡ false → 0 < k
+unfolding firsts firstb
+not-first zero ns n f = absurd (never refl f)
+not-first (suc k) ns n f = omega arith
+
+-- and where it comes next it is of the row's
+pub next-document : (n : Node) (s : List Node) → Chain s → firstb s n ≡ false → orderb s n ≡ false → InDocument (n .document) s
+unfolding firstb orderb
+next-document n [] ch f o = tt
+next-document n (e ∷ s) ch f o =
+    let above : n .document ≤ e .document = ltb-false _ _ f in
+    chain-document (n .document) e s ch (⊎-elim (λ p. omega arith) (λ p. sym (p .0)) (after-read n e (not-none _ o)))
 
 -- of those left, the head is of n's document and before it
 pub behind-left : (n : Node) (s : List Node) → All (λ e. afterb n e ≡ true) s → Behind n (unended n s)

@@ -2,13 +2,11 @@
 -- A step that passed a faulty node, or named another index, would fall at `passed-on` or `stopped`.
 use mathlib.Core.Path.{_≡_, refl, sym, ap, _∙_, subst}
 use mathlib.Core.List.{List, [], _∷_}
-use Prim.Native.Nat.{ℕ, _+_, _≤_}
+use Prim.Native.Nat.{ℕ, _+_}
 use native.Mathlib.Numerals.{add-one}
 use borrow.Author.Tests.{eq-eqb, ne-eqb}
 use Rattle.nodes.specs.declared.node.Node.{Node}
 use Rattle.nodes.specs.Answer.{TAKEN}
-use Rattle.nodes.specs.Node.{MOST-LEVELS}
-use Rattle.nodes.specs.Words.{nodes}
 use Rattle.lists.specs.declared.verdict.Verdict.{Verdict}
 use Rattle.lists.specs.declared.walk.Place.{Place}
 use Rattle.lists.specs.declared.walk.Step.{Step}
@@ -16,7 +14,7 @@ use Rattle.lists.specs.declared.walk.Step.the-variants.{Reached, Refused
 use Rattle.lists.specs.Check.{checkFrom, checkNodes}
 use Rattle.lists.specs.Fault.{fault}
 use Rattle.lists.specs.Verdict.{ANCESTORS, verdict, taken, verdictOf}
-use Rattle.lists.specs.Walk.{firsts, SteppedPast}
+use Rattle.lists.specs.Walk.{opened, Fits, SteppedPast}
 use Rattle.lists.proofs.Keeping.{Kept, kept-none, kept-next, fault-told}
 
 -- a walk with the row s, at an index, with the rest of the nodes before it, where the check of all nodes says whole
@@ -40,7 +38,7 @@ walk-end w = w .same
 
 module _ {s : List Node} {n : Node} {index : ℕ} {rest : List Node} {whole : Verdict} (w : Walk s index (n ∷ rest) whole) where
   -- the check of the rest goes past a node at which nothing is wrong
-  passed-on : (words : List ℕ) (p : Place) → SteppedPast s n index (Reached p) words → Walk (firsts (p .depth) (nodes words)) (p .index) rest whole
+  passed-on : (words : List ℕ) (p : Place) → SteppedPast s n index (Reached p) words → Walk (opened (p .used) words) (p .index) rest whole
   unfolding checkFrom
   passed-on words p h =
       let f : fault (w .before) n ≡ TAKEN = fault-told (w .before) s n (w .kept) ∙ h .0 in
@@ -60,7 +58,7 @@ module _ {s : List Node} {n : Node} {index : ℕ} {rest : List Node} {whole : Ve
 
   -- what a step's answer says of the walk
   module _ (words : List ℕ) (r : Step) (h : SteppedPast s n index r words) where
-    pub walk-on : (p : Place) → r ≡ Reached p → (p .index ≡ index + 1) × (p .depth ≤ MOST-LEVELS) × Walk (firsts (p .depth) (nodes words)) (p .index) rest whole
+    pub walk-on : (p : Place) → r ≡ Reached p → (p .index ≡ index + 1) × Fits (p .used) × Walk (opened (p .used) words) (p .index) rest whole
     walk-on p e = let g = subst (λ (step : Step). SteppedPast s n index step words) e h in (g .1, g .2, passed-on words p g)
 
     pub walk-stop : (v : Verdict) → r ≡ Refused v → verdictOf r ≡ whole

@@ -1,11 +1,12 @@
 -- The merge of two lists in node order, in which a node that stands in both comes once.
-use Prim.Native.Nat.{ℕ, _+_, _≤_, _<_}
+use Prim.Native.Nat.{ℕ, _+_, _-_, _%_, _≤_}
 use mathlib.Core.Path.{_≡_}
 use mathlib.Core.Bool.{cond}
 use mathlib.Core.List.{List, [], _∷_}
 use lib.ListN.{length, drop}
 use Rattle.nodes.specs.declared.node.Node.{Node}
 use Rattle.nodes.specs.Node.{afterb, sameb}
+use Rattle.nodes.specs.Words.{NODE-WORDS, MOST-NODES, nodes, count}
 
 -- x ∷ xs merged with a list, where `later` merges xs with any list
 unfoldable pub mergeInto : Node → List Node → (List Node → List Node) → List Node → List Node
@@ -19,9 +20,17 @@ unfoldable pub merge : List Node → List Node → List Node
 merge [] ys = ys
 merge (x ∷ xs) ys = mergeInto x xs (merge xs) ys
 
--- n is the next node of the merge of xs from i on and ys from j on; the merge goes on at first and second
-pub record Drawn (xs ys : List Node) (i j : ℕ) (n : Node) (first second : ℕ) : Type 0 where
-  pub next : merge (drop i xs) (drop j ys) ≡ n ∷ merge (drop first xs) (drop second ys)
-  pub on : i + j < first + second
-  pub first-in : first ≤ length xs
-  pub second-in : second ≤ length ys
+-- the words make whole nodes, and not too many
+abbrev pub Whole : List ℕ → Type 0
+Whole words = (length words % NODE-WORDS ≡ 0) × (count words ≤ MOST-NODES)
+
+-- from a word on the words make whole nodes
+abbrev pub Cut : ℕ → List ℕ → Type 0
+Cut i words = (i ≤ length words) × ((length words - i) % NODE-WORDS ≡ 0)
+
+-- n is the next node of the merge of xs from word i on and ys from word j on; the merge goes on at the words first and second
+pub record Drawn (xs ys : List ℕ) (i j : ℕ) (n : Node) (first second : ℕ) : Type 0 where
+  pub next : merge (nodes (drop i xs)) (nodes (drop j ys)) ≡ n ∷ merge (nodes (drop first xs)) (nodes (drop second ys))
+  pub on : i + j + NODE-WORDS ≤ first + second
+  pub first-in : Cut first xs
+  pub second-in : Cut second ys

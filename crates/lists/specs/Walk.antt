@@ -1,5 +1,5 @@
 -- Words of the contracts of private functions: what a walk along a list keeps. No public contract cites this file.
-use Prim.Native.Nat.{ℕ, zero, suc, _+_, _≤_, _<_}
+use Prim.Native.Nat.{ℕ, zero, suc, _+_, _*_, _/_, _%_, _≤_, _<_}
 use mathlib.Core.Path.{_≡_}
 use mathlib.Core.Bool.{Bool, true, cond, not}
 use mathlib.Core.List.{List, [], _∷_}
@@ -7,9 +7,9 @@ use lib.Dec.{ltb}
 use lib.ListN.{getD}
 use Rattle.nodes.specs.declared.node.Node.{Node}
 use Rattle.nodes.specs.Answer.{TAKEN, LEVEL, SPAN, ORDER, CROSS, DEPTH}
-use Rattle.nodes.specs.Choose.{keep}
+use Rattle.nodes.specs.Choose.{All, keep}
 use Rattle.nodes.specs.Node.{insideb, openb, MOST-LEVELS}
-use Rattle.nodes.specs.Words.{node, nodes}
+use Rattle.nodes.specs.Words.{node, nodes, NODE-WORDS}
 use Rattle.lists.specs.declared.walk.Place.{Place}
 use Rattle.lists.specs.declared.walk.Step.{Step}
 use Rattle.lists.specs.declared.walk.Step.the-variants.{Reached, Refused}
@@ -17,12 +17,24 @@ use Rattle.lists.specs.Fault.{levelb, spanb, orderb}
 use Rattle.lists.specs.Verdict.{ANCESTORS, verdict}
 
 abbrev pub place : ℕ → ℕ → Place
-place index depth = record { index = index; depth = depth }
+place index used = record { index = index; used = used }
+
+-- the node whose words start at a place
+unfoldable pub nodeFrom : List ℕ → ℕ → Node
+nodeFrom words w = node (getD words w 0) (getD words (w + 1) 0) (getD words (w + 2) 0) (getD words (w + 3) 0)
 
 -- the first k nodes of a list, the last one first
 unfoldable pub firsts : ℕ → List Node → List Node
 firsts zero ns = []
 firsts (suc k) ns = getD ns k (node 0 0 0 0) ∷ firsts k ns
+
+-- the nodes in the first words of a stack, the last one first
+abbrev pub opened : ℕ → List ℕ → List Node
+opened used words = firsts (used / NODE-WORDS) (nodes words)
+
+-- so many words are whole nodes, no more than there are levels
+abbrev pub Fits : ℕ → Type 0
+Fits used = (used % NODE-WORDS ≡ 0) × (used ≤ NODE-WORDS * MOST-LEVELS)
 
 -- what is left of a row of nodes once those at its head that aren't open at n are taken off
 unfoldable pub unended : Node → List Node → List Node
@@ -44,6 +56,15 @@ pub record Stands (P : Node → Type 0) (before s : List Node) : Type 0 where
   pub chain : Chain s
   pub keeps : (n : Node) → P n → (test : Node → Bool) → ((e : Node) → test e ≡ true → openb n e ≡ true) → keep test before ≡ keep test s
 
+-- n is the first node of its document, as far as the head of a row tells
+unfoldable pub firstb : List Node → Node → Bool
+firstb [] n = true
+firstb (e ∷ es) n = ltb (e .document) (n .document)
+
+-- all nodes of a row are of one document
+abbrev pub InDocument : ℕ → List Node → Type 0
+InDocument d es = All (λ e. e .document ≡ d) es
+
 -- n stands in the document of a row's head, after it
 abbrev pub Behind : Node → List Node → Type 0
 Behind n [] = Unit {0}
@@ -61,7 +82,7 @@ topFault opened n = cond (levelb n) LEVEL (cond (spanb n) SPAN (cond (orderb ope
 -- a step past n, at an index: where nothing is wrong it lies at the head of those left, else it is refused for what is wrong
 abbrev pub Passed : ℕ → List Node → Node → ℕ → Step → List ℕ → Type 0
 Passed wrong left n index (Reached reached) words =
-    (wrong ≡ TAKEN) × (reached .index ≡ index + 1) × (reached .depth ≤ MOST-LEVELS) × (firsts (reached .depth) (nodes words) ≡ n ∷ left)
+    (wrong ≡ TAKEN) × (reached .index ≡ index + 1) × Fits (reached .used) × (opened (reached .used) words ≡ n ∷ left)
 Passed wrong left n index (Refused refusal) words = (wrong ≡ TAKEN → ⊥) × (refusal ≡ verdict wrong ANCESTORS index)
 
 -- a step past n from the row that was open at the node before

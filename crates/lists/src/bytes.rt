@@ -25,7 +25,7 @@ fn pass_bytes(bytes: &[u8]) -> Step
     ensures { λ r. ⌜ verdictOf r ≡ checkNodes (nodes (numbers (now (bytes .entry)))) ⌝ }
 {
     let mut stack = [0u32; STACK_WORDS];
-    let mut place = Place { index: 0, depth: 0 };
+    let mut place = Place { index: 0, used: 0 };
     let mut index = 0;
     while index < bytes.len() / NODE_BYTES {
         let step = pass_node(&mut stack, place, node_in(bytes, index));

@@ -2,76 +2,104 @@
 use crate::walk::Place;
 use crate::walk::STACK_WORDS;
 use crate::walk::Step;
+use crate::walk::node_from;
 use crate::walk::pass_node;
+use nodes::node::NODE_WORDS;
 use nodes::node::Node;
-use nodes::node::is_after;
 use nodes::node::is_same;
-use nodes::node::node_at;
-use nodes::node::node_count;
 ghost use mathlib.Core.Path.{_≡_};
-ghost use Prim.Native.Nat.{_+_, _≤_, _<_};
-ghost use Rattle.nodes.specs.Words.{nodes, count, MOST-NODES};
+ghost use Prim.Native.Nat.{_+_, _<_};
+ghost use lib.ListN.{length};
+ghost use Rattle.nodes.specs.Words.{nodes, NODE-WORDS};
 ghost use Rattle.lists.specs.Check.{checkNodes};
-ghost use Rattle.lists.specs.Merge.{merge, Drawn};
+ghost use Rattle.lists.specs.Merge.{merge, Whole, Cut, Drawn};
 ghost use Rattle.lists.specs.Verdict.{verdictOf};
+ghost use Rattle.lists.specs.Walk.{nodeFrom};
 
-// The next node of the merge, and where each list goes on after it.
+// The next node of the merge, and at which word each list goes on after it.
 struct Next {
     node: Node,
     first: usize,
     second: usize,
 }
 
-// The next node of two lists that are not both at their end: the earlier one, or both where they are identical.
-fn next_of(xs: &[u32], i: usize, ys: &[u32], j: usize) -> Next
-    requires { ⌜ (i ≤ count (now xs)) × (j ≤ count (now ys)) × (i + j < count (now xs) + count (now ys)) ⌝ }
-    ensures { λ r. ⌜ Drawn (nodes (now (xs .entry))) (nodes (now (ys .entry))) i j (r .node) (r .first) (r .second) ⌝ }
+// The first list's node, after which the second goes on at a given word.
+fn first_of(xs: &[u32], i: usize, second: usize) -> Next
+    requires { ⌜ i + 3 < length (now xs) ⌝ }
+    ensures { λ r. ⌜ (r .node ≡ nodeFrom (now (xs .entry)) i) × (r .first ≡ i + NODE-WORDS) × (r .second ≡ second) ⌝ }
 {
-    if node_count(ys) <= j {
-        return Next {
-            node: node_at(xs, i),
-            first: i + 1,
-            second: j,
-        };
-    }
-    if node_count(xs) <= i {
-        return Next {
-            node: node_at(ys, j),
-            first: i,
-            second: j + 1,
-        };
-    }
-    if is_after(node_at(ys, j), node_at(xs, i)) {
-        return Next {
-            node: node_at(xs, i),
-            first: i + 1,
-            second: j,
-        };
-    }
-    if is_same(node_at(xs, i), node_at(ys, j)) {
-        return Next {
-            node: node_at(xs, i),
-            first: i + 1,
-            second: j + 1,
-        };
-    }
     Next {
-        node: node_at(ys, j),
-        first: i,
-        second: j + 1,
+        node: node_from(xs, i),
+        first: i + NODE_WORDS,
+        second: second,
     }
 }
 
-// The walk along the merge of two lists, neither of which is too long.
+// The second list's node, after which the first stays where it is.
+fn second_of(ys: &[u32], i: usize, j: usize) -> Next
+    requires { ⌜ j + 3 < length (now ys) ⌝ }
+    ensures { λ r. ⌜ (r .node ≡ nodeFrom (now (ys .entry)) j) × (r .first ≡ i) × (r .second ≡ j + NODE-WORDS) ⌝ }
+{
+    Next {
+        node: node_from(ys, j),
+        first: i,
+        second: j + NODE_WORDS,
+    }
+}
+
+// The next node of two lists that are both at a node of one document: the one that starts earlier, or both where they are identical.
+fn next_within(xs: &[u32], i: usize, ys: &[u32], j: usize) -> Next
+    requires { ⌜ Cut i (now xs) × Cut j (now ys) × (i < length (now xs)) × (j < length (now ys))
+        × (nodeFrom (now xs) i .document ≡ nodeFrom (now ys) j .document) ⌝ }
+    ensures { λ r. ⌜ Drawn (now (xs .entry)) (now (ys .entry)) i j (r .node) (r .first) (r .second) ⌝ }
+{
+    let x = node_from(xs, i).start;
+    let y = node_from(ys, j).start;
+    if x < y {
+        return first_of(xs, i, j);
+    }
+    if x != y {
+        return second_of(ys, i, j);
+    }
+    if is_same(node_from(xs, i), node_from(ys, j)) {
+        return first_of(xs, i, j + NODE_WORDS);
+    }
+    second_of(ys, i, j)
+}
+
+// The next node of two lists that are not both at their end. Most nodes that meet are of one document, so that is asked first, and each node is
+// read word by word where a test wants it: together this takes the fewest instructions.
+fn next_of(xs: &[u32], i: usize, ys: &[u32], j: usize) -> Next
+    requires { ⌜ Cut i (now xs) × Cut j (now ys) × (i + j < length (now xs) + length (now ys)) ⌝ }
+    ensures { λ r. ⌜ Drawn (now (xs .entry)) (now (ys .entry)) i j (r .node) (r .first) (r .second) ⌝ }
+{
+    if ys.len() <= j {
+        return first_of(xs, i, j);
+    }
+    if xs.len() <= i {
+        return second_of(ys, i, j);
+    }
+    let x = node_from(xs, i).document;
+    let y = node_from(ys, j).document;
+    if x == y {
+        return next_within(xs, i, ys, j);
+    }
+    if x < y {
+        return first_of(xs, i, j);
+    }
+    second_of(ys, i, j)
+}
+
+// The walk along the merge of two lists, both of whole nodes and neither too long.
 pub(crate) fn pass_both(xs: &[u32], ys: &[u32]) -> Step
-    requires { ⌜ (count (now xs) ≤ MOST-NODES) × (count (now ys) ≤ MOST-NODES) ⌝ }
+    requires { ⌜ Whole (now xs) × Whole (now ys) ⌝ }
     ensures { λ r. ⌜ verdictOf r ≡ checkNodes (merge (nodes (now (xs .entry))) (nodes (now (ys .entry)))) ⌝ }
 {
     let mut stack = [0u32; STACK_WORDS];
-    let mut place = Place { index: 0, depth: 0 };
+    let mut place = Place { index: 0, used: 0 };
     let mut i = 0;
     let mut j = 0;
-    while i + j < node_count(xs) + node_count(ys) {
+    while i + j < xs.len() + ys.len() {
         let next = next_of(xs, i, ys, j);
         let step = pass_node(&mut stack, place, next.node);
         let Step::Reached(reached) = step else {

@@ -14,24 +14,24 @@ use nodes::node::NODE_WORDS;
 use nodes::node::Node;
 use nodes::node::ends_within;
 use nodes::node::is_after;
-use nodes::node::is_open;
 ghost use mathlib.Core.Path.{_≡_};
 ghost use mathlib.Core.Bool.{not};
 ghost use mathlib.Core.List.{_∷_};
-ghost use Prim.Native.Nat.{_+_, _*_, _≤_, _<_};
+ghost use Prim.Native.Nat.{_+_, _*_, _-_, _/_, _%_, _≤_, _<_};
+ghost use lib.ListN.{length};
 ghost use Rattle.nodes.specs.Node.{MOST-LEVELS};
-ghost use Rattle.nodes.specs.Words.{nodes, count, nodeAt, putNode, MOST-NODES};
+ghost use Rattle.nodes.specs.Words.{nodeAt, putNode, NODE-WORDS, MOST-NODES};
 ghost use Rattle.lists.specs.Fault.{orderb};
 ghost use Rattle.lists.specs.Verdict.{ANCESTORS, verdict, verdictOf};
-ghost use Rattle.lists.specs.Walk.{firsts, unended, place, Behind, Chain, SteppedPast, SteppedOnto};
+ghost use Rattle.lists.specs.Walk.{nodeFrom, opened, unended, place, firstb, Fits, InDocument, Behind, Chain, SteppedPast, SteppedOnto};
 
 // The stack's words.
 pub(crate) const STACK_WORDS: usize = NODE_WORDS * MOST_LEVELS;
 
-// Where a walk stands: how many nodes it has passed, and how many of them are on the stack.
+// Where a walk stands: how many nodes it has passed, and how many words of the stack are in use.
 pub(crate) struct Place {
     pub index: usize,
-    pub depth: usize,
+    pub used: usize,
 }
 
 // What a step answers: the place that it reached, or the refusal.
@@ -61,83 +61,98 @@ fn refused(answer: u32, index: usize) -> Step
     })
 }
 
-// The node at a place of the stack, counted from the bottom.
-fn open_at(stack: &[u32], k: usize) -> Node
-    requires { ⌜ k < count (now stack) ⌝ }
-    ensures { λ r. ⌜ r ≡ nodeAt (now (stack .entry)) k ⌝ }
+// The node whose words start at a place.
+pub(crate) fn node_from(words: &[u32], at: usize) -> Node
+    requires { ⌜ at + 3 < length (now words) ⌝ }
+    ensures { λ r. ⌜ r ≡ nodeFrom (now (words .entry)) at ⌝ }
 {
-    let at = NODE_WORDS * k;
     Node {
-        document: stack[at],
-        start: stack[at + 1],
-        end: stack[at + 2],
-        level: stack[at + 3],
+        document: words[at],
+        start: words[at + 1],
+        end: words[at + 2],
+        level: words[at + 3],
     }
 }
 
-// Whether the node stands after the last one passed, which lies on top of the stack.
-fn is_next(stack: &[u32; STACK_WORDS], depth: usize, node: Node) -> bool
-    requires { ⌜ depth ≤ MOST-LEVELS ⌝ }
-    ensures { λ r. ⌜ r ≡ not (orderb (firsts depth (nodes (now (stack .entry)))) node) ⌝ }
+// The node on top where so many words of the stack are in use.
+fn top_of(stack: &[u32], used: usize) -> Node
+    requires { ⌜ (0 < used) × (used % NODE-WORDS ≡ 0) × (used ≤ length (now stack)) ⌝ }
+    ensures { λ r. ⌜ r ≡ nodeAt (now (stack .entry)) (used / NODE-WORDS - 1) ⌝ }
 {
-    if depth == 0 {
+    node_from(stack, used - NODE_WORDS)
+}
+
+// Whether the node is the first one of its document: the last one passed, which lies on top of the stack, is of an earlier one, or there is
+// none.
+fn is_first(stack: &[u32; STACK_WORDS], used: usize, node: Node) -> bool
+    requires { ⌜ Fits used ⌝ }
+    ensures { λ r. ⌜ r ≡ firstb (opened used (now (stack .entry))) node ⌝ }
+{
+    if used == 0 {
         return true;
     }
-    is_after(node, open_at(stack, depth - 1))
+    top_of(stack, used).document < node.document
 }
 
-// How many of the nodes on the stack are left once those on top that ended before the node are taken off. What lies under an open
-// node contains it and is open too, so the first open one ends the search.
-fn left_open(stack: &[u32; STACK_WORDS], depth: usize, node: Node) -> usize
-    requires { ⌜ depth ≤ MOST-LEVELS ⌝ }
-    ensures { λ r. ⌜ (r ≤ depth) × (firsts r (nodes (now (stack .entry))) ≡ unended node (firsts depth (nodes (now (stack .entry))))) ⌝ }
+// Whether the node stands after the last one passed.
+fn is_next(stack: &[u32; STACK_WORDS], used: usize, node: Node) -> bool
+    requires { ⌜ (0 < used) × Fits used ⌝ }
+    ensures { λ r. ⌜ r ≡ not (orderb (opened used (now (stack .entry))) node) ⌝ }
 {
-    let mut left = depth;
+    is_after(node, top_of(stack, used))
+}
+
+// How many words of the stack, on which all are of the node's document, are left once the nodes on top that ended before it are taken off.
+// What lies under an open node contains it and is open too, so the first open one ends the search.
+fn left_open(stack: &[u32; STACK_WORDS], used: usize, node: Node) -> usize
+    requires { ⌜ Fits used × InDocument (node .document) (opened used (now stack)) ⌝ }
+    ensures { λ r. ⌜ Fits r × (opened r (now (stack .entry)) ≡ unended node (opened used (now (stack .entry)))) ⌝ }
+{
+    let mut left = used;
     while 0 < left {
-        if is_open(node, open_at(stack, left - 1)) {
+        if node.start <= top_of(stack, left).end {
             return left;
         }
-        left -= 1;
+        left -= NODE_WORDS;
     }
     left
 }
 
-// The node is written at a place of the stack, counted from the bottom.
-fn put_open(stack: &mut [u32], k: usize, node: Node)
-    requires { ⌜ k < count (now stack) ⌝ }
-    ensures { λ r. ⌜ now (stack .exit) ≡ putNode (now (stack .entry)) k node ⌝ }
+// The node is written behind the words of the stack that are left.
+fn put_open(stack: &mut [u32], left: usize, node: Node)
+    requires { ⌜ (left % NODE-WORDS ≡ 0) × (left + 3 < length (now stack)) ⌝ }
+    ensures { λ r. ⌜ now (stack .exit) ≡ putNode (now (stack .entry)) (left / NODE-WORDS) node ⌝ }
 {
-    let at = NODE_WORDS * k;
-    stack[at] = node.document;
-    stack[at + 1] = node.start;
-    stack[at + 2] = node.end;
-    stack[at + 3] = node.level;
+    stack[left] = node.document;
+    stack[left + 1] = node.start;
+    stack[left + 2] = node.end;
+    stack[left + 3] = node.level;
 }
 
 // The node comes to lie on top of those that are left, and the walk is one node further.
 fn push(stack: &mut [u32; STACK_WORDS], index: usize, left: usize, node: Node) -> Step
-    requires { ⌜ (index < 2 * MOST-NODES) × (left < MOST-LEVELS) ⌝ }
-    ensures { λ r. ⌜ (r ≡ Step.Reached (place (index + 1) (left + 1)))
-        × (firsts (left + 1) (nodes (now (stack .exit))) ≡ node ∷ firsts left (nodes (now (stack .entry)))) ⌝ }
+    requires { ⌜ (index < 2 * MOST-NODES) × Fits (left + NODE-WORDS) ⌝ }
+    ensures { λ r. ⌜ (r ≡ Step.Reached (place (index + 1) (left + NODE-WORDS)))
+        × (opened (left + NODE-WORDS) (now (stack .exit)) ≡ node ∷ opened left (now (stack .entry))) ⌝ }
 {
     put_open(stack, left, node);
     Step::Reached(Place {
         index: index + 1,
-        depth: left + 1,
+        used: left + NODE_WORDS,
     })
 }
 
 // The node comes to lie on top of those that are left, or it is refused: the top has to contain it and to have a lower level. The top is
 // of its document and starts before it, so only the end decides; all that lie under the top contain the top, so no other is tested.
 fn put_on_top(stack: &mut [u32; STACK_WORDS], index: usize, left: usize, node: Node) -> Step
-    requires { ⌜ (index < 2 * MOST-NODES) × (left ≤ MOST-LEVELS) × (node .level ≤ MOST-LEVELS)
-        × Chain (firsts left (nodes (now stack))) × Behind node (firsts left (nodes (now stack))) ⌝ }
-    ensures { λ r. ⌜ SteppedOnto (firsts left (nodes (now (stack .entry)))) node index r (now (stack .exit)) ⌝ }
+    requires { ⌜ (index < 2 * MOST-NODES) × Fits left × (node .level ≤ MOST-LEVELS)
+        × Chain (opened left (now stack)) × Behind node (opened left (now stack)) ⌝ }
+    ensures { λ r. ⌜ SteppedOnto (opened left (now (stack .entry))) node index r (now (stack .exit)) ⌝ }
 {
     if left == 0 {
         return push(stack, index, left, node);
     }
-    let top = open_at(stack, left - 1);
+    let top = top_of(stack, left);
     if !ends_within(node, top) {
         return refused(CROSS, index);
     }
@@ -149,8 +164,8 @@ fn put_on_top(stack: &mut [u32; STACK_WORDS], index: usize, left: usize, node: N
 
 // One step: the next node is taken and comes to lie on top of the stack, or it is refused.
 pub(crate) fn pass_node(stack: &mut [u32; STACK_WORDS], place: Place, node: Node) -> Step
-    requires { ⌜ (place .index < 2 * MOST-NODES) × (place .depth ≤ MOST-LEVELS) × Chain (firsts (place .depth) (nodes (now stack))) ⌝ }
-    ensures { λ r. ⌜ SteppedPast (firsts (place .depth) (nodes (now (stack .entry)))) node (place .index) r (now (stack .exit)) ⌝ }
+    requires { ⌜ (place .index < 2 * MOST-NODES) × Fits (place .used) × Chain (opened (place .used) (now stack)) ⌝ }
+    ensures { λ r. ⌜ SteppedPast (opened (place .used) (now (stack .entry))) node (place .index) r (now (stack .exit)) ⌝ }
 {
     let index = place.index;
     if node.level == 0 {
@@ -162,9 +177,12 @@ pub(crate) fn pass_node(stack: &mut [u32; STACK_WORDS], place: Place, node: Node
     if node.end < node.start {
         return refused(SPAN, index);
     }
-    if !is_next(stack, place.depth, node) {
+    if is_first(stack, place.used, node) {
+        return push(stack, index, 0, node);
+    }
+    if !is_next(stack, place.used, node) {
         return refused(ORDER, index);
     }
-    let left = left_open(stack, place.depth, node);
+    let left = left_open(stack, place.used, node);
     put_on_top(stack, index, left, node)
 }

@@ -8,12 +8,11 @@ use native.Mathlib.Omega.{arith}
 use lib.ListN.{length, drop}
 use denote.Ref.{now}
 use Rattle.nodes.specs.declared.node.Node.{Node}
-use Rattle.nodes.specs.Node.{MOST-LEVELS}
 use Rattle.nodes.specs.Words.{nodes}
 use Rattle.numbers.specs.Little.{NODE-BYTES, numbers, nodeIn}
 use Rattle.numbers.proofs.LittleLaws.{node-in-from, node-in-behind}
 use Rattle.lists.specs.Check.{checkNodes}
-use Rattle.lists.specs.Walk.{firsts}
+use Rattle.lists.specs.Walk.{firsts, opened, Fits}
 use Rattle.lists.proofs.Walking.{Walk, walk-as, walk-start, walk-on, walk-stop, walk-end}
 use Rattle.lists.proofs.bytes.pass_bytes.Statement.{statement}
 use Rattle.lists.proofs.bytes.pass_bytes.Tie as tie
@@ -24,21 +23,21 @@ next bs i n q h = rw q (node-in-from bs i h)
 
 abbrev Inv-loop : tie.InvT-loop
 Inv-loop bytes stack₀ place₀ index₀ stack place index =
-    (index ≤ length bytes / NODE-BYTES) × (place .index ≡ index) × (place .depth ≤ MOST-LEVELS)
-    × Walk (firsts (place .depth) (nodes stack)) (place .index) (drop index (nodes (numbers bytes))) (checkNodes (nodes (numbers bytes)))
+    (index ≤ length bytes / NODE-BYTES) × (place .index ≡ index) × Fits (place .used)
+    × Walk (opened (place .used) stack) (place .index) (drop index (nodes (numbers bytes))) (checkNodes (nodes (numbers bytes)))
 
 abbrev μ-loop : tie.MeasureT-loop
 μ-loop bytes stack₀ place₀ index₀ stack place index = length bytes / NODE-BYTES - index
 
 loop-holds : tie.Need-loop-holds Inv-loop μ-loop
 unfolding firsts
-loop-holds c = (zero-le, refl, zero-le, walk-start (nodes (numbers (now (c .before .args .bytes)))))
+loop-holds c = (zero-le, refl, (refl, zero-le), walk-start (nodes (numbers (now (c .before .args .bytes)))))
 
 node-in-requires : tie.Need-node-in-requires Inv-loop μ-loop
 node-in-requires c κs = search needs
 
 pass-node-requires : tie.Need-pass-node-requires Inv-loop μ-loop
-pass-node-requires c κs = (omega arith, omega arith, c .before .before .before .loop .inv .3 .kept .stands .chain)
+pass-node-requires c κs = (omega arith, c .before .before .before .loop .inv .2, c .before .before .before .loop .inv .3 .kept .stands .chain)
 
 enum-known-step : tie.Need-enum-known-step Inv-loop μ-loop
 enum-known-step c = search needs

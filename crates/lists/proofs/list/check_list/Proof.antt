@@ -1,7 +1,7 @@
 -- Words at fault are answered at once; whole words are walked, and a list merged with an empty one is that list.
 -- A fault of the words passed over, or a refusal given as TAKEN, falls at its return.
 use borrow.Author.Needs.{needs}
-use mathlib.Core.Path.{_≡_, sym, ap, _∙_}
+use mathlib.Core.Path.{_≡_, refl, sym, ap, _∙_}
 use mathlib.Core.List.{List, []}
 use Prim.Native.Nat.{ℕ, zero-le}
 use denote.Ref.{now}
@@ -42,7 +42,7 @@ slice-aggregate-pass-both c = search needs
 pass-both-requires : tie.Need-pass-both-requires
 pass-both-requires c κs =
     let a = c .before .before .before .before .args in
-    (whole-words (now (a .words)) .0 (sym (c .before .before .word-fault .ensures) ∙ c .before .if1 .left) .1, zero-le)
+    (whole-words (now (a .words)) .0 (sym (c .before .before .word-fault .ensures) ∙ c .before .if1 .left), (refl, zero-le))
 
 verdict-of-requires : tie.Need-verdict-of-requires
 verdict-of-requires c κs = search needs

@@ -1,135 +1,78 @@
--- Where one list is at its end the next node is the other's head, and else each return takes the head that the merge takes.
+-- Where one list is at its end the next node is the other's head, and else the documents tell, or the nodes of one document.
 -- A head left out, taken twice or taken from the wrong list falls at its return.
 use borrow.Author.Needs.{needs}
-use mathlib.Core.Path.{_≡_, sym, ap₂, _∙_}
+use mathlib.Core.Path.{ap}
 use native.Mathlib.Omega.{arith}
-use denote.Ref.{now}
-use Rattle.nodes.specs.Node.{afterb, sameb}
-use Rattle.nodes.specs.Words.{nodeAt}
-use Rattle.lists.proofs.Drawing.{only-first, only-second, take-first, take-both, take-second}
+use Rattle.nodes.specs.declared.node.Node.{Node}
+use Rattle.lists.proofs.Drawing.{drawn-as, only-first, only-second, earlier-first, earlier-second}
 use Rattle.lists.proofs.merge.next_of.Statement.{statement}
 use Rattle.lists.proofs.merge.next_of.Tie as tie
 
--- what the two tests say of the heads
-later : (c : tie.After-is-after) → let a = c .before .before .before .before .before .before .before .before .before .args in
-    c .is-after .result ≡ afterb (nodeAt (now (a .ys)) (a .j)) (nodeAt (now (a .xs)) (a .i))
-later c = c .is-after .ensures ∙ ap₂ afterb (c .before .before .node-at3 .ensures) (c .before .node-at4 .ensures)
-
-alike : (c : tie.After-is-same) → let a = c .before .before .before .before .before .before .before .before .before .before .before .before .before .args in
-    c .is-same .result ≡ sameb (nodeAt (now (a .xs)) (a .i)) (nodeAt (now (a .ys)) (a .j))
-alike c = c .is-same .ensures ∙ ap₂ sameb (c .before .before .node-at6 .ensures) (c .before .node-at7 .ensures)
-
-node-count-requires : tie.Need-node-count-requires
-node-count-requires c κs = search needs
-
-node-at-requires : tie.Need-node-at-requires
-node-at-requires c κs = search needs
-
-add-t8 : tie.Need-add-t8
-add-t8 c = search needs
+first-of-requires : tie.Need-first-of-requires
+first-of-requires c κs = search needs
 
 returns : tie.Need-returns
 returns c =
-    let a = c .before .before .before .before .before .args in
-    only-first (now (a .xs)) (now (a .ys)) (a .i) (a .j) (omega arith) (omega arith) (omega arith) (omega arith) _ (c .node-at .ensures)
+    let pre = c .before .before .before .before .pre in
+    drawn-as (c .first-of .ensures) (only-first _ _ _ _ (pre .0) (pre .1) (omega arith) (omega arith))
 
-node-count-requires-2 : tie.Need-node-count-requires-2
-node-count-requires-2 c κs = search needs
-
-node-at-requires-2 : tie.Need-node-at-requires-2
-node-at-requires-2 c κs = search needs
-
-add-t10 : tie.Need-add-t10
-add-t10 c = search needs
+second-of-requires : tie.Need-second-of-requires
+second-of-requires c κs = search needs
 
 returns-2 : tie.Need-returns-2
 returns-2 c =
-    let a = c .before .before .before .before .before .before .before .args in
-    only-second (now (a .xs)) (now (a .ys)) (a .i) (a .j) (omega arith) (omega arith) (omega arith) (omega arith) _ (c .node-at2 .ensures)
+    let pre = c .before .before .before .before .before .pre in
+    drawn-as (c .second-of .ensures) (only-second _ _ _ _ (pre .0) (pre .1) (omega arith) (omega arith))
 
-node-at-requires-3 : tie.Need-node-at-requires-3
-node-at-requires-3 c κs = search needs
+node-from-requires : tie.Need-node-from-requires
+node-from-requires c κs = search needs
 
-node-at-requires-4 : tie.Need-node-at-requires-4
-node-at-requires-4 c κs = search needs
+node-from-requires-2 : tie.Need-node-from-requires-2
+node-from-requires-2 c κs = search needs
 
-is-after-requires : tie.Need-is-after-requires
-is-after-requires c κs = search needs
-
-node-at-requires-5 : tie.Need-node-at-requires-5
-node-at-requires-5 c κs = search needs
-
-add-t15 : tie.Need-add-t15
-add-t15 c = search needs
+next-within-requires : tie.Need-next-within-requires
+next-within-requires c κs =
+    let pre = c .before .before .before .before .before .before .before .pre in
+    let p = ap (λ (n : Node). n .document) (c .before .before .node-from .ensures) in
+    let q = ap (λ (n : Node). n .document) (c .before .node-from2 .ensures) in
+    (pre .0, pre .1, omega arith, omega arith, omega (arith, p, q))
 
 returns-3 : tie.Need-returns-3
-returns-3 c =
-    let a = c .before .before .before .before .before .before .before .before .before .before .before .args in
-    take-first (now (a .xs)) (now (a .ys)) (a .i) (a .j) (omega arith) (omega arith) _ (c .node-at5 .ensures) (sym (later (c .before .before)) ∙ c .before .if3 .taken)
+returns-3 c = search needs
 
-node-at-requires-6 : tie.Need-node-at-requires-6
-node-at-requires-6 c κs = search needs
-
-node-at-requires-7 : tie.Need-node-at-requires-7
-node-at-requires-7 c κs = search needs
-
-is-same-requires : tie.Need-is-same-requires
-is-same-requires c κs = search needs
-
-node-at-requires-8 : tie.Need-node-at-requires-8
-node-at-requires-8 c κs = search needs
-
-add-t18 : tie.Need-add-t18
-add-t18 c = search needs
-
-add-t19 : tie.Need-add-t19
-add-t19 c = search needs
+first-of-requires-2 : tie.Need-first-of-requires-2
+first-of-requires-2 c κs = search needs
 
 returns-4 : tie.Need-returns-4
 returns-4 c =
-    let first = c .before .before .before .before .before in
-    let a = first .before .before .before .before .before .before .before .before .before .before .args in
-    take-both (now (a .xs)) (now (a .ys)) (a .i) (a .j) (omega arith) (omega arith) _ (sym (later (first .before)) ∙ first .if3 .left) (c .node-at8 .ensures)
-    (sym (alike (c .before .before)) ∙ c .before .if4 .taken)
+    let pre = c .before .before .before .before .before .before .before .before .before .pre in
+    let p = ap (λ (n : Node). n .document) (c .before .before .before .before .node-from .ensures) in
+    let q = ap (λ (n : Node). n .document) (c .before .before .before .node-from2 .ensures) in
+    drawn-as (c .first-of2 .ensures) (earlier-first _ _ _ _ (pre .0) (pre .1) (omega arith) (omega arith) (omega (arith, p, q)))
 
-node-at-requires-9 : tie.Need-node-at-requires-9
-node-at-requires-9 c κs = search needs
-
-add-t5 : tie.Need-add-t5
-add-t5 c = search needs
+second-of-requires-2 : tie.Need-second-of-requires-2
+second-of-requires-2 c κs = search needs
 
 returns-5 : tie.Need-returns-5
 returns-5 c =
-    let first = c .before .before .before .before .before in
-    let a = first .before .before .before .before .before .before .before .before .before .before .args in
-    take-second (now (a .xs)) (now (a .ys)) (a .i) (a .j) (omega arith) (omega arith) _ (sym (later (first .before)) ∙ first .if3 .left) (c .node-at9 .ensures)
-    (sym (alike (c .before .before)) ∙ c .before .if4 .left)
+    let pre = c .before .before .before .before .before .before .before .before .before .pre in
+    let p = ap (λ (n : Node). n .document) (c .before .before .before .before .node-from .ensures) in
+    let q = ap (λ (n : Node). n .document) (c .before .before .before .node-from2 .ensures) in
+    drawn-as (c .second-of2 .ensures) (earlier-second _ _ _ _ (pre .0) (pre .1) (omega arith) (omega arith) (omega (arith, p, q)))
 
 pub next-of-spec : {M : Type 1} → statement M
 next-of-spec =
     tie.close
     (tie.spec
-    node-count-requires
-    node-at-requires
-    add-t8
+    first-of-requires
     returns
-    node-count-requires-2
-    node-at-requires-2
-    add-t10
+    second-of-requires
     returns-2
-    node-at-requires-3
-    node-at-requires-4
-    is-after-requires
-    node-at-requires-5
-    add-t15
+    node-from-requires
+    node-from-requires-2
+    next-within-requires
     returns-3
-    node-at-requires-6
-    node-at-requires-7
-    is-same-requires
-    node-at-requires-8
-    add-t18
-    add-t19
+    first-of-requires-2
     returns-4
-    node-at-requires-9
-    add-t5
+    second-of-requires-2
     returns-5)

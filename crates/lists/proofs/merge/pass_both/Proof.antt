@@ -1,16 +1,15 @@
 -- The invariant is the walk along what is left of the merge; each turn draws its next node and passes it.
 -- A node drawn and not passed, or a list that goes on at the wrong place, falls at the next turn.
 use borrow.Author.Needs.{needs}
-use Prim.Native.Nat.{_+_, _-_, _≤_, zero-le}
+use mathlib.Core.Path.{refl}
+use Prim.Native.Nat.{_+_, _*_, _-_, _≤_, zero-le}
 use native.Mathlib.Omega.{arith}
-use lib.ListN.{drop}
+use lib.ListN.{length, drop}
 use denote.Ref.{now}
-use Rattle.nodes.specs.Node.{MOST-LEVELS}
-use Rattle.nodes.specs.Words.{nodes, count}
-use Rattle.nodes.proofs.WordLaws.{length-nodes}
+use Rattle.nodes.specs.Words.{nodes}
 use Rattle.lists.specs.Check.{checkNodes}
-use Rattle.lists.specs.Merge.{merge}
-use Rattle.lists.specs.Walk.{firsts}
+use Rattle.lists.specs.Merge.{merge, Cut}
+use Rattle.lists.specs.Walk.{firsts, opened, Fits}
 use Rattle.lists.proofs.Drawing.{none-left}
 use Rattle.lists.proofs.Walking.{Walk, walk-as, walk-start, walk-on, walk-stop, walk-end}
 use Rattle.lists.proofs.merge.pass_both.Statement.{statement}
@@ -18,33 +17,35 @@ use Rattle.lists.proofs.merge.pass_both.Tie as tie
 
 abbrev Inv-loop : tie.InvT-loop
 Inv-loop xs ys stack₀ place₀ i₀ j₀ stack place i j =
-    (i ≤ count xs) × (j ≤ count ys) × (place .index ≤ i + j) × (place .depth ≤ MOST-LEVELS)
-    × Walk (firsts (place .depth) (nodes stack)) (place .index) (merge (drop i (nodes xs)) (drop j (nodes ys))) (checkNodes (merge (nodes xs) (nodes ys)))
+    Cut i xs × Cut j ys × (4 * place .index ≤ i + j) × Fits (place .used)
+    × Walk (opened (place .used) stack) (place .index) (merge (nodes (drop i xs)) (nodes (drop j ys))) (checkNodes (merge (nodes xs) (nodes ys)))
 
 abbrev μ-loop : tie.MeasureT-loop
-μ-loop xs ys stack₀ place₀ i₀ j₀ stack place i j = count xs + count ys - (i + j)
+μ-loop xs ys stack₀ place₀ i₀ j₀ stack place i j = length xs + length ys - (i + j)
 
 loop-holds : tie.Need-loop-holds Inv-loop μ-loop
 unfolding firsts
-loop-holds c = (zero-le, zero-le, zero-le, zero-le, walk-start (merge (nodes (now (c .before .before .args .xs))) (nodes (now (c .before .before .args .ys)))))
+loop-holds c = (
+  (zero-le, omega arith),
+  (zero-le, omega arith),
+  zero-le,
+  (refl, zero-le),
+  walk-start (merge (nodes (now (c .before .before .args .xs))) (nodes (now (c .before .before .args .ys)))),
+)
 
-add-if1 : tie.Need-add-if1 Inv-loop μ-loop
-add-if1 c = search needs
+add-loop : tie.Need-add-loop Inv-loop μ-loop
+add-loop c = search needs
 
-node-count-requires : tie.Need-node-count-requires Inv-loop μ-loop
-node-count-requires c κs = search needs
-
-node-count-requires-2 : tie.Need-node-count-requires-2 Inv-loop μ-loop
-node-count-requires-2 c κs = search needs
-
-add-if1-2 : tie.Need-add-if1-2 Inv-loop μ-loop
-add-if1-2 c = search needs
+add-loop-2 : tie.Need-add-loop-2 Inv-loop μ-loop
+add-loop-2 c = search needs
 
 next-of-requires : tie.Need-next-of-requires Inv-loop μ-loop
 next-of-requires c κs = search needs
 
 pass-node-requires : tie.Need-pass-node-requires Inv-loop μ-loop
-pass-node-requires c κs = (omega arith, omega arith, c .before .before .before .before .before .loop .inv .4 .kept .stands .chain)
+pass-node-requires c κs =
+    let i = c .before .before .before .loop .inv in
+    (omega arith, i .3, i .4 .kept .stands .chain)
 
 enum-known-step : tie.Need-enum-known-step Inv-loop μ-loop
 enum-known-step c = search needs
@@ -56,24 +57,22 @@ returns : tie.Need-returns Inv-loop μ-loop
 returns c =
     let stepped = c .before .before in
     let drawn = stepped .before .before in
-    walk-stop (walk-as (drawn .next-of .ensures .next) (drawn .before .before .before .before .loop .inv .4)) _ _ (stepped .pass-node .ensures) _ (c .enum-told .given .1)
+    walk-stop (walk-as (drawn .next-of .ensures .next) (drawn .before .before .loop .inv .4)) _ _ (stepped .pass-node .ensures) _ (c .enum-told .given .1)
 
 loop-less : tie.Need-loop-less Inv-loop μ-loop
 loop-less c =
-    let a = c .before .before .before .before .before .before .before .before .before .before .before .before .args in
     let d = c .before .before .before .before .before .next-of .ensures in
-    omega (arith, d .on, d .first-in, d .second-in, length-nodes (now (a .xs)), length-nodes (now (a .ys)))
+    omega (arith, d .on, d .first-in .0, d .second-in .0)
 
 loop-again : tie.Need-loop-again Inv-loop μ-loop
 loop-again c =
     let stepped = c .before .before .before in
     let drawn = stepped .before .before in
-    let a = drawn .before .before .before .before .before .before .before .args in
     let d = drawn .next-of .ensures in
-    let w = walk-on (walk-as (d .next) (drawn .before .before .before .before .loop .inv .4)) _ _ (stepped .pass-node .ensures) _ (c .before .step .given .1) in
+    let w = walk-on (walk-as (d .next) (drawn .before .before .loop .inv .4)) _ _ (stepped .pass-node .ensures) _ (c .before .step .given .1) in
     let i = w .0 in (
-      omega (arith, d .first-in, length-nodes (now (a .xs))),
-      omega (arith, d .second-in, length-nodes (now (a .ys))),
+      d .first-in,
+      d .second-in,
       omega (arith, d .on),
       w .1,
       w .2,
@@ -81,8 +80,8 @@ loop-again c =
 
 returns-2 : tie.Need-returns-2 Inv-loop μ-loop
 returns-2 c =
-    let a = c .before .before .before .before .before .before .args in
-    let l = c .before .before .before .loop in
+    let a = c .before .before .before .before .args in
+    let l = c .before .loop in
     walk-end (walk-as (none-left (now (a .xs)) (now (a .ys)) (l .i) (l .j) (omega arith) (omega arith)) (l .inv .4))
 
 pub pass-both-spec : {M : Type 1} → statement M
@@ -92,10 +91,8 @@ pass-both-spec =
     Inv-loop
     μ-loop
     loop-holds
-    add-if1
-    node-count-requires
-    node-count-requires-2
-    add-if1-2
+    add-loop
+    add-loop-2
     next-of-requires
     pass-node-requires
     enum-known-step

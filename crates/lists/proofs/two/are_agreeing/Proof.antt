@@ -70,8 +70,8 @@ pass-both-requires : tie.Need-pass-both-requires
 pass-both-requires c κs =
     let a = c .before .before .before .before .before .before .args in
     let first = c .before .before in (
-      whole-words (now (a .ancestors)) .0 (sym (first .before .word-fault .ensures) ∙ first .if1 .left) .1,
-      whole-words (now (a .descendants)) .0 (sym (c .before .word-fault2 .ensures) ∙ c .if2 .left) .1,
+      whole-words (now (a .ancestors)) .0 (sym (first .before .word-fault .ensures) ∙ first .if1 .left),
+      whole-words (now (a .descendants)) .0 (sym (c .before .word-fault2 .ensures) ∙ c .if2 .left),
     )
 
 verdict-of-requires : tie.Need-verdict-of-requires

@@ -1,46 +1,36 @@
 -- The node before is the head of the row, which lies on top of the stack.
--- A node compared with another, or the wrong way round, falls at the second return.
+-- A node compared with another, or the wrong way round, falls at the return.
 use borrow.Author.Needs.{needs}
-use mathlib.Core.Path.{_≡_, refl, sym, _∙_}
-use mathlib.Core.Bool.{true, not, Bool·not-not}
+use mathlib.Core.Path.{_≡_, sym, _∙_}
+use mathlib.Core.Bool.{not, Bool·not-not}
 use mathlib.Core.List.{List}
-use Prim.Native.Nat.{ℕ, _-_, _<_}
+use Prim.Native.Nat.{ℕ, _-_, _/_, _%_, _<_}
 use native.Mathlib.Omega.{arith}
 use denote.Ref.{now}
 use Rattle.nodes.specs.declared.node.Node.{Node}
 use Rattle.nodes.specs.Node.{afterb}
-use Rattle.nodes.specs.Words.{nodes, nodeAt}
+use Rattle.nodes.specs.Words.{nodeAt}
 use Rattle.lists.specs.Fault.{orderb}
-use Rattle.lists.specs.Walk.{firsts}
-use Rattle.lists.proofs.WalkLaws.{head-at}
+use Rattle.lists.specs.Walk.{opened}
+use Rattle.lists.proofs.WalkLaws.{top-at}
 use Rattle.lists.proofs.walk.is_next.Statement.{statement}
 use Rattle.lists.proofs.walk.is_next.Tie as tie
 
-alone : (ws : List ℕ) (k : ℕ) (n : Node) → k ≡ 0 → true ≡ not (orderb (firsts k (nodes ws)) n)
-unfolding firsts orderb
-alone ws k n h = rw h refl
-
-next : (ws : List ℕ) (k : ℕ) (n e : Node) → 0 < k → e ≡ nodeAt ws (k - 1) → afterb n e ≡ not (orderb (firsts k (nodes ws)) n)
+next : (ws : List ℕ) (u : ℕ) (n e : Node) → 0 < u → u % 4 ≡ 0 → e ≡ nodeAt ws (u / 4 - 1) → afterb n e ≡ not (orderb (opened u ws) n)
 unfolding orderb
-next ws k n e h q = rw (head-at k ws h, ← q) (sym (Bool·not-not (afterb n e)))
+next ws u n e h m q = rw (top-at u ws h m, ← q) (sym (Bool·not-not (afterb n e)))
 
-returns : tie.Need-returns
-returns c = alone (now (c .before .args .stack)) _ (c .before .args .node) (c .if1 .taken)
-
-sub-open-at : tie.Need-sub-open-at
-sub-open-at c = search needs
-
-open-at-requires : tie.Need-open-at-requires
-open-at-requires c κs = search needs
+top-of-requires : tie.Need-top-of-requires
+top-of-requires c κs = search needs
 
 is-after-requires : tie.Need-is-after-requires
 is-after-requires c κs = search needs
 
-returns-2 : tie.Need-returns-2
-returns-2 c =
-    let a = c .before .before .before .before .args in
-    c .is-after .ensures ∙ next (now (a .stack)) (a .depth) (a .node) _ (omega arith) (c .before .open-at .ensures)
+returns : tie.Need-returns
+returns c =
+    let a = c .before .before .before .args in
+    c .is-after .ensures ∙ next (now (a .stack)) (a .used) (a .node) _ (omega arith) (omega arith) (c .before .top-of .ensures)
 
 pub is-next-spec : {M : Type 1} → statement M
 is-next-spec =
-    tie.close (tie.spec returns sub-open-at open-at-requires is-after-requires returns-2)
+    tie.close (tie.spec top-of-requires is-after-requires returns)

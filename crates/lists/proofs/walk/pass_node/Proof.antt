@@ -3,14 +3,15 @@
 use borrow.Author.Needs.{needs}
 use mathlib.Core.Path.{_≡_, sym, subst, _∙_}
 use mathlib.Core.Bool.{Bool, true, false, not}
+use Prim.Native.Nat.{_/_}
 use native.Mathlib.Omega.{arith}
 use borrow.Author.Tests.{not-true, not-false}
 use denote.Ref.{now}
 use Rattle.nodes.specs.Words.{nodes}
 use Rattle.lists.specs.Fault.{orderb}
-use Rattle.lists.specs.Walk.{firsts, Behind, Chain}
-use Rattle.lists.proofs.WalkLaws.{chain-left, chain-after, behind-left}
-use Rattle.lists.proofs.Steps.{passed-low, passed-high, passed-span, passed-order, passed-rest}
+use Rattle.lists.specs.Walk.{opened, Behind, Chain}
+use Rattle.lists.proofs.WalkLaws.{chain-left, chain-after, behind-left, not-first, next-document}
+use Rattle.lists.proofs.Steps.{passed-low, passed-high, passed-span, passed-first, passed-order, passed-rest}
 use Rattle.lists.proofs.walk.pass_node.Statement.{statement}
 use Rattle.lists.proofs.walk.pass_node.Tie as tie
 
@@ -27,7 +28,7 @@ refused-requires c κs = search needs
 returns : tie.Need-returns
 returns c =
     let a = c .before .before .before .args in
-    passed-low (firsts (a .place .depth) (nodes (now (a .stack)))) (a .node) _ _ _ (c .before .if1 .taken) (c .refused .ensures)
+    passed-low (opened (a .place .used) (now (a .stack))) (a .node) _ _ _ (c .before .if1 .taken) (c .refused .ensures)
 
 cast-if2 : tie.Need-cast-if2
 cast-if2 c = search needs
@@ -38,7 +39,7 @@ refused-requires-2 c κs = search needs
 returns-2 : tie.Need-returns-2
 returns-2 c =
     let a = c .before .before .before .before .before .args in
-    passed-high (firsts (a .place .depth) (nodes (now (a .stack)))) (a .node) _ _ _ (omega arith) (omega arith) (c .refused2 .ensures)
+    passed-high (opened (a .place .used) (now (a .stack))) (a .node) _ _ _ (omega arith) (omega arith) (c .refused2 .ensures)
 
 refused-requires-3 : tie.Need-refused-requires-3
 refused-requires-3 c κs = search needs
@@ -46,30 +47,57 @@ refused-requires-3 c κs = search needs
 returns-3 : tie.Need-returns-3
 returns-3 c =
     let a = c .before .before .before .before .before .before .before .args in
-    passed-span (firsts (a .place .depth) (nodes (now (a .stack)))) (a .node) _ _ _ (omega arith) (omega arith) (omega arith) (c .refused3 .ensures)
+    passed-span (opened (a .place .used) (now (a .stack))) (a .node) _ _ _ (omega arith) (omega arith) (omega arith) (c .refused3 .ensures)
+
+is-first-requires : tie.Need-is-first-requires
+is-first-requires c κs = search needs
+
+push-requires : tie.Need-push-requires
+push-requires c κs = search needs
+
+returns-4 : tie.Need-returns-4
+returns-4 c =
+    let start = c .before .before .before .before .before .before .before .before .before .before .before in
+    let a = start .args in
+    passed-first (opened (a .place .used) (now (a .stack))) (a .node) _ _ _
+    (record { lowest = omega arith; highest = omega arith; span = omega arith })
+    (start .pre .2) (sym (c .before .before .before .is-first .ensures) ∙ c .before .before .if4 .taken) (now (a .stack)) (c .push .ensures)
 
 is-next-requires : tie.Need-is-next-requires
-is-next-requires c κs = search needs
+is-next-requires c κs =
+    let a = c .before .before .before .before .before .before .before .before .before .before .args in
+    let told = sym (c .before .before .is-first .ensures) ∙ c .before .if4 .left in
+    let some = not-first (a .place .used / 4) (nodes (now (a .stack))) (a .node) told in
+    (omega arith, (omega arith, omega arith))
 
 refused-requires-4 : tie.Need-refused-requires-4
 refused-requires-4 c κs = search needs
 
-returns-4 : tie.Need-returns-4
-returns-4 c =
-    let a = c .before .before .before .before .before .before .before .before .before .before .args in
-    passed-order (firsts (a .place .depth) (nodes (now (a .stack)))) (a .node) _ _ _ (record { lowest = omega arith; highest = omega arith; span = omega arith })
-    (strays (c .before .before .is-next .ensures) (c .before .if4 .taken)) (c .refused4 .ensures)
+returns-5 : tie.Need-returns-5
+returns-5 c =
+    let a = c .before .before .before .before .before .before .before .before .before .before .before .before .before .args in
+    passed-order (opened (a .place .used) (now (a .stack))) (a .node) _ _ _
+    (record { lowest = omega arith; highest = omega arith; span = omega arith })
+    (strays (c .before .before .is-next .ensures) (c .before .if5 .taken)) (c .refused4 .ensures)
 
 left-open-requires : tie.Need-left-open-requires
-left-open-requires c κs = search needs
+left-open-requires c κs =
+    let start = c .before .before .before .before .before .before .before .before .before .before .before .before .before in
+    let a = start .args in
+    let at-first = c .before .before .before .before in (
+      omega arith,
+      next-document (a .node) (opened (a .place .used) (now (a .stack))) (start .pre .2)
+          (sym (at-first .before .is-first .ensures) ∙ at-first .if4 .left)
+          (follows (c .before .before .is-next .ensures) (c .before .if5 .left)),
+    )
 
 put-on-top-requires : tie.Need-put-on-top-requires
 put-on-top-requires c κs =
-    let start = c .before .before .before .before .before .before .before .before .before .before .before .before in
+    let start = c .before .before .before .before .before .before .before .before .before .before .before .before .before .before .before in
     let left = c .before .left-open .ensures in
     let at-next = c .before .before .before in
-    let next : orderb (firsts (start .args .place .depth) (nodes (now (start .args .stack)))) (start .args .node) ≡ false =
-    follows (at-next .before .is-next .ensures) (at-next .if4 .left) in (
+    let next : orderb (opened (start .args .place .used) (now (start .args .stack))) (start .args .node) ≡ false =
+    follows (at-next .before .is-next .ensures) (at-next .if5 .left) in (
       omega arith,
       omega arith,
       omega arith,
@@ -77,13 +105,13 @@ put-on-top-requires c κs =
       subst (Behind (start .args .node)) (sym (left .1)) (behind-left (start .args .node) _ (chain-after (start .args .node) _ (start .pre .2) next)),
     )
 
-returns-5 : tie.Need-returns-5
-returns-5 c =
-    let a = c .before .before .before .before .before .before .before .before .before .before .before .before .before .args in
+returns-6 : tie.Need-returns-6
+returns-6 c =
+    let a = c .before .before .before .before .before .before .before .before .before .before .before .before .before .before .before .before .args in
     let at-next = c .before .before .before .before in
-    passed-rest (firsts (a .place .depth) (nodes (now (a .stack)))) (a .node) (a .place .index) (c .put-on-top .last .0) (c .put-on-top .result)
+    passed-rest (opened (a .place .used) (now (a .stack))) (a .node) (a .place .index) (c .put-on-top .last .0) (c .put-on-top .result)
     (record { lowest = omega arith; highest = omega arith; span = omega arith })
-    (follows (at-next .before .is-next .ensures) (at-next .if4 .left)) _ (c .before .before .left-open .ensures .1) (c .put-on-top .ensures)
+    (follows (at-next .before .is-next .ensures) (at-next .if5 .left)) _ (c .before .before .left-open .ensures .1) (c .put-on-top .ensures)
 
 pub pass-node-spec : {M : Type 1} → statement M
 pass-node-spec =
@@ -96,9 +124,12 @@ pass-node-spec =
     returns-2
     refused-requires-3
     returns-3
+    is-first-requires
+    push-requires
+    returns-4
     is-next-requires
     refused-requires-4
-    returns-4
+    returns-5
     left-open-requires
     put-on-top-requires
-    returns-5)
+    returns-6)

@@ -4,7 +4,7 @@ use borrow.Author.Needs.{needs}
 use mathlib.Core.Path.{refl}
 use native.Mathlib.Omega.{arith}
 use denote.Ref.{now}
-use Rattle.lists.proofs.WalkLaws.{firsts-put}
+use Rattle.lists.proofs.WalkLaws.{top-put}
 use Rattle.lists.proofs.walk.push.Statement.{statement}
 use Rattle.lists.proofs.walk.push.Tie as tie
 
@@ -20,7 +20,7 @@ add-t9 c = search needs
 returns : tie.Need-returns
 returns c =
     let a = c .before .before .args in
-    (refl, firsts-put (now (a .stack)) _ (a .left) (a .node) (omega (arith, c .before .put-open-arg .given)) (c .put-open .ensures))
+    (refl, top-put (now (a .stack)) _ (a .left) (a .node) (omega (arith, c .before .put-open-arg .given)) (c .put-open .ensures))
 
 pub push-spec : {M : Type 1} → statement M
 push-spec = tie.close (tie.spec put-open-requires add-t8 add-t9 returns)

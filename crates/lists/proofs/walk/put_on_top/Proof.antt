@@ -5,7 +5,7 @@ use mathlib.Core.Path.{sym, _∙_}
 use native.Mathlib.Omega.{arith}
 use borrow.Author.Tests.{not-true, not-false}
 use denote.Ref.{now}
-use Rattle.lists.proofs.Steps.{room, passed-alone, passed-cross, passed-depth, passed-on}
+use Rattle.lists.proofs.Steps.{room-on, passed-alone, passed-cross, passed-depth, passed-on}
 use Rattle.lists.proofs.walk.put_on_top.Statement.{statement}
 use Rattle.lists.proofs.walk.put_on_top.Tie as tie
 
@@ -17,11 +17,8 @@ returns c =
     let a = c .before .before .before .args in
     passed-alone (now (a .stack)) (a .left) (a .node) _ _ _ (c .before .before .if1 .taken) (c .push .ensures)
 
-sub-open-at : tie.Need-sub-open-at
-sub-open-at c = search needs
-
-open-at-requires : tie.Need-open-at-requires
-open-at-requires c κs = search needs
+top-of-requires : tie.Need-top-of-requires
+top-of-requires c κs = search needs
 
 ends-within-requires : tie.Need-ends-within-requires
 ends-within-requires c κs = search needs
@@ -33,8 +30,8 @@ returns-2 : tie.Need-returns-2
 returns-2 c =
     let start = c .before .before .before .before .before .before .before in
     let a = start .args in
-    let top = c .before .before .before .open-at .ensures in
-    passed-cross (now (a .stack)) (a .left) (a .node) _ _ _ _ (omega arith) top (start .pre .4)
+    let top = c .before .before .before .top-of .ensures in
+    passed-cross (now (a .stack)) (a .left) (a .node) _ _ _ _ (omega arith) (start .pre .1) top (start .pre .4)
     (sym (c .before .before .ends-within .ensures) ∙ not-true _ (c .before .if2 .taken)) (c .refused .ensures)
 
 refused-requires-2 : tie.Need-refused-requires-2
@@ -45,26 +42,26 @@ returns-3 c =
     let start = c .before .before .before .before .before .before .before .before .before .before in
     let a = start .args in
     let at-top = c .before .before .before .before in
-    let top = at-top .before .before .open-at .ensures in
-    passed-depth (now (a .stack)) (a .left) (a .node) _ _ _ _ (omega arith) top (start .pre .4)
+    let top = at-top .before .before .top-of .ensures in
+    passed-depth (now (a .stack)) (a .left) (a .node) _ _ _ _ (omega arith) (start .pre .1) top (start .pre .4)
     (sym (at-top .before .ends-within .ensures) ∙ not-false _ (at-top .if2 .left)) (omega arith) (c .refused2 .ensures)
 
 push-requires-2 : tie.Need-push-requires-2
 push-requires-2 c κs =
     let start = c .before .before .before .before .before .before .before .before .before .before in
     let a = start .args in
-    let top = c .before .before .before .before .before .before .open-at .ensures in
-    (omega arith, room (a .left) (now (a .stack)) (a .node) _ (omega arith) top (start .pre .3) (omega arith) (omega arith))
+    let top = c .before .before .before .before .before .before .top-of .ensures in
+    (omega arith, room-on (a .left) (now (a .stack)) (a .node) _ (omega arith) (start .pre .1) top (start .pre .3) (omega arith) (omega arith))
 
 returns-4 : tie.Need-returns-4
 returns-4 c =
     let start = c .before .before .before .before .before .before .before .before .before .before .before in
     let a = start .args in
     let at-top = c .before .before .before .before .before in
-    let top = at-top .before .before .open-at .ensures in
-    passed-on (now (a .stack)) (a .left) (a .node) _ _ _ _ (omega arith) top (start .pre .4)
+    let top = at-top .before .before .top-of .ensures in
+    passed-on (now (a .stack)) (a .left) (a .node) _ _ _ _ (omega arith) (start .pre .1) top (start .pre .4)
     (sym (at-top .before .ends-within .ensures) ∙ not-false _ (at-top .if2 .left)) (omega arith)
-    (room (a .left) (now (a .stack)) (a .node) _ (omega arith) top (start .pre .3) (omega arith) (omega arith)) (c .push2 .ensures)
+    (room-on (a .left) (now (a .stack)) (a .node) _ (omega arith) (start .pre .1) top (start .pre .3) (omega arith) (omega arith)) (c .push2 .ensures)
 
 pub put-on-top-spec : {M : Type 1} → statement M
 put-on-top-spec =
@@ -72,8 +69,7 @@ put-on-top-spec =
     (tie.spec
     push-requires
     returns
-    sub-open-at
-    open-at-requires
+    top-of-requires
     ends-within-requires
     refused-requires
     returns-2
