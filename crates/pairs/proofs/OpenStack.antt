@@ -34,13 +34,14 @@ module _ (ws : List ℕ) (d : Node) (taken : checkWords ws .answer ≡ TAKEN) wh
       (open-push d (nodeAt ws i) (firsts i (nodes ws)) (firsts depth (nodes stack)) (all-at Sound (nodes ws) i (node 0 0 0 0) m (t .2))
       (fine-before (nodes ws) (t .3) i m) h (o .row))
 
-  -- its level is no higher than the highest, and with those that are open at it it makes a chain
+  -- the stack is no higher than it may be, the next ancestor's level neither, and with those that are open at it it makes a chain
   pub next-fits : (depth i : ℕ) (stack : List ℕ) (a : Node) → Opening ws d depth i stack → i < count ws → a ≡ nodeAt ws i → afterb d a ≡ true
-      → (a .level ≤ MOST-LEVELS) × Chain (a ∷ unended a (firsts depth (nodes stack)))
+      → (depth ≤ MOST-LEVELS) × (a .level ≤ MOST-LEVELS) × Chain (a ∷ unended a (firsts depth (nodes stack)))
   unfolding nodeAt
   next-fits depth i stack a o l q h =
       let t = words-taken-iff ws .0 taken in
       rw q (
+        o .depth-in,
         all-at Sound (nodes ws) i (node 0 0 0 0) (omega (arith, length-nodes ws)) (t .2) .highest,
         opened-next depth i stack o l (rw q at h) .stands .chain,
       )

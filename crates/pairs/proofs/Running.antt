@@ -5,8 +5,10 @@ use mathlib.Core.Logic.{inl, inr, ⊎-elim}
 use mathlib.Core.Bool.{true, false, not, cond}
 use mathlib.Core.List.{List, [], _∷_, _++_, map-append}
 use Prim.Native.Nat.{ℕ, zero, suc, _+_, _-_, _*_, _≤_, _<_}
+use native.Mathlib.Nat.{not-suc-le-zero}
 use native.Mathlib.Omega.{arith}
-use lib.ListN.{take, drop, take-append-drop}
+use lib.ListN.{length, getD, take, drop, take-append-drop, length-drop}
+use lib.Seq.{getD-drop, drop-drop}
 use Rattle.nodes.specs.declared.node.Node.{Node}
 use Rattle.nodes.specs.Answer.{TAKEN}
 use Rattle.nodes.specs.Choose.{All, Pairs, keep, firstAt}
@@ -76,11 +78,27 @@ module _ (a : Node) where
   unfolding matches pairOf
   match-none relation zs h = keep-none _ zs (all-map (λ z n. not-so (λ m. never (related-inside relation _ m) n)) zs h)
 
-  -- where the ancestor isn't open, neither that node nor a later one matches
+  -- where the ancestor isn't open, it isn't at a later node
+  later-shut : (d : Node) (zs : List Node) → Run a (d ∷ zs) → openb d a ≡ false → All (λ z. openb z a ≡ false) zs
+  later-shut d zs r o = all-map (λ z g. shut-later z d a o (r .fine .0 .after) (g .after)) zs (r .pairs .0)
+
+  -- so a search that knows of a node at which it is open has passed all up to that one
+  run-past : (zs : List Node) (i : ℕ) → Run a zs → i < length zs → openb (getD zs i (node 0 0 0 0)) a ≡ true
+      → firstAt (λ d. not (openb d a)) (drop (suc i) zs) + suc i ≡ firstAt (λ d. not (openb d a)) zs
+  unfolding firstAt
+  run-past [] i r l o = absurd (not-suc-le-zero l)
+  run-past (d ∷ zs) zero r l o = rw o (omega arith)
+  run-past (d ∷ zs) (suc i) r l o =
+      elim (either (openb d a)) [
+        | inl h ↦ rw h (let p = run-past zs i (run-next d zs r) (omega arith) o in omega arith)
+        | inr h ↦ absurd (never o (all-at (λ z. openb z a ≡ false) zs i (node 0 0 0 0) (omega arith) (later-shut d zs r h)))
+      ]
+
+  -- and neither that node nor a later one matches
   run-shut : (relation : Relation) (d : Node) (zs : List Node) → Run a (d ∷ zs) → openb d a ≡ false → matches relation Ancestor a (d ∷ zs) ≡ []
   run-shut relation d zs r o =
-      let shut : All (λ z. openb z a ≡ false) zs = all-map (λ z g. shut-later z d a o (r .fine .0 .after) (g .after)) zs (r .pairs .0) in
-      match-none relation (d ∷ zs) (all-both (λ z s p. not-so (λ h. never (inside-open z a (s .span) h) p)) (d ∷ zs) (r .sound) (o, shut))
+      match-none relation (d ∷ zs)
+      (all-both (λ z s p. not-so (λ h. never (inside-open z a (s .span) h) p)) (d ∷ zs) (r .sound) (o, later-shut d zs r o))
 
   -- all nodes of the run lie inside
   run-inside : (zs : List Node) → Run a zs → matches Inside Ancestor a zs ≡ take (firstAt (λ d. not (openb d a)) zs) zs
@@ -153,6 +171,30 @@ module _ (ws : List ℕ) (a : Node) where
     from-in = omega arith;
     after = subst (All (λ d. afterb d a ≡ true)) (nodes-from ws k l) (r .after) .1;
   }
+
+  -- from the node behind one at which the ancestor is open, the search for the run's end finds the same
+  pub running-past : (k n m : ℕ) (d : Node) → k ≤ n → m ≡ n + 1 → Running ws a k → n < count ws → d ≡ nodeAt ws n → openb d a ≡ true
+      → (k < m) × Running ws a m
+      × (firstAt (λ z. not (openb z a)) (drop m (nodes ws)) + m ≡ firstAt (λ z. not (openb z a)) (drop k (nodes ws)) + k)
+  unfolding nodeAt
+  running-past k n m d h e r l q o =
+      let zs : List Node = drop k (nodes ws) in
+      let here : k + (n - k) ≡ n = omega arith in
+      let behind : k + suc (n - k) ≡ m = omega arith in
+      let rest : drop m (nodes ws) ≡ drop (suc (n - k)) zs =
+      sym (drop-drop (suc (n - k)) k (nodes ws) ∙ ap (λ i. drop i (nodes ws)) behind) in
+      let there : getD zs (n - k) (node 0 0 0 0) ≡ d =
+      getD-drop k (nodes ws) (n - k) (node 0 0 0 0) ∙ ap (λ i. getD (nodes ws) i (node 0 0 0 0)) here ∙ sym q in
+      let p = run-past a zs (n - k) (running-run k r) (omega (arith, length-drop k (nodes ws), length-nodes ws)) (ap (λ z. openb z a) there ∙ o) in (
+        omega arith,
+        record {
+          accepted = r .accepted;
+          even = r .even;
+          from-in = omega arith;
+          after = rw rest (all-drop (λ z. afterb z a ≡ true) (suc (n - k)) zs (r .after));
+        },
+        rw rest (omega arith),
+      )
 
   -- the whole run
   running-first : checkWords ws .answer ≡ TAKEN → All (λ d. oddsb a d ≡ false) (nodes ws) → Running ws a (firstAt (λ d. afterb d a) (nodes ws))

@@ -15,7 +15,7 @@ use tickets::ticket::Order;
 use tickets::ticket::Place;
 use tickets::ticket::Relation;
 ghost use mathlib.Core.Path.{_≡_};
-ghost use mathlib.Core.Bool.{not, cond};
+ghost use mathlib.Core.Bool.{true, not, cond};
 ghost use mathlib.Core.List.{[], _∷_};
 ghost use Prim.Native.Nat.{_+_, _≤_, _<_};
 ghost use lib.ListN.{drop};
@@ -26,6 +26,9 @@ ghost use Rattle.nodes.specs.Words.{nodes, count, nodeAt};
 ghost use Rattle.lists.specs.Two.{checkTwo};
 ghost use Rattle.tickets.specs.Row.{matches};
 ghost use Rattle.pairs.specs.Sweep.{Running, served, servedAll};
+
+// How many descendants further on the search for the end of a run looks first. Most runs are short or much longer than this.
+const STRIDE: usize = 8;
 
 // The first descendant from an index on that stands after the ancestor.
 fn first_after(descendants: &[u32], from: usize, ancestor: Node) -> usize
@@ -42,9 +45,26 @@ fn first_after(descendants: &[u32], from: usize, ancestor: Node) -> usize
     k
 }
 
+// How far a search for the end of a run may go on behind a descendant at which the ancestor is open. The descendants ascend, so where it is
+// open at one further on, it is open at all between, and these need no test of their own.
+fn past_open(descendants: &[u32], k: usize, ancestor: Node) -> usize
+    requires { ⌜ Running (now descendants) ancestor k × (k < count (now descendants)) × (openb (nodeAt (now descendants) k) ancestor ≡ true) ⌝ }
+    ensures { λ r. ⌜ (k < r) × Running (now (descendants .entry)) ancestor r
+        × (firstAt (λ d. not (openb d ancestor)) (drop r (nodes (now (descendants .entry)))) + r
+        ≡ firstAt (λ d. not (openb d ancestor)) (drop k (nodes (now (descendants .entry)))) + k) ⌝ }
+{
+    if node_count(descendants) <= k + STRIDE {
+        return k + 1;
+    }
+    if !is_open(node_at(descendants, k + STRIDE), ancestor) {
+        return k + 1;
+    }
+    k + STRIDE + 1
+}
+
 // Where the run of descendants ends that starts at an index: the first one at which the ancestor isn't open.
 fn run_end(descendants: &[u32], from: usize, ancestor: Node) -> usize
-    requires { ⌜ from ≤ count (now descendants) ⌝ }
+    requires { ⌜ Running (now descendants) ancestor from ⌝ }
     ensures { λ r. ⌜ r ≡ firstAt (λ d. not (openb d ancestor)) (drop from (nodes (now (descendants .entry)))) + from ⌝ }
 {
     let mut k = from;
@@ -52,7 +72,7 @@ fn run_end(descendants: &[u32], from: usize, ancestor: Node) -> usize
         if !is_open(node_at(descendants, k), ancestor) {
             return k;
         }
-        k += 1;
+        k = past_open(descendants, k, ancestor);
     }
     k
 }

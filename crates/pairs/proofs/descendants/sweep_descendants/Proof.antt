@@ -56,7 +56,7 @@ open-before-requires c κs =
     )
 
 still-open-requires : tie.Need-still-open-requires Inv-loop μ-loop
-still-open-requires c κs = search needs
+still-open-requires c κs = c .before .open-before .ensures .0 .depth-in
 
 hand-descendant-requires : tie.Need-hand-descendant-requires Inv-loop μ-loop
 hand-descendant-requires c κs =

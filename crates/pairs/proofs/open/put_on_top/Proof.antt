@@ -24,13 +24,16 @@ left-below ws depth left n l c e =
 still-open-requires : tie.Need-still-open-requires
 still-open-requires c κs = search needs
 
-put-node-requires : tie.Need-put-node-requires
-put-node-requires c κs = search needs
+put-open-requires : tie.Need-put-open-requires
+put-open-requires c κs =
+    let p = c .before .before .before .pre in
+    let h = left-below _ _ _ _ (p .1) (p .2) (c .before .still-open .ensures .1) in
+    omega (arith, c .put-open-arg .given)
 
 add-result : tie.Need-add-result
 add-result c =
     let p = c .before .before .before .before .pre in
-    let h = left-below _ _ _ _ (p .0) (p .1) (c .before .before .still-open .ensures .1) in
+    let h = left-below _ _ _ _ (p .1) (p .2) (c .before .before .still-open .ensures .1) in
     omega arith
 
 returns : tie.Need-returns
@@ -38,11 +41,11 @@ returns c =
     let a = c .before .before .before .before .args in
     let p = c .before .before .before .before .pre in
     let e = c .before .before .still-open .ensures .1 in
-    let h = left-below (now (a .stack)) (a .depth) _ (a .ancestor) (p .0) (p .1) e in (
+    let h = left-below (now (a .stack)) (a .depth) _ (a .ancestor) (p .1) (p .2) e in (
       omega arith,
-      firsts-put (now (a .stack)) _ _ (a .ancestor) (omega (arith, c .before .put-node-arg .given)) (c .put-node .ensures)
+      firsts-put (now (a .stack)) _ _ (a .ancestor) (omega (arith, c .before .put-open-arg .given)) (c .put-open .ensures)
           ∙ ap (λ es. a .ancestor ∷ es) e,
     )
 
 pub put-on-top-spec : {M : Type 1} → statement M
-put-on-top-spec = tie.close (tie.spec still-open-requires put-node-requires add-result returns)
+put-on-top-spec = tie.close (tie.spec still-open-requires put-open-requires add-result returns)

@@ -21,11 +21,11 @@ abbrev μ-loop : tie.MeasureT-loop
 loop-holds : tie.Need-loop-holds Inv-loop μ-loop
 loop-holds c = (le-refl _, refl)
 
-sub-node-at : tie.Need-sub-node-at Inv-loop μ-loop
-sub-node-at c = search needs
+sub-open-at : tie.Need-sub-open-at Inv-loop μ-loop
+sub-open-at c = search needs
 
-node-at-requires : tie.Need-node-at-requires Inv-loop μ-loop
-node-at-requires c κs = search needs
+open-at-requires : tie.Need-open-at-requires Inv-loop μ-loop
+open-at-requires c κs = search needs
 
 is-open-requires : tie.Need-is-open-requires Inv-loop μ-loop
 is-open-requires c κs = search needs
@@ -35,7 +35,7 @@ returns c =
     let a = c .before .before .before .before .before .before .args in
     let l = c .before .before .before .before .before .loop in (
       l .inv .0,
-      head-open _ (now (a .stack)) (a .node) _ (omega arith) (c .before .before .node-at .ensures)
+      head-open _ (now (a .stack)) (a .node) _ (omega arith) (c .before .before .open-at .ensures)
           (sym (c .before .is-open .ensures) ∙ c .if1 .taken) ∙ l .inv .1,
     )
 
@@ -50,7 +50,7 @@ loop-again c =
     let a = c .before .before .before .before .before .before .args in
     let l = c .before .before .before .before .before .loop in (
       omega arith,
-      head-shut _ (now (a .stack)) (a .node) _ (omega arith) (c .before .before .node-at .ensures)
+      head-shut _ (now (a .stack)) (a .node) _ (omega arith) (c .before .before .open-at .ensures)
           (sym (c .before .is-open .ensures) ∙ c .if1 .left) ∙ l .inv .1,
     )
 
@@ -66,8 +66,8 @@ still-open-spec =
     Inv-loop
     μ-loop
     loop-holds
-    sub-node-at
-    node-at-requires
+    sub-open-at
+    open-at-requires
     is-open-requires
     returns
     sub-left
