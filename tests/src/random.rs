@@ -28,13 +28,13 @@ impl Random {
     }
 
     /// A number from 0 up to the limit, which is left out.
-    pub fn below(&mut self, limit: usize) -> usize {
-        self.any() as usize % limit
+    pub fn small(&mut self, limit: u32) -> u32 {
+        (u64::from(self.any()) * u64::from(limit) >> 32) as u32
     }
 
-    /// The same as a word.
-    pub fn small(&mut self, limit: u32) -> u32 {
-        self.any() % limit
+    /// The same for lengths.
+    pub fn below(&mut self, limit: usize) -> usize {
+        self.small(limit as u32) as usize
     }
 
     pub fn one_in(&mut self, times: usize) -> bool {

@@ -7,7 +7,7 @@ use outside::making::lists::{damage, family, some_of};
 use outside::making::tickets::made_up;
 use outside::model::nodes::{nodes, words, Node};
 use outside::model::pages::{pairs, Pair, PAIR_WORDS};
-use outside::paint::{is_painted_from, paint, Coat};
+use outside::paint::Word;
 use outside::random::{each_case, Random};
 
 /// The listings that are followed from a fresh ticket, for each relation and each order.
@@ -51,9 +51,9 @@ struct History {
     /// The pairs of the listing that stood unaltered in every accepted call. There are none to speak of before the first.
     standing: Option<Vec<Pair>>,
     handed_out: Vec<Pair>,
-    pages: u64,
-    refused: u64,
-    altered: u64,
+    pages: usize,
+    refused: usize,
+    altered: usize,
 }
 
 impl History {
@@ -63,10 +63,10 @@ impl History {
 
     /// Makes the next call with an output of so many words. Tells whether it was done, or nothing if it was refused.
     fn call(&mut self, lists: &Lists, room: usize) -> Option<bool> {
-        let mut out = vec![0; room];
-        paint(&mut out, Coat::First);
+        let [coat, _] = u32::COATS;
+        let mut out = vec![coat; room];
         let page = raw::list(&words(&lists.ancestors), &words(&lists.descendants), self.ticket, &mut out);
-        assert!(is_painted_from(&out, PAIR_WORDS * page.count, Coat::First), "altered behind {} pairs", page.count);
+        assert!(out[PAIR_WORDS * page.count..].iter().all(|&word| word == coat), "altered behind {} pairs", page.count);
         if page.answer != 0 {
             assert_eq!((page.count, page.done, page.ticket), (0, 0, self.ticket), "a refused call");
             self.refused += 1;
@@ -92,7 +92,7 @@ impl History {
             assert!(self.handed_out.iter().all(|earlier| starts(earlier) != starts(&pair)), "twice: {pair:?}");
             self.handed_out.push(pair);
         }
-        self.pages += u64::from(!words.is_empty());
+        self.pages += usize::from(!words.is_empty());
     }
 
     /// Keeps of the pairs that stood so far those that stand in these lists too. At the first accepted call these are all of the listing that the
@@ -101,9 +101,9 @@ impl History {
         let asked = meaning(&self.first_ticket);
         let is_ahead = |pair: &Pair| asked.place.map_or(true, |place| pair.key(asked.order) > place);
         let all = || pairs(asked.relation, &lists.ancestors, &lists.descendants).into_iter().filter(is_ahead).collect();
-        let (kept, gone): (Vec<Pair>, Vec<Pair>) = self.standing.take().unwrap_or_else(all).into_iter().partition(|pair| lists.hold(pair));
-        self.altered += gone.iter().filter(|pair| lists.hold_starts(pair)).count() as u64;
-        self.standing = Some(kept);
+        let standing = self.standing.get_or_insert_with(all);
+        self.altered += standing.iter().filter(|pair| !lists.hold(pair) && lists.hold_starts(pair)).count();
+        standing.retain(|pair| lists.hold(pair));
     }
 
     /// A call said done: every pair that stood unaltered has been handed out, once.
@@ -158,7 +158,7 @@ fn follow(random: &mut Random, first_ticket: impl Fn(Ticket) -> Ticket) -> Histo
     let all = family(random, SIZE);
     let mut lists = Lists { ancestors: some_of(random, &all), descendants: some_of(random, &all) };
     let mut history = History::from(first_ticket(lists.ticket(random)));
-    for _ in 0..random.pick(&[0, 2, 5, 15]) {
+    for _ in 0..random.pick(&[0, 1, 4, 14]) {
         let next = edited(random, &lists, &all);
         if history.call(&next, random.below(2 * PAIR_WORDS)).is_some() {
             lists = next;

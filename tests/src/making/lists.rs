@@ -13,8 +13,8 @@ pub const SMALL: usize = 12;
 
 /// Fewer than this many nodes of one document that are nested or apart, with positions from 0 on. Levels may jump.
 fn shape(random: &mut Random, size: usize) -> Vec<Node> {
-    let mut nodes: Vec<Node> = Vec::new();
-    let mut open: Vec<usize> = Vec::new();
+    let mut nodes: Vec<Node> = Vec::with_capacity(size);
+    let mut open: Vec<usize> = Vec::with_capacity(size);
     let mut position = 0;
     for _ in 0..random.below(size) {
         let kind = random.below(5);
