@@ -29,7 +29,7 @@ impl Random {
 
     /// A number from 0 up to the limit, which is left out.
     pub fn small(&mut self, limit: u32) -> u32 {
-        (u64::from(self.any()) * u64::from(limit) >> 32) as u32
+        ((u64::from(self.any()) * u64::from(limit)) >> 32) as u32
     }
 
     /// The same for lengths.

@@ -1,5 +1,6 @@
-//! Listings that are followed from page to page while both lists are edited, some calls are refused, and other tickets are used in between. Each is held
-//! against the words of demand 3 and against no model of paging: what a call handed out, and whether it was accepted and done, is taken from the call.
+//! Listings that are followed from page to page while both lists are edited, some calls are refused, and other tickets are used in between. Each is
+//! held against the words of demand 3 and against no model of paging: what a call handed out, and whether it was accepted and done, is taken from
+//! the call.
 
 use belfrychest::raw::{self, Ticket};
 use outside::asking::meaning;
@@ -152,8 +153,8 @@ fn put_in(list: &mut Vec<Node>, node: Node) {
     list.insert(place, node);
 }
 
-/// A listing that is followed through edits until it is done, or further: the first lists are sound, a refused edit is undone, and the last call has room
-/// for all. Another ticket is used now and then in between, on the same lists.
+/// A listing that is followed through edits until it is done, or further: the first lists are sound, a refused edit is undone, and the last call has
+/// room for all. Another ticket is used now and then in between, on the same lists.
 fn follow(random: &mut Random, first_ticket: impl Fn(Ticket) -> Ticket) -> History {
     let all = family(random, SIZE);
     let mut lists = Lists { ancestors: some_of(random, &all), descendants: some_of(random, &all) };
@@ -172,8 +173,8 @@ fn follow(random: &mut Random, first_ticket: impl Fn(Ticket) -> Ticket) -> Histo
     history
 }
 
-/// Follows listings of one relation and one order from fresh tickets, and then from made-up ones. Fails unless many had more than five pages, a refused
-/// call, a pair that was altered.
+/// Follows listings of one relation and one order from fresh tickets, and then from made-up ones. Fails unless many had more than five pages, a
+/// refused call, a pair that was altered.
 fn hold(relation: u32, order: u32) {
     let fresh_seeds = SEEDS + u64::from(2 * relation + order) * (FRESH + MADE_UP);
     let mut seen = [0; 3];

@@ -239,7 +239,9 @@ fn lists_of_a_book() {
 #[test]
 fn tags_of_a_book() {
     let some = texts(2);
-    for (tags, answer) in [([0, u32::MAX], Taken), ([0, 1], Taken), ([1, 1], Contents), ([u32::MAX, 0], Contents), ([1 << 31, (1 << 31) - 1], Contents)] {
+    for (tags, answer) in
+        [([0, u32::MAX], Taken), ([0, 1], Taken), ([1, 1], Contents), ([u32::MAX, 0], Contents), ([1 << 31, (1 << 31) - 1], Contents)]
+    {
         let book = bytes(&tags.map(|tag| (tag, some.clone())));
         assert_eq!(asking::book_check(&book), answer);
         for tag in [0, 1, 2, 1 << 31, u32::MAX] {

@@ -1,15 +1,15 @@
 //! Field books, and what they are written from.
 
-use super::lists::{damage, family, some_of, SMALL};
+use super::lists::{any_family, damage, some_of};
 use super::misfit;
 use crate::model::books::{bytes, contents_end, numbers, Tagged, MOST_LISTS, WANTED_WORDS};
 use crate::model::nodes::{words, Node, NODE_WORDS};
 use crate::random::Random;
 
-/// Lists under tags, mostly ascending; the nodes of all are of one family, so that two of them mostly agree. Now and then there are as many lists as a
-/// book may have, or one more.
+/// Lists under tags, mostly ascending; the nodes of all are of one family, so that two of them mostly agree. Now and then there are as many lists as
+/// a book may have, or one more.
 pub fn lists(random: &mut Random) -> Vec<Tagged> {
-    let all = family(random, SMALL);
+    let all = any_family(random);
     let count = if random.one_in(20) { MOST_LISTS - 1 + random.below(3) } else { random.below(5) };
     let step = random.pick(&[1, 1 << 16, u32::MAX / (MOST_LISTS as u32 + 2)]);
     let mut lists: Vec<Tagged> = Vec::new();
