@@ -114,12 +114,11 @@ pub const BOOK_WRITE: Function = Function { case: book_write, answers: &[Taken, 
 fn book_write(random: &mut Random, ground: Ground) -> Answer {
     let (entries, nodes) = books::wanted(random);
     let needed = contents_end(entries.len() / WANTED_WORDS) + NUMBER_BYTES * nodes.len();
-    let bytes = random.around(needed.min(MOST));
-    asking::book_write(&ground.lend(&entries), &ground.lend(&nodes), &mut ground.room(bytes))
+    asking::book_write(&ground.lend(&entries), &ground.lend(&nodes), &mut ground.room(random.around(needed.min(MOST))))
 }
 
-/// Names of numbers that have one and of numbers that have none. The function is given no length of the output, and writes a name's bytes.
+/// Names of numbers that have one and of numbers that have none. The output is a name's bytes long, or longer.
 pub fn name(random: &mut Random, ground: Ground) {
     let number = if random.one_in(2) { random.small(20) } else { random.word() };
-    asking::name(number, &mut ground.room(NAME_BYTES));
+    asking::name(number, &mut ground.room(NAME_BYTES + 4 * random.below(2)));
 }

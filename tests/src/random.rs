@@ -64,6 +64,15 @@ impl Random {
         }
     }
 
+    /// Mostly one of these words, if there are any, and now and then another.
+    pub fn mostly_of(&mut self, words: &[u32]) -> u32 {
+        if words.is_empty() || self.one_in(8) {
+            self.word()
+        } else {
+            self.pick(words)
+        }
+    }
+
     /// The length of an output for a result of this length: just as long, one less, one more, shorter, or longer.
     pub fn around(&mut self, needed: usize) -> usize {
         match self.below(8) {

@@ -1,6 +1,9 @@
-//! Listings that are followed from page to page while both lists are edited, some calls are refused, and other tickets are used in between. Each is
-//! held against the words of demand 3 and against no model of paging: what a call handed out, and whether it was accepted and done, is taken from
-//! the call.
+//! Listings that are followed from page to page while both lists are edited, some calls are refused, and other tickets are used in between.
+//!
+//! Each is held against demand 3 alone: when an accepted call says done, every pair that stood unaltered in every accepted call has been handed out,
+//! once; no document and two starts come twice; each pair stood in the lists of the call that handed it out; a call that isn't done fills its room;
+//! and a refused call counts for nothing. There is no model of paging here: what a call handed out, and whether it was accepted and done, is taken
+//! from the call. A listing from a made-up ticket is held against the same words, of the pairs behind that ticket's place.
 
 use belfrychest::raw::{self, Ticket};
 use outside::asking::meaning;
@@ -83,28 +86,34 @@ impl History {
         Some(page.done == 1)
     }
 
-    /// Takes what a call handed out: pairs that stood in its own lists, and no document and two starts again.
+    /// Whether a pair has the relation that the first ticket asks for, and stands behind its place.
+    fn is_asked_for(&self, pair: &Pair) -> bool {
+        let asked = meaning(&self.first_ticket);
+        pair.has(asked.relation) && asked.place.map_or(true, |place| pair.key(asked.order) > place)
+    }
+
+    /// Takes what a call handed out: pairs that stood in its own lists and were asked for, and no document and two starts again.
     fn take(&mut self, lists: &Lists, words: &[u32]) {
         let starts = |pair: &Pair| (pair.ancestor.document, pair.ancestor.start, pair.descendant.start);
         for two in nodes(words).chunks(2) {
             let pair = Pair { ancestor: two[0], descendant: two[1] };
             assert!(lists.hold(&pair), "handed out, and not in the lists: {pair:?}");
-            assert!(pair.has(meaning(&self.ticket).relation), "handed out, and not related: {pair:?}");
+            assert!(self.is_asked_for(&pair), "handed out, and not asked for: {pair:?}");
             assert!(self.handed_out.iter().all(|earlier| starts(earlier) != starts(&pair)), "twice: {pair:?}");
             self.handed_out.push(pair);
         }
         self.pages += usize::from(!words.is_empty());
     }
 
-    /// Keeps of the pairs that stood so far those that stand in these lists too. At the first accepted call these are all of the listing that the
-    /// first ticket asks for.
+    /// Keeps of the pairs that stood so far those that stand in these lists too. At the first accepted call they are all that are asked for.
     fn keep_standing(&mut self, lists: &Lists) {
-        let asked = meaning(&self.first_ticket);
-        let is_ahead = |pair: &Pair| asked.place.map_or(true, |place| pair.key(asked.order) > place);
-        let all = || pairs(asked.relation, &lists.ancestors, &lists.descendants).into_iter().filter(is_ahead).collect();
-        let standing = self.standing.get_or_insert_with(all);
+        let mut standing = self.standing.take().unwrap_or_else(|| {
+            let all = pairs(meaning(&self.first_ticket).relation, &lists.ancestors, &lists.descendants);
+            all.into_iter().filter(|pair| self.is_asked_for(pair)).collect()
+        });
         self.altered += standing.iter().filter(|pair| !lists.hold(pair) && lists.hold_starts(pair)).count();
         standing.retain(|pair| lists.hold(pair));
+        self.standing = Some(standing);
     }
 
     /// A call said done: every pair that stood unaltered has been handed out, once.
@@ -116,7 +125,7 @@ impl History {
     }
 }
 
-/// The lists after up to three edits, which may damage them. All nodes of the documents are there to be put in.
+/// The lists after no edit, one or two, which may damage them. All nodes of the documents are there to be put in.
 fn edited(random: &mut Random, lists: &Lists, all: &[Node]) -> Lists {
     let mut lists = lists.clone();
     for _ in 0..random.pick(&[0, 0, 0, 1, 1, 2]) {
@@ -161,7 +170,8 @@ fn follow(random: &mut Random, first_ticket: impl Fn(Ticket) -> Ticket) -> Histo
     let mut history = History::from(first_ticket(lists.ticket(random)));
     for _ in 0..random.pick(&[0, 1, 4, 14]) {
         let next = edited(random, &lists, &all);
-        if history.call(&next, random.below(2 * PAIR_WORDS)).is_some() {
+        let room = PAIR_WORDS * random.pick(&[0, 1, 1, 1, 2, 4]) + random.below(PAIR_WORDS);
+        if history.call(&next, room).is_some() {
             lists = next;
         }
         if random.one_in(4) {

@@ -66,11 +66,7 @@ pub fn tag(random: &mut Random, book: &[u8]) -> u32 {
     let numbers = numbers(book);
     let lists = numbers.first().map_or(0, |&lists| lists as usize);
     let tags: Vec<u32> = numbers.iter().skip(1).step_by(3).take(lists).copied().collect();
-    if tags.is_empty() || random.one_in(8) {
-        random.word()
-    } else {
-        random.pick(&tags)
-    }
+    random.mostly_of(&tags)
 }
 
 /// Entries and nodes to write a book from, mostly sound.

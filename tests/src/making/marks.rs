@@ -82,9 +82,5 @@ pub fn table(random: &mut Random) -> Vec<u32> {
 /// A tag that the table mostly has.
 pub fn tag(random: &mut Random, table: &[u32]) -> u32 {
     let tags: Vec<u32> = table.chunks_exact(ROW_WORDS).map(|row| row[ROW_WORDS - 1]).collect();
-    if tags.is_empty() || random.one_in(8) {
-        random.word()
-    } else {
-        random.pick(&tags)
-    }
+    random.mostly_of(&tags)
 }
