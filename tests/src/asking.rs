@@ -53,7 +53,7 @@ fn ticket_after(ticket: raw::Ticket, page: &pages::Page) -> raw::Ticket {
 
 pub fn list(ancestors: &[u32], descendants: &[u32], ticket: raw::Ticket, out: &mut [u32]) -> Answer {
     let page = pages::page(ancestors, descendants, &meaning(&ticket), out.len());
-    let words: Vec<u32> = page.pairs.iter().flat_map(pages::Pair::words).collect();
+    let words = page.pairs.iter().map(pages::Pair::words).collect::<Vec<_>>().concat();
     let Verdict { answer, list, index } = page.verdict;
     let after = ticket_after(ticket, &page);
     let expected = raw::Page { answer: answer as u32, list, index, done: page.done.into(), count: page.pairs.len(), ticket: after };

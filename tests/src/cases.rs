@@ -3,8 +3,14 @@
 use crate::asking;
 use crate::ground::Ground;
 use crate::making::{books, lists, marks, tickets};
-use crate::model;
 use crate::model::answers::Answer::{self, *};
+use crate::model::answers::NAME_BYTES;
+use crate::model::books::{contents_end, NUMBER_BYTES, WANTED_WORDS};
+use crate::model::links::LINK_WORDS;
+use crate::model::marks::{CLOSE, ROW_WORDS};
+use crate::model::nodes::{nodes, NODE_WORDS};
+use crate::model::pages::{pairs, PAIR_WORDS};
+use crate::model::MOST;
 use crate::random::{each_case, Random};
 use crate::tally::Tally;
 
@@ -51,8 +57,8 @@ pub const LIST: Function = Function { case: list, answers: OF_TWO_LISTS };
 fn list(random: &mut Random, ground: Ground) -> Answer {
     let (ancestors, descendants) = lists::two_lists(random);
     let ticket = tickets::made_up(random, &ancestors, &descendants);
-    let all = model::pages::page(&ancestors, &descendants, &asking::meaning(&ticket), usize::MAX);
-    let words = random.around(all.pairs.len() * model::pages::PAIR_WORDS);
+    let pairs = pairs(asking::meaning(&ticket).relation, &nodes(&ancestors), &nodes(&descendants));
+    let words = random.around(pairs.len() * PAIR_WORDS);
     asking::list(&ground.lend(&ancestors), &ground.lend(&descendants), ticket, &mut ground.room(words))
 }
 
@@ -60,7 +66,7 @@ pub const NUMBER: Function = Function { case: number, answers: &[Taken, Long, Ro
 
 fn number(random: &mut Random, ground: Ground) -> Answer {
     let (document, marks) = (random.word(), marks::marks(random));
-    let needed = model::marks::number(document, &marks, usize::MAX).words.len();
+    let needed = ROW_WORDS * marks.iter().filter(|&&mark| mark != CLOSE).count();
     asking::number(document, &ground.lend(&marks), &mut ground.room(random.around(needed)))
 }
 
@@ -68,7 +74,7 @@ pub const UNNUMBER: Function = Function { case: unnumber, answers: &[Taken, Ragg
 
 fn unnumber(random: &mut Random, ground: Ground) -> Answer {
     let table = marks::table(random);
-    let needed = model::marks::unnumber(&table, usize::MAX).marks.len();
+    let needed = table.get(2).map_or(0, |&end| MOST.min(end as usize));
     asking::unnumber(&ground.lend(&table), &mut ground.room(random.around(needed)))
 }
 
@@ -77,7 +83,7 @@ pub const PICK: Function = Function { case: pick, answers: &[Taken, Ragged, Long
 fn pick(random: &mut Random, ground: Ground) -> Answer {
     let table = marks::table(random);
     let tag = marks::tag(random, &table);
-    let needed = model::marks::pick(&table, tag, usize::MAX).words.len();
+    let needed = NODE_WORDS * table.chunks_exact(ROW_WORDS).filter(|row| row[NODE_WORDS] == tag).count();
     asking::pick(&ground.lend(&table), tag, &mut ground.room(random.around(needed)))
 }
 
@@ -85,7 +91,7 @@ pub const LINKS: Function = Function { case: links, answers: &[Taken, Ragged, Lo
 
 fn links(random: &mut Random, ground: Ground) -> Answer {
     let list = lists::list(random);
-    let needed = model::links::links(&list, usize::MAX).words.len();
+    let needed = LINK_WORDS * (list.len() / NODE_WORDS);
     asking::links(&ground.lend(&list), &mut ground.room(random.around(needed)))
 }
 
@@ -107,12 +113,12 @@ pub const BOOK_WRITE: Function = Function { case: book_write, answers: &[Taken, 
 
 fn book_write(random: &mut Random, ground: Ground) -> Answer {
     let (entries, nodes) = books::wanted(random);
-    let needed = model::books::write(&entries, &nodes, usize::MAX).words.len();
-    asking::book_write(&ground.lend(&entries), &ground.lend(&nodes), &mut ground.room(random.around(needed)))
+    let needed = contents_end(entries.len() / WANTED_WORDS) + NUMBER_BYTES * nodes.len();
+    asking::book_write(&ground.lend(&entries), &ground.lend(&nodes), &mut ground.room(random.around(needed.min(MOST))))
 }
 
-/// Names of numbers that have one and of numbers that have none. The function is given no length of the output, and writes a name's bytes.
+/// Names of numbers that have one and of numbers that have none. The output is a name's bytes long, or longer.
 pub fn name(random: &mut Random, ground: Ground) {
     let number = if random.one_in(2) { random.small(20) } else { random.word() };
-    asking::name(number, &mut ground.room(model::answers::NAME_BYTES));
+    asking::name(number, &mut ground.room(NAME_BYTES + 4 * random.below(2)));
 }

@@ -28,13 +28,13 @@ impl Random {
     }
 
     /// A number from 0 up to the limit, which is left out.
-    pub fn below(&mut self, limit: usize) -> usize {
-        self.any() as usize % limit
+    pub fn small(&mut self, limit: u32) -> u32 {
+        ((u64::from(self.any()) * u64::from(limit)) >> 32) as u32
     }
 
-    /// The same as a word.
-    pub fn small(&mut self, limit: u32) -> u32 {
-        self.any() % limit
+    /// The same for lengths.
+    pub fn below(&mut self, limit: usize) -> usize {
+        self.small(limit as u32) as usize
     }
 
     pub fn one_in(&mut self, times: usize) -> bool {
@@ -61,6 +61,15 @@ impl Random {
             1 => word.wrapping_sub(1),
             2 => word ^ 1 << (16 + self.small(16)),
             _ => self.word(),
+        }
+    }
+
+    /// Mostly one of these words, if there are any, and now and then another.
+    pub fn mostly_of(&mut self, words: &[u32]) -> u32 {
+        if words.is_empty() || self.one_in(8) {
+            self.word()
+        } else {
+            self.pick(words)
         }
     }
 

@@ -1,5 +1,9 @@
-//! Listings that are followed from page to page while both lists are edited, some calls are refused, and other tickets are used in between. Each is held
-//! against the words of demand 3 and against no model of paging: what a call handed out, and whether it was accepted and done, is taken from the call.
+//! Listings that are followed from page to page while both lists are edited, some calls are refused, and other tickets are used in between.
+//!
+//! Each is held against demand 3 alone: when an accepted call says done, every pair that stood unaltered in every accepted call has been handed out,
+//! once; no document and two starts come twice; each pair stood in the lists of the call that handed it out; a call that isn't done fills its room;
+//! and a refused call counts for nothing. There is no model of paging here: what a call handed out, and whether it was accepted and done, is taken
+//! from the call. A listing from a made-up ticket is held against the same words, of the pairs behind that ticket's place.
 
 use belfrychest::raw::{self, Ticket};
 use outside::asking::meaning;
@@ -7,7 +11,7 @@ use outside::making::lists::{damage, family, some_of};
 use outside::making::tickets::made_up;
 use outside::model::nodes::{nodes, words, Node};
 use outside::model::pages::{pairs, Pair, PAIR_WORDS};
-use outside::paint::{is_painted_from, paint, Coat};
+use outside::paint::Word;
 use outside::random::{each_case, Random};
 
 /// The listings that are followed from a fresh ticket, for each relation and each order.
@@ -51,9 +55,9 @@ struct History {
     /// The pairs of the listing that stood unaltered in every accepted call. There are none to speak of before the first.
     standing: Option<Vec<Pair>>,
     handed_out: Vec<Pair>,
-    pages: u64,
-    refused: u64,
-    altered: u64,
+    pages: usize,
+    refused: usize,
+    altered: usize,
 }
 
 impl History {
@@ -63,10 +67,10 @@ impl History {
 
     /// Makes the next call with an output of so many words. Tells whether it was done, or nothing if it was refused.
     fn call(&mut self, lists: &Lists, room: usize) -> Option<bool> {
-        let mut out = vec![0; room];
-        paint(&mut out, Coat::First);
+        let [coat, _] = u32::COATS;
+        let mut out = vec![coat; room];
         let page = raw::list(&words(&lists.ancestors), &words(&lists.descendants), self.ticket, &mut out);
-        assert!(is_painted_from(&out, PAIR_WORDS * page.count, Coat::First), "altered behind {} pairs", page.count);
+        assert!(out[PAIR_WORDS * page.count..].iter().all(|&word| word == coat), "altered behind {} pairs", page.count);
         if page.answer != 0 {
             assert_eq!((page.count, page.done, page.ticket), (0, 0, self.ticket), "a refused call");
             self.refused += 1;
@@ -82,28 +86,34 @@ impl History {
         Some(page.done == 1)
     }
 
-    /// Takes what a call handed out: pairs that stood in its own lists, and no document and two starts again.
+    /// Whether a pair has the relation that the first ticket asks for, and stands behind its place.
+    fn is_asked_for(&self, pair: &Pair) -> bool {
+        let asked = meaning(&self.first_ticket);
+        pair.has(asked.relation) && asked.place.map_or(true, |place| pair.key(asked.order) > place)
+    }
+
+    /// Takes what a call handed out: pairs that stood in its own lists and were asked for, and no document and two starts again.
     fn take(&mut self, lists: &Lists, words: &[u32]) {
         let starts = |pair: &Pair| (pair.ancestor.document, pair.ancestor.start, pair.descendant.start);
         for two in nodes(words).chunks(2) {
             let pair = Pair { ancestor: two[0], descendant: two[1] };
             assert!(lists.hold(&pair), "handed out, and not in the lists: {pair:?}");
-            assert!(pair.has(meaning(&self.ticket).relation), "handed out, and not related: {pair:?}");
+            assert!(self.is_asked_for(&pair), "handed out, and not asked for: {pair:?}");
             assert!(self.handed_out.iter().all(|earlier| starts(earlier) != starts(&pair)), "twice: {pair:?}");
             self.handed_out.push(pair);
         }
-        self.pages += u64::from(!words.is_empty());
+        self.pages += usize::from(!words.is_empty());
     }
 
-    /// Keeps of the pairs that stood so far those that stand in these lists too. At the first accepted call these are all of the listing that the
-    /// first ticket asks for.
+    /// Keeps of the pairs that stood so far those that stand in these lists too. At the first accepted call they are all that are asked for.
     fn keep_standing(&mut self, lists: &Lists) {
-        let asked = meaning(&self.first_ticket);
-        let is_ahead = |pair: &Pair| asked.place.map_or(true, |place| pair.key(asked.order) > place);
-        let all = || pairs(asked.relation, &lists.ancestors, &lists.descendants).into_iter().filter(is_ahead).collect();
-        let (kept, gone): (Vec<Pair>, Vec<Pair>) = self.standing.take().unwrap_or_else(all).into_iter().partition(|pair| lists.hold(pair));
-        self.altered += gone.iter().filter(|pair| lists.hold_starts(pair)).count() as u64;
-        self.standing = Some(kept);
+        let mut standing = self.standing.take().unwrap_or_else(|| {
+            let all = pairs(meaning(&self.first_ticket).relation, &lists.ancestors, &lists.descendants);
+            all.into_iter().filter(|pair| self.is_asked_for(pair)).collect()
+        });
+        self.altered += standing.iter().filter(|pair| !lists.hold(pair) && lists.hold_starts(pair)).count();
+        standing.retain(|pair| lists.hold(pair));
+        self.standing = Some(standing);
     }
 
     /// A call said done: every pair that stood unaltered has been handed out, once.
@@ -115,7 +125,7 @@ impl History {
     }
 }
 
-/// The lists after up to three edits, which may damage them. All nodes of the documents are there to be put in.
+/// The lists after no edit, one or two, which may damage them. All nodes of the documents are there to be put in.
 fn edited(random: &mut Random, lists: &Lists, all: &[Node]) -> Lists {
     let mut lists = lists.clone();
     for _ in 0..random.pick(&[0, 0, 0, 1, 1, 2]) {
@@ -152,15 +162,16 @@ fn put_in(list: &mut Vec<Node>, node: Node) {
     list.insert(place, node);
 }
 
-/// A listing that is followed through edits until it is done, or further: the first lists are sound, a refused edit is undone, and the last call has room
-/// for all. Another ticket is used now and then in between, on the same lists.
+/// A listing that is followed through edits until it is done, or further: the first lists are sound, a refused edit is undone, and the last call has
+/// room for all. Another ticket is used now and then in between, on the same lists.
 fn follow(random: &mut Random, first_ticket: impl Fn(Ticket) -> Ticket) -> History {
     let all = family(random, SIZE);
     let mut lists = Lists { ancestors: some_of(random, &all), descendants: some_of(random, &all) };
     let mut history = History::from(first_ticket(lists.ticket(random)));
-    for _ in 0..random.pick(&[0, 2, 5, 15]) {
+    for _ in 0..random.pick(&[0, 1, 4, 14]) {
         let next = edited(random, &lists, &all);
-        if history.call(&next, random.below(2 * PAIR_WORDS)).is_some() {
+        let room = PAIR_WORDS * random.pick(&[0, 1, 1, 1, 2, 4]) + random.below(PAIR_WORDS);
+        if history.call(&next, room).is_some() {
             lists = next;
         }
         if random.one_in(4) {
@@ -172,8 +183,8 @@ fn follow(random: &mut Random, first_ticket: impl Fn(Ticket) -> Ticket) -> Histo
     history
 }
 
-/// Follows listings of one relation and one order from fresh tickets, and then from made-up ones. Fails unless many had more than five pages, a refused
-/// call, a pair that was altered.
+/// Follows listings of one relation and one order from fresh tickets, and then from made-up ones. Fails unless many had more than five pages, a
+/// refused call, a pair that was altered.
 fn hold(relation: u32, order: u32) {
     let fresh_seeds = SEEDS + u64::from(2 * relation + order) * (FRESH + MADE_UP);
     let mut seen = [0; 3];

@@ -4,7 +4,7 @@ use belfrychest::raw::{self, Ticket};
 use outside::asking;
 use outside::model::answers::Answer::{self, *};
 use outside::model::answers::{ANCESTORS, DESCENDANTS};
-use outside::model::books::{self, bytes, contents_end, MOST_LISTS, NODE_BYTES};
+use outside::model::books::{self, bytes, contents_end, MOST_LISTS, NODE_BYTES, NUMBER_BYTES};
 use outside::model::links::{LINK_WORDS, NONE};
 use outside::model::lists::MOST_LEVEL;
 use outside::model::marks::{CLOSE, ROW_WORDS, TEXT};
@@ -239,7 +239,9 @@ fn lists_of_a_book() {
 #[test]
 fn tags_of_a_book() {
     let some = texts(2);
-    for (tags, answer) in [([0, u32::MAX], Taken), ([0, 1], Taken), ([1, 1], Contents), ([u32::MAX, 0], Contents), ([1 << 31, (1 << 31) - 1], Contents)] {
+    for (tags, answer) in
+        [([0, u32::MAX], Taken), ([0, 1], Taken), ([1, 1], Contents), ([u32::MAX, 0], Contents), ([1 << 31, (1 << 31) - 1], Contents)]
+    {
         let book = bytes(&tags.map(|tag| (tag, some.clone())));
         assert_eq!(asking::book_check(&book), answer);
         for tag in [0, 1, 2, 1 << 31, u32::MAX] {
@@ -273,9 +275,10 @@ fn counts_of_a_book() {
     assert_eq!(asking::book_check(&too_many), Contents);
     assert_eq!(asking::book_write(&[1, MOST as u32 + 1], &words(&texts(MOST + 1)), &mut vec![0; too_many.len()]), Contents);
     let one = bytes(&[(1, texts(1))]);
+    let count_of_the_first = contents_end(1) - NUMBER_BYTES;
     for more in [0, 1 << 28, 1 << 29, 15 << 28] {
         let mut book = one.clone();
-        book[12..16].copy_from_slice(&(1_u32 + more).to_le_bytes());
+        book[count_of_the_first..contents_end(1)].copy_from_slice(&(1_u32 + more).to_le_bytes());
         let answer = if more == 0 { Taken } else { Contents };
         assert_eq!(asking::book_check(&book), answer);
         assert_eq!(asking::book_write(&[1, 1 + more], &words(&texts(1)), &mut [0; 100]), answer);

@@ -2,7 +2,7 @@
 
 use outside::making::books::book;
 use outside::model::answers::Answer::{self, *};
-use outside::model::books::{bytes, Tagged};
+use outside::model::books::bytes;
 use outside::model::nodes::Node;
 use outside::model::pages::Pair;
 use outside::model::printing::{joined, printed, MOST_BYTES};
@@ -114,17 +114,13 @@ fn books_of_many_pages() {
 
 #[test]
 fn books_as_long_as_may_be() {
-    let fit = |length: usize| {
-        let mut book: Vec<Tagged> = vec![(2, nest(1)), (3, texts(3_835)), (4, vec![]), (5, vec![]), (6, vec![])];
-        book[0].1.truncate(1);
-        let mut bytes = bytes(&book);
-        assert_eq!(bytes.len(), MOST_BYTES);
-        bytes.resize(length, 0);
-        bytes
-    };
+    let longest = bytes(&[(2, nest(1)), (3, texts(3_835)), (4, vec![]), (5, vec![]), (6, vec![])]);
+    assert_eq!(longest.len(), MOST_BYTES);
     for length in [MOST_BYTES - 1, MOST_BYTES, MOST_BYTES + 1, MOST_BYTES + 2, 1 << 16, 1 << 17, 1 << 20] {
-        hold(&fit(length));
-        hold_in_pieces(&fit(length), 4_000);
+        let mut book = longest.clone();
+        book.resize(length, 0);
+        hold(&book);
+        hold_in_pieces(&book, 4_000);
     }
 }
 

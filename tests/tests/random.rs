@@ -1,12 +1,12 @@
-//! A hundred thousand random cases of each of the twelve functions, sound and damaged, against the model. An answer that a function can give and that
-//! never came is a failure too.
+//! More than a million random cases of the twelve functions, sound and damaged, against the model. An answer that a function can give and that never
+//! came is a failure too.
 
 use outside::cases::{self, Function};
 use outside::ground::Ground;
 use outside::random::each_case;
 
 /// The cases of each function.
-const CASES: u64 = 100_000;
+const CASES: u64 = 84_000;
 
 fn hold(function: &Function, seeds: u64) {
     function.hold(seeds * CASES, CASES, Ground::Heap);

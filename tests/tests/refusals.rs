@@ -4,9 +4,9 @@ use belfrychest::raw::{self, Ticket};
 use outside::asking;
 use outside::model::answers::Answer::{self, *};
 use outside::model::answers::{Verdict, ANCESTORS, DESCENDANTS};
-use outside::model::books::{bytes, NODE_BYTES};
+use outside::model::books::{bytes, contents_end, numbers, Tagged, MOST_LISTS, NUMBER_BYTES};
 use outside::model::lists::MOST_LEVEL;
-use outside::model::marks::{CLOSE, TEXT};
+use outside::model::marks::{CLOSE, ROW_WORDS, TEXT};
 use outside::model::nodes::{words, Node, NODE_WORDS};
 use outside::model::MOST;
 use outside::paint::hold;
@@ -16,9 +16,9 @@ const NODES: usize = 40;
 /// A length of output that no result of these cases would need, and that is no multiple of a pair or a link.
 const ROOM: usize = 29;
 
-/// A zone, and inside it, side by side with space between them, the other nodes.
+/// A zone, and inside it, side by side, the other nodes, with space between them and between their levels.
 fn sound(count: usize) -> Vec<Node> {
-    let inner = |place: u32| Node { document: 5, start: 10 * place + 10, end: 10 * place + 15, level: 3 };
+    let inner = |place: u32| Node { document: 5, start: 10 * place + 10, end: 10 * place + 15, level: 4 };
     let zone = Node { document: 5, start: 10, end: 10 * count as u32 + 10, level: 2 };
     [zone].into_iter().chain((1..count as u32).map(inner)).collect()
 }
@@ -111,14 +111,14 @@ fn any_list_of_a_book() {
     each_fault_anywhere(|list, answer, index| {
         for faulty in 0..LISTS {
             let nodes = |place| if place == faulty { list.to_vec() } else { sound(NODES) };
-            let lists: Vec<(u32, Vec<Node>)> = (0..LISTS).map(|place| (place, nodes(place))).collect();
+            let lists: Vec<Tagged> = (0..LISTS).map(|place| (place, nodes(place))).collect();
             refuses_book(&lists, Verdict { answer, list: faulty, index: index as u32 });
         }
     });
 }
 
 /// Fails unless a book of these lists is refused with this verdict when it is opened, when any tag is looked for in it, and when it is to be written.
-fn refuses_book(lists: &[(u32, Vec<Node>)], verdict: Verdict) {
+fn refuses_book(lists: &[Tagged], verdict: Verdict) {
     let book = bytes(lists);
     let Verdict { answer, list, index } = verdict;
     let answer = answer as u32;
@@ -132,18 +132,18 @@ fn refuses_book(lists: &[(u32, Vec<Node>)], verdict: Verdict) {
     hold(&verdict, &mut vec![0; book.len()], &[], refused, |out| raw::book_write(&entries, &nodes, out));
 }
 
+/// Lists that differ in one word of one node, so that the node is at odds with the one that it was.
 #[test]
 fn two_lists_at_odds() {
-    let edits: [fn(&mut Node); 3] = [|node| node.end += 1, |node| node.level -= 1, |node| node.start -= 1];
-    for (index, edit) in (0..NODES).flat_map(|index| edits.iter().map(move |edit| (index, edit))) {
-        let mut edited = sound(NODES);
+    let edits: [fn(&mut Node); 5] =
+        [|node| node.start -= 1, |node| node.start += 1, |node| node.end -= 1, |node| node.end += 1, |node| node.level += 1];
+    let places = (0..NODES).map(|index| (NODES, index)).chain([(MOST, MOST - 1)]);
+    for ((count, index), edit) in places.flat_map(|place| edits.map(|edit| (place, edit))) {
+        let mut edited = sound(count);
         edit(&mut edited[index]);
-        if index > 0 {
-            edited[0].level = 1;
-        }
         assert_eq!(raw::check(&words(&edited)).answer, Taken as u32);
-        refuses_two(&sound(NODES), &edited, Verdict::of(Joint), [0, 0]);
-        refuses_two(&edited, &sound(NODES), Verdict::of(Joint), [0, 0]);
+        refuses_two(&sound(count), &edited, Verdict::of(Joint), [0, 0]);
+        refuses_two(&edited, &sound(count), Verdict::of(Joint), [0, 0]);
     }
 }
 
@@ -182,10 +182,10 @@ fn any_mark_too_deep() {
 #[test]
 fn any_word_of_a_table() {
     let marks = [1, 2, 2, 3, TEXT, 0, 0, 3, 0, 0, 0];
-    let mut table = [0; 30];
+    let mut table = [0; 6 * ROW_WORDS];
     assert_eq!(asking::number(5, &marks, &mut table), Taken);
     for place in 0..table.len() {
-        let is_tag = place % 5 == 4;
+        let is_tag = place % ROW_WORDS == NODE_WORDS;
         let was = table[place];
         for word in [0, was.wrapping_sub(1), was + 1, was ^ 1 << 31, u32::MAX] {
             table[place] = word;
@@ -198,18 +198,18 @@ fn any_word_of_a_table() {
 
 #[test]
 fn any_number_of_the_contents() {
-    let lists: Vec<(u32, Vec<Node>)> = (1..=16).map(|tag| (tag, sound(2))).collect();
+    let lists: Vec<Tagged> = (1..=MOST_LISTS as u32).map(|tag| (tag, sound(2))).collect();
     let book = bytes(&lists);
     assert_eq!(asking::book_check(&book), Taken);
-    for place in (0..1 + 3 * lists.len()).map(|number| 4 * number) {
-        let was = u32::from_le_bytes(book[place..place + 4].try_into().expect("four bytes"));
+    let (first_tag, last_tag) = (contents_end(0), contents_end(MOST_LISTS - 1));
+    for place in (0..contents_end(MOST_LISTS)).step_by(NUMBER_BYTES) {
+        let was = numbers(&book[place..])[0];
         for number in [was - 1, was + 1, was ^ 1 << 28, was ^ 1 << 31] {
             let mut damaged = book.clone();
-            damaged[place..place + 4].copy_from_slice(&number.to_le_bytes());
-            let keeps_order = (place == 4 && number == 0) || (place == 4 + 15 * 12 && number > was);
-            let answer = if keeps_order { Taken } else { Contents };
+            damaged[place..place + NUMBER_BYTES].copy_from_slice(&number.to_le_bytes());
+            let tags_ascend = (place == first_tag && number < was) || (place == last_tag && number > was);
+            let answer = if tags_ascend { Taken } else { Contents };
             assert_eq!(asking::book_check(&damaged), answer, "the number at byte {place} is {number}");
         }
     }
-    assert_eq!(asking::book_check(&book[..book.len() - NODE_BYTES]), Contents);
 }

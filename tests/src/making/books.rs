@@ -1,15 +1,15 @@
 //! Field books, and what they are written from.
 
-use super::lists::{damage, family, some_of, SMALL};
+use super::lists::{any_family, damage, some_of};
 use super::misfit;
 use crate::model::books::{bytes, contents_end, numbers, Tagged, MOST_LISTS, WANTED_WORDS};
 use crate::model::nodes::{words, Node, NODE_WORDS};
 use crate::random::Random;
 
-/// Lists under tags, mostly ascending; the nodes of all are of one family, so that two of them mostly agree. Now and then there are as many lists as a
-/// book may have, or one more.
+/// Lists under tags, mostly ascending; the nodes of all are of one family, so that two of them mostly agree. Now and then there are as many lists as
+/// a book may have, or one more.
 pub fn lists(random: &mut Random) -> Vec<Tagged> {
-    let all = family(random, SMALL);
+    let all = any_family(random);
     let count = if random.one_in(20) { MOST_LISTS - 1 + random.below(3) } else { random.below(5) };
     let step = random.pick(&[1, 1 << 16, u32::MAX / (MOST_LISTS as u32 + 2)]);
     let mut lists: Vec<Tagged> = Vec::new();
@@ -66,11 +66,7 @@ pub fn tag(random: &mut Random, book: &[u8]) -> u32 {
     let numbers = numbers(book);
     let lists = numbers.first().map_or(0, |&lists| lists as usize);
     let tags: Vec<u32> = numbers.iter().skip(1).step_by(3).take(lists).copied().collect();
-    if tags.is_empty() || random.one_in(8) {
-        random.word()
-    } else {
-        random.pick(&tags)
-    }
+    random.mostly_of(&tags)
 }
 
 /// Entries and nodes to write a book from, mostly sound.

@@ -9,35 +9,42 @@ use crate::random::Random;
 const DOCUMENTS: [u32; 6] = [0, 5, 5 + (1 << 16), 5 + (1 << 24), 5 + (1 << 31), u32::MAX];
 
 /// A size of documents of which every answer comes often.
-pub const SMALL: usize = 12;
+const SMALL: usize = 12;
 
 /// Fewer than this many nodes of one document that are nested or apart, with positions from 0 on. Levels may jump.
 fn shape(random: &mut Random, size: usize) -> Vec<Node> {
-    let mut nodes: Vec<Node> = Vec::new();
-    let mut open: Vec<usize> = Vec::new();
+    let mut nodes: Vec<Node> = Vec::with_capacity(size);
+    let mut open: Vec<usize> = Vec::with_capacity(size);
     let mut position = 0;
     for _ in 0..random.below(size) {
-        let kind = random.below(5);
-        if kind < 2 {
-            open.pop().map(|index| nodes[index].end = position);
-        } else {
-            let level = open.last().map_or(0, |&index| nodes[index].level) + 1 + u32::from(random.one_in(6));
-            nodes.push(Node { document: 0, start: position, end: position, level });
-        }
-        if kind > 2 {
-            open.push(nodes.len() - 1);
+        let level = open.last().map_or(0, |&index| nodes[index].level) + 1 + u32::from(random.one_in(6));
+        let text = Node { document: 0, start: position, end: position, level };
+        match random.below(5) {
+            0 | 1 => close(&mut nodes, open.pop(), position),
+            2 => nodes.push(text),
+            _ => {
+                open.push(nodes.len());
+                nodes.push(text);
+            }
         }
         position += 1 + if random.one_in(3) { random.small(3) } else { 0 };
     }
-    while let Some(index) = open.pop() {
-        nodes[index].end = position;
+    while !open.is_empty() {
+        close(&mut nodes, open.pop(), position);
         position += 1;
     }
     nodes
 }
 
-/// Puts nodes of one document somewhere among the 32-bit numbers: at the beginning, at the end, at both, in the middle or all over; and their levels at
-/// the beginning or at the end.
+/// Ends the open node of this index at this position, if there is one.
+fn close(nodes: &mut [Node], index: Option<usize>, position: u32) {
+    if let Some(index) = index {
+        nodes[index].end = position;
+    }
+}
+
+/// Puts nodes of one document somewhere among the 32-bit numbers: at the beginning, at the end, at both, in the middle or all over; and their levels
+/// at the beginning or at the end.
 fn settle(random: &mut Random, document: u32, nodes: &mut [Node]) {
     let last = nodes.iter().map(|node| node.end).max().unwrap_or(0);
     let deepest = nodes.iter().map(|node| node.level).max().unwrap_or(0);
@@ -69,6 +76,34 @@ pub fn family(random: &mut Random, size: usize) -> Vec<Node> {
         }
     }
     nodes
+}
+
+/// A nest of as many zones as there are levels, or a few less, with a text between any two on the way in and now and then on the way out. It is
+/// a family too.
+fn deep_family(random: &mut Random) -> Vec<Node> {
+    let zones = MOST_LEVEL - random.small(4);
+    let text = |start: u32, level: u32| Node { document: 5, start, end: start, level };
+    let last = 4 * zones;
+    let mut nodes = Vec::new();
+    for level in 1..=zones {
+        nodes.push(Node { document: 5, start: 2 * level, end: last - 2 * level + 3, level });
+        if level < MOST_LEVEL {
+            nodes.push(text(2 * level + 1, level + 1));
+        }
+    }
+    for level in (1..zones).rev().filter(|_| random.one_in(4)) {
+        nodes.push(text(last - 2 * level + 2, level + 1));
+    }
+    nodes
+}
+
+/// Mostly a small family, now and then a deep one.
+pub fn any_family(random: &mut Random) -> Vec<Node> {
+    if random.one_in(200) {
+        deep_family(random)
+    } else {
+        family(random, SMALL)
+    }
 }
 
 /// Some of the nodes, in their order.
@@ -121,7 +156,7 @@ fn mostly_sound(random: &mut Random, mut nodes: Vec<Node>) -> Vec<u32> {
 }
 
 pub fn list(random: &mut Random) -> Vec<u32> {
-    let nodes = if random.one_in(4) { wild(random) } else { family(random, SMALL) };
+    let nodes = if random.one_in(4) { wild(random) } else { any_family(random) };
     mostly_sound(random, nodes)
 }
 
@@ -130,7 +165,7 @@ pub fn two_lists(random: &mut Random) -> (Vec<u32>, Vec<u32>) {
     let (ancestors, descendants) = if random.one_in(4) {
         (wild(random), wild(random))
     } else {
-        let all = family(random, SMALL);
+        let all = any_family(random);
         (some_of(random, &all), some_of(random, &all))
     };
     (mostly_sound(random, ancestors), mostly_sound(random, descendants))

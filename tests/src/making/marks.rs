@@ -9,7 +9,7 @@ const TAGS: [u32; 4] = [1, 2, 3, TEXT - 1];
 
 /// Accepted marks, unless they go deeper than any may. Now and then they go just about that deep.
 fn sound(random: &mut Random) -> Vec<u32> {
-    let chain = if random.one_in(12) { 60 + random.below(6) } else { 1 };
+    let chain = if random.one_in(80) { 60 + random.below(6) } else { 1 };
     let mut marks = vec![random.pick(&TAGS); chain];
     let mut open = chain;
     for _ in 0..random.below(12) {
@@ -82,9 +82,5 @@ pub fn table(random: &mut Random) -> Vec<u32> {
 /// A tag that the table mostly has.
 pub fn tag(random: &mut Random, table: &[u32]) -> u32 {
     let tags: Vec<u32> = table.chunks_exact(ROW_WORDS).map(|row| row[ROW_WORDS - 1]).collect();
-    if tags.is_empty() || random.one_in(8) {
-        random.word()
-    } else {
-        random.pick(&tags)
-    }
+    random.mostly_of(&tags)
 }

@@ -2,7 +2,7 @@
 
 use super::answers::{Answer, Verdict, Written};
 use super::lists::first_fault;
-use super::nodes::{node, nodes, Node, NODE_WORDS};
+use super::nodes::{node, nodes, words, Node, NODE_WORDS};
 use super::MOST;
 
 /// The most lists of a book.
@@ -40,8 +40,10 @@ pub fn bytes(lists: &[Tagged]) -> Vec<u8> {
         numbers.extend([*tag, offset as u32, nodes.len() as u32]);
         offset += NODE_BYTES * nodes.len();
     }
-    numbers.extend(lists.iter().flat_map(|(_, nodes)| nodes).flat_map(Node::words));
-    numbers.iter().flat_map(|number| number.to_le_bytes()).collect()
+    for (_, nodes) in lists {
+        numbers.extend(words(nodes));
+    }
+    numbers.into_iter().map(u32::to_le_bytes).collect::<Vec<_>>().concat()
 }
 
 /// The whole numbers that the bytes make.

@@ -14,16 +14,16 @@ pub const ROW_WORDS: usize = NODE_WORDS + 1;
 
 /// How many elements are open before each mark, and behind the last.
 fn open_elements(marks: &[u32]) -> Vec<i64> {
-    let opened = |mark: &u32| match *mark {
-        CLOSE => -1,
-        TEXT => 0,
-        _ => 1,
-    };
-    (0..=marks.len()).scan(0, |open, place| {
-        let before = *open;
-        *open += marks.get(place).map_or(0, opened);
-        Some(before)
-    }).collect()
+    let mut open = vec![0];
+    for (place, &mark) in marks.iter().enumerate() {
+        let opened = match mark {
+            CLOSE => -1,
+            TEXT => 0,
+            _ => 1,
+        };
+        open.push(open[place] + opened);
+    }
+    open
 }
 
 /// The answer that a mark draws at this place of the marks, with so many elements open; those before it draw none.
@@ -59,7 +59,7 @@ fn table(document: u32, marks: &[u32]) -> Vec<u32> {
         let end = if marks[place] == TEXT { place } else { close_of(place) };
         [document, place as u32 + 1, end as u32 + 1, open[place] as u32 + 1, marks[place]]
     };
-    (0..marks.len()).filter(|&place| marks[place] != CLOSE).flat_map(row).collect()
+    (0..marks.len()).filter(|&place| marks[place] != CLOSE).map(row).collect::<Vec<_>>().concat()
 }
 
 pub fn number(document: u32, marks: &[u32], room: usize) -> Written<u32> {

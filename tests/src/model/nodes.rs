@@ -27,7 +27,7 @@ pub fn nodes(words: &[u32]) -> Vec<Node> {
 }
 
 pub fn words(nodes: &[Node]) -> Vec<u32> {
-    nodes.iter().flat_map(Node::words).collect()
+    nodes.iter().map(Node::words).collect::<Vec<_>>().concat()
 }
 
 /// Whether y is inside x.
