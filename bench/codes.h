@@ -1,0 +1,26 @@
+/* The codes that are measured side by side: the archive and four builds of the twin. */
+#ifndef CODES_H
+#define CODES_H
+
+#include "calls.h"
+
+enum { CODES = 5 };
+
+struct code {
+    const char *name;
+    struct verdict (*check)(const uint32_t *list, size_t words);
+    struct verdict (*check_two)(const uint32_t *ancestors, size_t ancestor_words, const uint32_t *descendants, size_t descendant_words);
+    struct page (*list)(const uint32_t *ancestors, size_t ancestor_words, const uint32_t *descendants, size_t descendant_words,
+                        struct ticket ticket, uint32_t *out, size_t out_words);
+    struct result (*links)(const uint32_t *list, size_t words, uint32_t *out, size_t out_words);
+    struct result (*number)(uint32_t document, const uint32_t *marks, size_t mark_words, uint32_t *out, size_t out_words);
+    struct book (*book_check)(const uint8_t *book, size_t bytes);
+    struct body (*book_body)(const uint8_t *book, size_t bytes, uint32_t tag);
+};
+
+extern const struct code codes[CODES];
+
+/* The code of a name, or NULL. */
+const struct code *code_named(const char *name);
+
+#endif
