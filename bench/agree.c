@@ -166,7 +166,7 @@ static uint32_t below(uint32_t limit)
     return (state >> 33) % limit;
 }
 
-enum { MOST_SMALL = 24, SMALL_MARKS = 160, SMALL_LISTS = 2, CONTENTS_BYTES = 4 + 12 * SMALL_LISTS };
+enum { MOST_SMALL = 24, SMALL_MARKS = 200, SMALL_LISTS = 2, CONTENTS_BYTES = 4 + 12 * SMALL_LISTS };
 
 /* A random case. */
 struct small {
@@ -212,7 +212,7 @@ static void fill_lists(struct small *s)
 static void damage_list(uint32_t *list, size_t *words)
 {
     static const uint32_t others[] = {0, 1, 64, 65, UINT32_MAX};
-    if (*words == 0)
+    if (*words < NODE_WORDS)
         return;
     uint32_t at = below(*words);
     if (below(16) == 0)

@@ -11,7 +11,9 @@ SHARED_CALLS(twin_gcc_fused)
     {name, prefix##_check, prefix##_check_two, prefix##_list, prefix##_links, prefix##_number, prefix##_book_check, prefix##_book_body}
 
 const struct code codes[CODES] = {
+#ifndef WITHOUT_ARCHIVE
     CODE("archive", belfry),
+#endif
     CODE("clang-three", twin_clang_three),
     CODE("clang-fused", twin_clang_fused),
     CODE("gcc-three", twin_gcc_three),

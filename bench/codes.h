@@ -1,10 +1,15 @@
-/* The codes that are measured side by side: the archive and four builds of the twin. */
+/* The codes that are measured side by side: the archive and four builds of the twin. The archive is left out where WITHOUT_ARCHIVE is defined, for
+   a processor that it has no code for. */
 #ifndef CODES_H
 #define CODES_H
 
 #include "calls.h"
 
+#ifdef WITHOUT_ARCHIVE
+enum { CODES = 4 };
+#else
 enum { CODES = 5 };
+#endif
 
 struct code {
     const char *name;

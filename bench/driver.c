@@ -2,19 +2,15 @@
 
    driver count CODE MEASURE SHAPE NODES TIMES   runs a measure so many times and prints nothing: the instructions of a run with one time less
                                                  those of a run with none are those of the measure
-   driver time MEASURE SHAPE NODES               prints the median time of each code in nanoseconds, the codes taking turns
-   driver sizes SHAPE NODES                      prints the shape's zones and samples, the pairs inside and directly inside, and the marks of
-                                                 the document that is numbered */
-#define _POSIX_C_SOURCE 200809L
+   driver time MEASURE SHAPE NODES               prints each code and its median time in nanoseconds, the codes taking turns
+   driver sizes SHAPE NODES                      prints how many zones and samples the shape has, how many pairs inside and directly inside, and
+                                                 how many marks the document that is numbered
+   driver lists SHAPE NODES                      prints the zones, an empty line and the samples, a node to a line */
 #include "measures.h"
+#include "timing.h"
 #include <stdio.h>
 #include <stdlib.h>
 #include <string.h>
-#include <time.h>
-
-enum { MOST_ROUNDS = 201, LEAST_ROUNDS = 11 };
-
-static const double ENOUGH_NANOSECONDS = 1e9;
 
 static struct measure measure;
 
@@ -34,36 +30,18 @@ static void count(const char *code_name, const char *times)
         run_measure(&measure, code);
 }
 
-static double now(void)
-{
-    struct timespec t;
-    clock_gettime(CLOCK_MONOTONIC, &t);
-    return t.tv_sec * 1e9 + t.tv_nsec;
-}
-
-static int ascending(const void *x, const void *y)
-{
-    double a = *(const double *)x, b = *(const double *)y;
-    return (a > b) - (a < b);
-}
-
 static void time_codes(void)
 {
     static double times[CODES][MOST_ROUNDS];
     size_t rounds = 0;
-    double begun = now();
-    while (rounds < MOST_ROUNDS && (rounds < LEAST_ROUNDS || now() - begun < CODES * ENOUGH_NANOSECONDS)) {
+    for (double begun = now(); is_round_due(rounds, begun); rounds++)
         for (size_t i = 0; i < CODES; i++) {
             double before = now();
             run_measure(&measure, &codes[i]);
             times[i][rounds] = now() - before;
         }
-        rounds++;
-    }
-    for (size_t i = 0; i < CODES; i++) {
-        qsort(times[i], rounds, sizeof times[i][0], ascending);
-        printf("%.0f\n", times[i][rounds / 2]);
-    }
+    for (size_t i = 0; i < CODES; i++)
+        printf("%s %.0f\n", codes[i].name, median(times[i], rounds));
 }
 
 static size_t pairs_of(const char *listing, const char *shape_name, const char *nodes)
@@ -80,6 +58,20 @@ static void print_sizes(const char *shape_name, const char *nodes)
     printf("%zu %zu %zu %zu %zu\n", shape.zones, shape.samples, inside, directly, marks);
 }
 
+static void print_list(const uint32_t *list, size_t nodes)
+{
+    for (size_t i = 0; i < nodes; i++, list += NODE_WORDS)
+        printf("%u %u %u %u\n", list[0], list[1], list[2], list[3]);
+}
+
+static void print_lists(const char *shape_name, const char *nodes)
+{
+    prepare("check", shape_name, nodes);
+    print_list(shape.zone, shape.zones);
+    printf("\n");
+    print_list(shape.sample, shape.samples);
+}
+
 int main(int argc, char **argv)
 {
     if (argc == 7 && strcmp(argv[1], "count") == 0) {
@@ -90,7 +82,9 @@ int main(int argc, char **argv)
         time_codes();
     } else if (argc == 4 && strcmp(argv[1], "sizes") == 0)
         print_sizes(argv[2], argv[3]);
+    else if (argc == 4 && strcmp(argv[1], "lists") == 0)
+        print_lists(argv[2], argv[3]);
     else
-        fail("usage: driver count CODE MEASURE SHAPE NODES TIMES | time MEASURE SHAPE NODES | sizes SHAPE NODES");
+        fail("usage: driver count CODE MEASURE SHAPE NODES TIMES | time MEASURE SHAPE NODES | sizes SHAPE NODES | lists SHAPE NODES");
     return 0;
 }

@@ -12,20 +12,24 @@ SHAPES = ("flat", "nests", "between", "random", "eight-zones", "few-samples")
 MOST_NODES = 4096
 
 
+def emulated(program, *words, options=()):
+    """The command that runs a program for x86-64 here, under the emulator where that is needed, with options of it."""
+    return ([EMULATOR, *options] if EMULATOR else []) + [f"{MADE}/{program}", *map(str, words)]
+
+
 def run(program, *words):
     """What a program for x86-64 prints."""
-    command = ([EMULATOR] if EMULATOR else []) + [f"{MADE}/{program}", *map(str, words)]
-    return subprocess.run(command, check=True, stdout=subprocess.PIPE, text=True).stdout
+    return subprocess.run(emulated(program, *words), check=True, stdout=subprocess.PIPE, text=True).stdout
 
 
 def counted(program, *words):
     """How many instructions a program for x86-64 executes from its start to its end: as callgrind counts them where the machine is one, else as
     bench/count.c does under the emulator."""
     if EMULATOR:
-        command, line = [EMULATOR, "-plugin", f"{MADE}/count.so"], r"^(\d+)$"
+        command, line = emulated(program, *words, options=("-plugin", f"{MADE}/count.so")), r"^(\d+)$"
     else:
-        command, line = ["valgrind", "--tool=callgrind", "--callgrind-out-file=/dev/null"], r"Collected : (\d+)"
-    said = subprocess.run([*command, f"{MADE}/{program}", *map(str, words)], capture_output=True, text=True)
+        command, line = ["valgrind", "--tool=callgrind", "--callgrind-out-file=/dev/null", *emulated(program, *words)], r"Collected : (\d+)"
+    said = subprocess.run(command, capture_output=True, text=True)
     found = re.findall(line, said.stderr, re.M)
     if said.returncode != 0 or len(found) != 1:
         raise SystemExit(f"{program} {words} was not counted: {said.stderr}")

@@ -126,7 +126,7 @@ static void build_random(struct building *b)
 /* Zones side by side, so many of which hold as many samples as are given for each. */
 static void build_some(struct building *b, size_t holders, size_t samples)
 {
-    size_t apart = b->most / holders;
+    size_t apart = b->most < holders ? 1 : b->most / holders;
     for (size_t i = 0; i < b->most; i++) {
         open_zone(b);
         if (i % apart == 0 && i / apart < holders)
