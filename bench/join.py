@@ -44,7 +44,7 @@ def sweep_ancestor(zones, samples):
 
 
 def timed(join, zones, samples, pairs):
-    """The median time in nanoseconds of a join, which has to find so many pairs: of a few rounds at least, and of no more once a second has passed."""
+    """The median time in nanoseconds of a join that has to find so many pairs: of a few rounds at least, and of more until a second has passed."""
     times = []
     while len(times) < LEAST_ROUNDS or (len(times) < MOST_ROUNDS and sum(times) < ENOUGH_NANOSECONDS):
         before = time.perf_counter_ns()

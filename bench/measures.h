@@ -24,7 +24,7 @@ extern struct shape shape;
    room the pairs of a page, or all. */
 int prepare_measure(struct measure *measure, const char *name, const char *shape_name, size_t nodes);
 
-/* Runs the measure once. It answers what was handed out in all: pairs of a listing, else nodes, triples, rows or lists; a refusal ends the program. */
+/* Runs the measure once, and answers how many pairs, nodes, link triples, rows or lists came of it. A refusal ends the program. */
 size_t run_measure(const struct measure *measure, const struct code *code);
 
 /* Ends the program with a message. */

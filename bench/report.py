@@ -11,6 +11,7 @@ import join
 from figures import CODES, EMULATOR, MADE, MOST_NODES, SHAPES, counted, emulated, instructions, run, sizes, units
 
 CASES = 100_000
+ORDERS = ("descendant", "ancestor")
 LISTINGS = ("inside-descendant", "inside-ancestor", "directly-descendant", "directly-ancestor")
 GROWTH = (64, 256, 1024, MOST_NODES)
 THREE_PASSES = ("clang-three", "gcc-three")
@@ -117,8 +118,8 @@ def check_counter():
         return
     figure = ("archive", "directly-ancestor-all", "random", 256)
     options = ("-singlestep", "-d", "nochain,exec", "-D", "/dev/stdout")
-    once, never = (subprocess.run(emulated("driver", "count", *figure, made, options=options), check=True, stdout=subprocess.PIPE).stdout.count(b"Trace")
-                   for made in (1, 0))
+    runs = [emulated("driver", "count", *figure, made, options=options) for made in (1, 0)]
+    once, never = (subprocess.run(command, check=True, stdout=subprocess.PIPE).stdout.count(b"Trace") for command in runs)
     if once - never != instructions(*figure):
         raise SystemExit(f"the plugin counts {instructions(*figure)} instructions, and there are {once - never} single steps")
     print(f"\nThe counter was held against single steps on one figure: {once - never:,} instructions both ways.")
@@ -157,8 +158,8 @@ def print_pages():
 
 
 def print_others():
-    print("\n## Links, numbering, books\n\nLinks are those of the zones. What is numbered is a document of the shape's kind with at most 4,096 marks. "
-          "The book that is checked holds both lists.")
+    print("\n## Links, numbering, books\n\nLinks are those of the zones. What is numbered is a document of the shape's kind with at most "
+          f"{MOST_NODES:,} marks. The book that is checked holds both lists.")
     measured("Links, a node", "links", lambda shape: units("links", shape))
     measured("Numbering, a mark", "number", lambda shape: units("number", shape))
     measured("Checking a book, a node", "book", input_nodes)
@@ -218,8 +219,8 @@ def print_simple_bars():
 
 def print_twin_bars():
     progress("bars")
-    print("\nThe archive's whole call, checks included, to each twin's: instructions; time. A bar holds where neither is above 1 beside both twins of "
-          "three passes, clang's and gcc's. The fused twins are faster and no bar.")
+    print("\nThe archive's whole call, checks included, to each twin's: instructions; time. A bar holds where neither is above 1 beside both "
+          "twins of three passes, clang's and gcc's. The fused twins are faster and no bar.")
     rows = []
     for listing in LISTINGS:
         for shape in SHAPES:
@@ -264,10 +265,11 @@ def microseconds(nanoseconds):
 def times_here(shape):
     """The row of a shape in the table of times."""
     progress(f"SQLite and Python, {shape}")
-    codes = [dict(map(str.split, here("driver", "time", f"inside-{order}-all", shape, MOST_NODES).splitlines())) for order in ("descendant", "ancestor")]
+    lines = [here("driver", "time", f"inside-{order}-all", shape, MOST_NODES).splitlines() for order in ORDERS]
+    codes = [dict(map(str.split, of)) for of in lines]
     pairs, (zones, samples) = sizes(shape)["inside"], lists_of(shape)
     row = [float(of[code]) for of in codes for code in ("archive", "gcc-three") if code in of]
-    row += [sqlite_time(order, shape) for order in ("descendant", "ancestor")]
+    row += [sqlite_time(order, shape) for order in ORDERS]
     row += [join.timed(by, zones, samples, pairs) for by in (join.sweep_descendant, join.sweep_ancestor, join.naive)]
     return (shape, *map(microseconds, row))
 
@@ -280,10 +282,10 @@ def print_elsewhere():
           f"Python {platform.python_version()}")
     if EMULATOR:
         print("\nThe archive has no code for this processor; the twin, compiled for it, stands in for the scale.")
-    table(("shape", *(f"{code}, {order}" for order in ("descendant", "ancestor") for code in own), "SQLite, descendant", "SQLite, ancestor",
+    table(("shape", *(f"{code}, {order}" for order in ORDERS for code in own), "SQLite, descendant", "SQLite, ancestor",
            "Python sweep, descendant", "Python sweep, ancestor", "Python, all pairs tested"), [times_here(shape) for shape in SHAPES])
     print("\nHow SQLite goes about it: " + "; ".join(
-        f"{order} order: " + ", ".join(here("sqlite", "plan", order, "flat", MOST_NODES).splitlines()) for order in ("descendant", "ancestor")) + ".")
+        f"{order} order: " + ", ".join(here("sqlite", "plan", order, "flat", MOST_NODES).splitlines()) for order in ORDERS) + ".")
 
 
 def sqlite_version():
@@ -297,12 +299,12 @@ def print_sqlite_instructions():
     for shape in SHAPES:
         progress(f"SQLite's instructions, {shape}")
         row = [shape]
-        for order in ("descendant", "ancestor"):
+        for order in ORDERS:
             once, never = (counted("sqlite", "count", order, shape, MOST_NODES, made) for made in (1, 0))
             archive, pairs = instructions("archive", f"inside-{order}-all", shape), sizes(shape)["inside"]
             row += [f"{archive / pairs:,.1f}", f"{(once - never) / pairs:,.1f}", f"{(once - never) / archive:,.0f}"]
         rows.append(row)
-    table(("shape", *(f"{what}, {order}" for order in ("descendant", "ancestor") for what in ("archive", "SQLite", "times as many"))), rows)
+    table(("shape", *(f"{what}, {order}" for order in ORDERS for what in ("archive", "SQLite", "times as many"))), rows)
 
 
 def main():

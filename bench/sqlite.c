@@ -1,6 +1,6 @@
-/* The same listing by SQLite, as kindly to it as we know: the two lists are tables in memory, document and start together are each table's integer
-   key, and one query joins them in the order asked for, the zones in the outer loop. Nothing is checked, and filling the tables is not measured; all rows
-   are read into an output as the page call writes it.
+/* The same listing by SQLite, put as well for it as we know: the two lists are tables in memory, document and start together are each table's
+   integer key, and one query joins them in the order asked for, the zones in the outer loop. Nothing is checked, and filling the tables is not
+   measured; all rows are read into an output as the page call writes it.
 
    sqlite count ORDER SHAPE NODES TIMES   runs the query so many times and prints nothing
    sqlite time ORDER SHAPE NODES          prints the query's median time in nanoseconds, and how many rows it has

@@ -12,7 +12,8 @@ enum { AREA_BYTES = 1 << 18, ROW_WORDS = 5, OUT_WORDS = 1 << 21, CALLS = 13, PAI
 struct part belfry_faulty(const uint32_t *ancestors, size_t ancestor_words, const uint32_t *descendants, size_t descendant_words);
 struct unnumbered belfry_unnumber(const uint32_t *table, size_t table_words, uint32_t *out, size_t out_words);
 struct result belfry_pick(const uint32_t *table, size_t table_words, uint32_t tag, uint32_t *out, size_t out_words);
-struct result belfry_book_write(const uint32_t *entries, size_t entry_words, const uint32_t *nodes, size_t node_words, uint8_t *out, size_t out_bytes);
+struct result belfry_book_write(const uint32_t *entries, size_t entry_words, const uint32_t *nodes, size_t node_words, uint8_t *out,
+                                size_t out_bytes);
 void belfry_name(uint32_t answer, uint8_t *out);
 
 /* What the calls are given: a shape's lists, a document's marks and table, and a book of the zones, with the entry and the bytes that it has. */

@@ -34,22 +34,6 @@ static struct lists lists_of(const uint32_t *ancestors, size_t ancestor_words, c
     return (struct lists){a, a + ancestor_words / NODE_WORDS, d, d + descendant_words / NODE_WORDS};
 }
 
-/* A place in a document as one number, which ascends from document to document. */
-static inline uint64_t place_of(uint32_t document, uint32_t position)
-{
-    return (uint64_t)document << 32 | position;
-}
-
-static inline uint64_t start_of(const struct node *n)
-{
-    return place_of(n->document, n->start);
-}
-
-static inline uint64_t end_of(const struct node *n)
-{
-    return place_of(n->document, n->end);
-}
-
 /* The nodes that are open where a check stands are kept on a stack, the innermost on top, which is the last node passed. Each lies inside the one
    below it and has a higher level. At the bottom lies one that holds everything. */
 enum { STACK_NODES = MOST_LEVELS + 1 };
@@ -341,6 +325,11 @@ static struct result result_of(struct verdict v, size_t count)
     return (struct result){v.answer, v.list, v.index, count};
 }
 
+static inline int has_ended(const struct node *earlier, const struct node *n)
+{
+    return earlier->document != n->document || earlier->end < n->start;
+}
+
 /* The links of a list that was taken. The last node left on the way to a node's parent is its elder sibling, if it is of the same document. */
 static void link_nodes(const struct node *nodes, size_t count, uint32_t (*links)[LINK_WORDS])
 {
@@ -348,7 +337,7 @@ static void link_nodes(const struct node *nodes, size_t count, uint32_t (*links)
     size_t depth = 0;
     for (uint32_t i = 0; i < count; i++) {
         uint32_t elder = NONE;
-        while (depth > 0 && end_of(&nodes[open[depth - 1]]) < start_of(&nodes[i]))
+        while (depth > 0 && has_ended(&nodes[open[depth - 1]], &nodes[i]))
             elder = open[--depth];
         uint32_t parent = depth > 0 ? open[depth - 1] : NONE;
         links[i][0] = parent;
