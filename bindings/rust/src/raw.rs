@@ -1,5 +1,9 @@
-//! The C interface as it is: its structs, and each of its functions over slices. All that is unsafe in this crate is here: a slice is handed
-//! over as its address and its length, which is what the archive reads and writes, and no function keeps an address.
+//! The C interface as it is: its structs, and each of its functions over slices. `bindings/c/belfrychest.h` says what each field holds and
+//! what each call reads, writes and answers.
+//!
+//! All that is unsafe in this crate is here, and it is sound for one reason throughout. A slice is handed over as its address and its length: the
+//! address is never null and is aligned, also for an empty slice; the archive reads and writes no more than the length says and keeps no address;
+//! and an output that is lent mutably overlaps nothing else that is lent.
 
 /// The answer of a check: its number, the list that it names, and the index of the faulty node there, or 0.
 #[repr(C)]
@@ -115,18 +119,22 @@ extern "C" {
     fn belfry_name(answer: u32, out: *mut u8);
 }
 
+/// What `belfry_check` answers for a list.
 pub fn check(list: &[u32]) -> Verdict {
     unsafe { belfry_check(list.as_ptr(), list.len()) }
 }
 
+/// What `belfry_check_two` answers for two lists.
 pub fn check_two(ancestors: &[u32], descendants: &[u32]) -> Verdict {
     unsafe { belfry_check_two(ancestors.as_ptr(), ancestors.len(), descendants.as_ptr(), descendants.len()) }
 }
 
+/// What `belfry_faulty` answers for two lists.
 pub fn faulty(ancestors: &[u32], descendants: &[u32]) -> Part {
     unsafe { belfry_faulty(ancestors.as_ptr(), ancestors.len(), descendants.as_ptr(), descendants.len()) }
 }
 
+/// The page that `belfry_list` writes and answers.
 pub fn list(ancestors: &[u32], descendants: &[u32], ticket: Ticket, out: &mut [u32]) -> Page {
     unsafe {
         belfry_list(
@@ -141,34 +149,42 @@ pub fn list(ancestors: &[u32], descendants: &[u32], ticket: Ticket, out: &mut [u
     }
 }
 
+/// The table that `belfry_number` writes and answers.
 pub fn number(document: u32, marks: &[u32], out: &mut [u32]) -> Written {
     unsafe { belfry_number(document, marks.as_ptr(), marks.len(), out.as_mut_ptr(), out.len()) }
 }
 
+/// The marks that `belfry_unnumber` writes and answers.
 pub fn unnumber(table: &[u32], out: &mut [u32]) -> Unnumbered {
     unsafe { belfry_unnumber(table.as_ptr(), table.len(), out.as_mut_ptr(), out.len()) }
 }
 
+/// The nodes that `belfry_pick` writes and answers.
 pub fn pick(table: &[u32], tag: u32, out: &mut [u32]) -> Written {
     unsafe { belfry_pick(table.as_ptr(), table.len(), tag, out.as_mut_ptr(), out.len()) }
 }
 
+/// The links that `belfry_links` writes and answers.
 pub fn links(list: &[u32], out: &mut [u32]) -> Written {
     unsafe { belfry_links(list.as_ptr(), list.len(), out.as_mut_ptr(), out.len()) }
 }
 
+/// What `belfry_book_check` answers for a book.
 pub fn book_check(book: &[u8]) -> Book {
     unsafe { belfry_book_check(book.as_ptr(), book.len()) }
 }
 
+/// Where `belfry_book_body` finds a tag's list.
 pub fn book_body(book: &[u8], tag: u32) -> Body {
     unsafe { belfry_book_body(book.as_ptr(), book.len(), tag) }
 }
 
+/// The book that `belfry_book_write` writes and answers.
 pub fn book_write(entries: &[u32], nodes: &[u32], out: &mut [u8]) -> Written {
     unsafe { belfry_book_write(entries.as_ptr(), entries.len(), nodes.as_ptr(), nodes.len(), out.as_mut_ptr(), out.len()) }
 }
 
+/// The eight bytes that `belfry_name` writes.
 pub fn name(answer: u32) -> [u8; 8] {
     let mut out = [0; 8];
     unsafe { belfry_name(answer, out.as_mut_ptr()) };

@@ -4,6 +4,12 @@ use lists::two::check_two;
 use lists::verdict::Verdict;
 use nodes::node::NODE_WORDS;
 use repairs::part::faulty_part;
+ghost use mathlib.Core.Path.{_≡_};
+ghost use Prim.Native.Nat.{_≤_};
+ghost use Rattle.nodes.specs.Words.{MOST-NODES};
+ghost use Rattle.lists.specs.Check.{checkWords};
+ghost use Rattle.lists.specs.Two.{checkTwo};
+ghost use Rattle.belfrychest.specs.Shown.{shownVerdict, shownPart};
 
 // The answer of a check: its number, the list that it speaks of, and the index of the faulty node there, or 0.
 #[repr(C)]
@@ -24,8 +30,11 @@ pub struct BelfryPart {
     pub words: usize,
 }
 
-// A verdict with C's numbers.
-fn shown(verdict: Verdict) -> BelfryVerdict {
+// A verdict in C's numbers. The index of a node fits, as no list that is looked at has more than 4,096.
+pub(crate) fn shown(verdict: Verdict) -> BelfryVerdict
+    requires { ⌜ verdict .index ≤ MOST-NODES ⌝ }
+    ensures { λ r. ⌜ r ≡ shownVerdict verdict ⌝ }
+{
     BelfryVerdict {
         answer: verdict.answer,
         list: verdict.list,
@@ -35,35 +44,36 @@ fn shown(verdict: Verdict) -> BelfryVerdict {
 
 // The caller learns what `check_list` says of a list.
 #[no_mangle]
-pub extern "C" fn belfry_check(list: &[u32]) -> BelfryVerdict {
+pub extern "C" fn belfry_check(list: &[u32]) -> BelfryVerdict
+    ensures { λ r. ⌜ r ≡ shownVerdict (checkWords (now (list .entry))) ⌝ }
+{
     shown(check_list(list))
 }
 
 // The caller learns what `check_two` says of two lists.
 #[no_mangle]
-pub extern "C" fn belfry_check_two(ancestors: &[u32], descendants: &[u32]) -> BelfryVerdict {
+pub extern "C" fn belfry_check_two(ancestors: &[u32], descendants: &[u32]) -> BelfryVerdict
+    ensures { λ r. ⌜ r ≡ shownVerdict (checkTwo (now (ancestors .entry)) (now (descendants .entry))) ⌝ }
+{
     shown(check_two(ancestors, descendants))
 }
 
-// The caller learns where the part lies that `faulty_part` gives of two lists, and what is wrong there.
+// The caller learns what is wrong with two lists, and where the part lies that `faulty_part` gives.
 #[no_mangle]
-pub extern "C" fn belfry_faulty(ancestors: &[u32], descendants: &[u32]) -> BelfryPart {
-    let verdict = check_two(ancestors, descendants);
+pub extern "C" fn belfry_faulty<'a>(ancestors: &'a [u32], descendants: &'a [u32]) -> BelfryPart
+    ensures { λ r. ⌜ r ≡ shownPart (now (ancestors .entry)) (now (descendants .entry)) ⌝ }
+{
+    let verdict = shown(check_two(ancestors, descendants));
     let words = faulty_part(ancestors, descendants).len();
-    if words == 0 {
-        return BelfryPart {
-            answer: verdict.answer,
-            list: verdict.list,
-            index: verdict.index as u32,
-            from: 0,
-            words: 0,
-        };
+    let mut from = 0;
+    if words != 0 {
+        from = NODE_WORDS * verdict.index as usize;
     }
     BelfryPart {
         answer: verdict.answer,
         list: verdict.list,
-        index: verdict.index as u32,
-        from: NODE_WORDS * (verdict.index as u32 as usize),
+        index: verdict.index,
+        from: from,
         words: words,
     }
 }

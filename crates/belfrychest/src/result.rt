@@ -1,5 +1,10 @@
 // What a call answers that writes into a lent output.
+use crate::list::shown;
 use lists::verdict::Verdict;
+ghost use mathlib.Core.Path.{_≡_};
+ghost use Prim.Native.Nat.{_≤_};
+ghost use Rattle.nodes.specs.Words.{MOST-NODES};
+ghost use Rattle.belfrychest.specs.Shown.{shownResult};
 
 // The answer of a call that writes: its number, the list and the index that it names, and how much was written, 0 on refusal.
 #[repr(C)]
@@ -10,13 +15,16 @@ pub struct BelfryResult {
     pub count: usize,
 }
 
-// A verdict and a count.
-pub(crate) fn counted(verdict: Verdict, count: usize) -> BelfryResult {
+// A verdict and a count, in C's numbers.
+pub(crate) fn counted(verdict: Verdict, count: usize) -> BelfryResult
+    requires { ⌜ verdict .index ≤ MOST-NODES ⌝ }
+    ensures { λ r. ⌜ r ≡ shownResult verdict count ⌝ }
+{
+    let numbers = shown(verdict);
     BelfryResult {
-        answer: verdict.answer,
-        list: verdict.list,
-        index: verdict.index as u32,
+        answer: numbers.answer,
+        list: numbers.list,
+        index: numbers.index,
         count: count,
     }
 }
-

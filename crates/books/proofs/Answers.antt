@@ -20,7 +20,7 @@ use Rattle.lists.specs.Two.{refusedb}
 use Rattle.books.specs.Book.{nodesOf, checkBodies, checkParts, checkBook}
 
 -- what holds of both answers holds of the one that a test chooses
-chosen : {A : Type 0} (P : A → Type 0) (b : Bool) {x y : A} → P x → P y → P (cond b x y)
+pub chosen : {A : Type 0} (P : A → Type 0) (b : Bool) {x y : A} → P x → P y → P (cond b x y)
 chosen P true p q = p
 chosen P false p q = q
 

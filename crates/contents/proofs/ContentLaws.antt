@@ -75,7 +75,7 @@ entries-of (e ∷ es) ns = ap (λ fs. e ∷ fs) (entries-of es ns)
 
 -- the first so many of a list are no more than these, nor than the list has; those from an index on begin with the one there
 module _ {A : Type 0} where
-  few-taken : (n : ℕ) (xs : List A) → (length (take n xs) ≤ n) × (length (take n xs) ≤ length xs)
+  pub few-taken : (n : ℕ) (xs : List A) → (length (take n xs) ≤ n) × (length (take n xs) ≤ length xs)
   few-taken zero xs = (omega arith, omega arith)
   few-taken (suc n) [] = (omega arith, omega arith)
   few-taken (suc n) (x ∷ xs) = let h = few-taken n xs in (omega (arith, h .0), omega (arith, h .1))

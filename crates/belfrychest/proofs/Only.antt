@@ -1,0 +1,59 @@
+-- Each contract equates the answer, and the output where there is one, with a definition, and two things that equal a third are equal.
+-- `Post` is what a function's `ensures` says of its result and of what was lent; a contract that left a field or a word open would fall here.
+use mathlib.Core.Path.{_≡_}
+use denote.Ref.{now}
+use Rattle.nodes.proofs.Only.{only}
+use Rattle.belfrychest.proofs.book.belfry_book_body.Reads as book-body
+use Rattle.belfrychest.proofs.book.belfry_book_check.Reads as book-check
+use Rattle.belfrychest.proofs.book.belfry_book_write.Reads as book-write
+use Rattle.belfrychest.proofs.list.belfry_check.Reads as check
+use Rattle.belfrychest.proofs.list.belfry_check_two.Reads as check-two
+use Rattle.belfrychest.proofs.list.belfry_faulty.Reads as faulty
+use Rattle.belfrychest.proofs.name.belfry_name.Reads as name
+use Rattle.belfrychest.proofs.page.belfry_list.Reads as list
+use Rattle.belfrychest.proofs.table.belfry_links.Reads as links
+use Rattle.belfrychest.proofs.table.belfry_number.Reads as number
+use Rattle.belfrychest.proofs.table.belfry_pick.Reads as pick
+use Rattle.belfrychest.proofs.table.belfry_unnumber.Reads as unnumber
+
+pub check-only : (κs : _) (a : _) (r r′ : _) (s s′ : _) → check.Post κs a r s → check.Post κs a r′ s′ → r ≡ r′
+check-only κs a r r′ s s′ p q = only p q
+
+pub check-two-only : (κs : _) (a : _) (r r′ : _) (s s′ : _) → check-two.Post κs a r s → check-two.Post κs a r′ s′ → r ≡ r′
+check-two-only κs a r r′ s s′ p q = only p q
+
+pub faulty-only : (κs : _) (a : _) (r r′ : _) (s s′ : _) → faulty.Post κs a r s → faulty.Post κs a r′ s′ → r ≡ r′
+faulty-only κs a r r′ s s′ p q = only p q
+
+pub book-check-only : (κs : _) (a : _) (r r′ : _) (s s′ : _) → book-check.Post κs a r s → book-check.Post κs a r′ s′ → r ≡ r′
+book-check-only κs a r r′ s s′ p q = only p q
+
+pub book-body-only : (κs : _) (a : _) (r r′ : _) (s s′ : _) → book-body.Post κs a r s → book-body.Post κs a r′ s′ → r ≡ r′
+book-body-only κs a r r′ s s′ p q = only p q
+
+pub name-only : (κs : _) (a : _) (r r′ : _) (s s′ : _) → name.Post κs a r s → name.Post κs a r′ s′ → now (s .1 .0) ≡ now (s′ .1 .0)
+name-only κs a r r′ s s′ p q = only p q
+
+pub list-only : (κs : _) (a : _) (r r′ : _) (s s′ : _) → list.Post κs a r s → list.Post κs a r′ s′
+    → (now (s .1 .1 .1 .0) ≡ now (s′ .1 .1 .1 .0)) × (r ≡ r′)
+list-only κs a r r′ s s′ p q = (only (p .1) (q .1), only (p .0) (q .0))
+
+pub number-only : (κs : _) (a : _) (r r′ : _) (s s′ : _) → number.Post κs a r s → number.Post κs a r′ s′
+    → (now (s .1 .1 .0) ≡ now (s′ .1 .1 .0)) × (r ≡ r′)
+number-only κs a r r′ s s′ p q = (only (p .1) (q .1), only (p .0) (q .0))
+
+pub unnumber-only : (κs : _) (a : _) (r r′ : _) (s s′ : _) → unnumber.Post κs a r s → unnumber.Post κs a r′ s′
+    → (now (s .1 .0) ≡ now (s′ .1 .0)) × (r ≡ r′)
+unnumber-only κs a r r′ s s′ p q = (only (p .1) (q .1), only (p .0) (q .0))
+
+pub pick-only : (κs : _) (a : _) (r r′ : _) (s s′ : _) → pick.Post κs a r s → pick.Post κs a r′ s′
+    → (now (s .1 .1 .0) ≡ now (s′ .1 .1 .0)) × (r ≡ r′)
+pick-only κs a r r′ s s′ p q = (only (p .1) (q .1), only (p .0) (q .0))
+
+pub links-only : (κs : _) (a : _) (r r′ : _) (s s′ : _) → links.Post κs a r s → links.Post κs a r′ s′
+    → (now (s .1 .0) ≡ now (s′ .1 .0)) × (r ≡ r′)
+links-only κs a r r′ s s′ p q = (only (p .1) (q .1), only (p .0) (q .0))
+
+pub book-write-only : (κs : _) (a : _) (r r′ : _) (s s′ : _) → book-write.Post κs a r s → book-write.Post κs a r′ s′
+    → (now (s .1 .1 .0) ≡ now (s′ .1 .1 .0)) × (r ≡ r′)
+book-write-only κs a r r′ s s′ p q = (only (p .1) (q .1), only (p .0) (q .0))

@@ -1,0 +1,45 @@
+-- The page is that of `next_page` for the ticket that the words stand for, its index fits, and it wrote into the very output.
+-- A page for another ticket, or with the lists swapped, falls at the return.
+use borrow.Author.Needs.{needs}
+use mathlib.Core.Path.{_≡_, sym, ap, subst, _∙_}
+use mathlib.Core.List.{List}
+use Prim.Native.Nat.{ℕ}
+use Rattle.tickets.specs.declared.ticket.Ticket.{Ticket}
+use Rattle.pairs.specs.declared.page.Page.{Page}
+use Rattle.pairs.specs.Page.{pageOf, outputAfter}
+use Rattle.belfrychest.specs.declared.page.BelfryPage.{BelfryPage}
+use Rattle.belfrychest.specs.declared.page.BelfryTicket.{BelfryTicket}
+use Rattle.belfrychest.specs.Shown.{ticketOf, shownPage}
+use Rattle.belfrychest.proofs.Indices.{Near, near-page}
+use Rattle.belfrychest.proofs.page.belfry_list.Statement.{statement}
+use Rattle.belfrychest.proofs.page.belfry_list.Tie as tie
+
+-- the call for the ticket asked for is the call for the one that the words stand for
+module _ (ancestors descendants out : List ℕ) (t : BelfryTicket) (asked : Ticket) (q : asked ≡ ticketOf t) where
+  answered : (p : Page) (r : BelfryPage) → r ≡ shownPage t p → p ≡ pageOf ancestors descendants asked out
+      → (last : List ℕ) → last ≡ outputAfter ancestors descendants asked out
+      → (r ≡ shownPage t (pageOf ancestors descendants (ticketOf t) out)) × (last ≡ outputAfter ancestors descendants (ticketOf t) out)
+  answered p r s e last w = (
+    s ∙ ap (shownPage t) (e ∙ ap (λ (u : Ticket). pageOf ancestors descendants u out) q),
+    w ∙ ap (λ (u : Ticket). outputAfter ancestors descendants u out) q,
+  )
+
+ticket-of-requires : tie.Need-ticket-of-requires
+ticket-of-requires c κs = search needs
+
+next-page-requires : tie.Need-next-page-requires
+next-page-requires c κs = search needs
+
+shown-page-requires : tie.Need-shown-page-requires
+shown-page-requires c κs = subst (λ (p : Page). Near (p .verdict)) (sym (c .before .before .next-page .ensures .0)) (near-page _ _ _ _)
+
+same-length : tie.Need-same-length
+same-length c = search needs
+
+returns : tie.Need-returns
+returns c =
+    let e = c .before .before .before .next-page .ensures in
+    answered _ _ _ _ _ (c .before .before .before .before .before .ticket-of .ensures) _ _ (c .shown-page .ensures) (e .0) _ (e .1)
+
+pub belfry-list-spec : {M : Type 1} → statement M
+belfry-list-spec = tie.close (tie.spec ticket-of-requires next-page-requires shown-page-requires same-length returns)

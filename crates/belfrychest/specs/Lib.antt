@@ -1,0 +1,2 @@
+-- What the contracts of `belfrychest` cite.
+pub mod Shown

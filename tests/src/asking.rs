@@ -1,0 +1,116 @@
+//! Each call of the C interface, held against the model: all fields of what it answers and every word of the output. The answer is handed back.
+
+use crate::model::answers::{row, Answer, Verdict, Written};
+use crate::model::pages::{Order, Relation, Ticket};
+use crate::model::{books, links, lists, marks, pages};
+use crate::paint::hold;
+use belfrychest::raw;
+
+fn raw_verdict(verdict: Verdict) -> raw::Verdict {
+    raw::Verdict { answer: verdict.answer as u32, list: verdict.list, index: verdict.index }
+}
+
+fn raw_written<T>(written: &Written<T>) -> raw::Written {
+    let Verdict { answer, list, index } = written.verdict;
+    raw::Written { answer: answer as u32, list, index, count: written.count }
+}
+
+pub fn check(list: &[u32]) -> Answer {
+    let expected = lists::check(list);
+    assert_eq!(raw::check(list), raw_verdict(expected), "given and expected: check of {list:?}");
+    expected.answer
+}
+
+pub fn check_two(ancestors: &[u32], descendants: &[u32]) -> Answer {
+    let expected = lists::check_two(ancestors, descendants);
+    assert_eq!(raw::check_two(ancestors, descendants), raw_verdict(expected), "given and expected: check of {ancestors:?} and {descendants:?}");
+    expected.answer
+}
+
+pub fn faulty(ancestors: &[u32], descendants: &[u32]) -> Answer {
+    let lists::Part { verdict: Verdict { answer, list, index }, from, words } = lists::faulty(ancestors, descendants);
+    let expected = raw::Part { answer: answer as u32, list, index, from, words };
+    assert_eq!(raw::faulty(ancestors, descendants), expected, "given and expected: faulty part of {ancestors:?} and {descendants:?}");
+    answer
+}
+
+/// What the words of a ticket mean.
+pub fn meaning(ticket: &raw::Ticket) -> Ticket {
+    Ticket {
+        relation: if ticket.relation == 0 { Relation::Inside } else { Relation::Directly },
+        order: if ticket.order == 0 { Order::Descendant } else { Order::Ancestor },
+        place: (ticket.placed != 0).then_some([ticket.document, ticket.first, ticket.second]),
+    }
+}
+
+/// The ticket that comes back from this page: as it was, with another place if something was written.
+fn ticket_after(ticket: raw::Ticket, page: &pages::Page) -> raw::Ticket {
+    match page.place {
+        Some([document, first, second]) if !page.pairs.is_empty() => raw::Ticket { placed: 1, document, first, second, ..ticket },
+        _ => ticket,
+    }
+}
+
+pub fn list(ancestors: &[u32], descendants: &[u32], ticket: raw::Ticket, out: &mut [u32]) -> Answer {
+    let page = pages::page(ancestors, descendants, &meaning(&ticket), out.len());
+    let words: Vec<u32> = page.pairs.iter().flat_map(pages::Pair::words).collect();
+    let Verdict { answer, list, index } = page.verdict;
+    let after = ticket_after(ticket, &page);
+    let expected = raw::Page { answer: answer as u32, list, index, done: page.done.into(), count: page.pairs.len(), ticket: after };
+    hold(&("page", ancestors, descendants, ticket), out, &words, expected, |out| raw::list(ancestors, descendants, ticket, out));
+    answer
+}
+
+pub fn number(document: u32, marks: &[u32], out: &mut [u32]) -> Answer {
+    let expected = marks::number(document, marks, out.len());
+    hold(&("number", document, marks), out, &expected.words, raw_written(&expected), |out| raw::number(document, marks, out));
+    expected.verdict.answer
+}
+
+pub fn unnumber(table: &[u32], out: &mut [u32]) -> Answer {
+    let marks::Unnumbered { answer, document, marks } = marks::unnumber(table, out.len());
+    let expected = raw::Unnumbered { answer: answer as u32, document, count: marks.len() };
+    hold(&("unnumber", table), out, &marks, expected, |out| raw::unnumber(table, out));
+    answer
+}
+
+pub fn pick(table: &[u32], tag: u32, out: &mut [u32]) -> Answer {
+    let expected = marks::pick(table, tag, out.len());
+    hold(&("pick", table, tag), out, &expected.words, raw_written(&expected), |out| raw::pick(table, tag, out));
+    expected.verdict.answer
+}
+
+pub fn links(list: &[u32], out: &mut [u32]) -> Answer {
+    let expected = links::links(list, out.len());
+    hold(&("links", list), out, &expected.words, raw_written(&expected), |out| raw::links(list, out));
+    expected.verdict.answer
+}
+
+pub fn book_check(book: &[u8]) -> Answer {
+    let books::Opened { verdict: Verdict { answer, list, index }, entries } = books::check(book);
+    let expected = raw::Book { answer: answer as u32, list, index, lists: entries.len() as u32 };
+    assert_eq!(raw::book_check(book), expected, "given and expected: check of the book {book:?}");
+    answer
+}
+
+pub fn book_body(book: &[u8], tag: u32) -> Answer {
+    let books::Body { verdict: Verdict { answer, list, index }, from, bytes } = books::body(book, tag);
+    let expected = raw::Body { answer: answer as u32, list, index, from, bytes };
+    assert_eq!(raw::book_body(book, tag), expected, "given and expected: tag {tag} in the book {book:?}");
+    answer
+}
+
+pub fn book_write(entries: &[u32], nodes: &[u32], out: &mut [u8]) -> Answer {
+    let expected = books::write(entries, nodes, out.len());
+    hold(&("write", entries, nodes), out, &expected.words, raw_written(&expected), |out| raw::book_write(entries, nodes, out));
+    expected.verdict.answer
+}
+
+/// The output holds a name's bytes at least.
+pub fn name(number: u32, out: &mut [u8]) {
+    extern "C" {
+        fn belfry_name(answer: u32, out: *mut u8);
+    }
+    assert_eq!(raw::name(number), row(number), "given and expected: name of {number}");
+    hold(&("name", number), out, &row(number), (), |out| unsafe { belfry_name(number, out.as_mut_ptr()) });
+}

@@ -1,0 +1,14 @@
+//! What document 01 says, told again in the plainest way: every node is held against every other, and nothing is carried along from one node to the
+//! next. It calls nothing of the library and was written from document 01 alone.
+
+pub mod answers;
+pub mod books;
+pub mod links;
+pub mod lists;
+pub mod marks;
+pub mod nodes;
+pub mod pages;
+pub mod printing;
+
+/// The most nodes of a list, rows of a table and marks of a document.
+pub const MOST: usize = 4_096;

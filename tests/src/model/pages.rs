@@ -1,0 +1,89 @@
+//! The full listing of two lists, tickets, and the pages of a listing.
+
+use super::answers::{Answer, Verdict};
+use super::lists::check_two;
+use super::nodes::{directly_inside, inside, nodes, Node, NODE_WORDS};
+
+/// The words of a pair: the ancestor's, then the descendant's.
+pub const PAIR_WORDS: usize = 2 * NODE_WORDS;
+
+#[derive(Clone, Copy, Debug, PartialEq, Eq)]
+pub enum Relation {
+    Inside,
+    Directly,
+}
+
+#[derive(Clone, Copy, Debug, PartialEq, Eq)]
+pub enum Order {
+    Descendant,
+    Ancestor,
+}
+
+/// The three numbers that a pair is sorted by.
+pub type Key = [u32; 3];
+
+#[derive(Clone, Copy, Debug, PartialEq, Eq)]
+pub struct Pair {
+    pub ancestor: Node,
+    pub descendant: Node,
+}
+
+impl Pair {
+    pub fn has(&self, relation: Relation) -> bool {
+        match relation {
+            Relation::Inside => inside(&self.descendant, &self.ancestor),
+            Relation::Directly => directly_inside(&self.descendant, &self.ancestor),
+        }
+    }
+
+    pub fn key(&self, order: Order) -> Key {
+        let Pair { ancestor, descendant } = self;
+        match order {
+            Order::Descendant => [ancestor.document, descendant.start, ancestor.start],
+            Order::Ancestor => [ancestor.document, ancestor.start, descendant.start],
+        }
+    }
+
+    pub fn words(&self) -> Vec<u32> {
+        [self.ancestor.words(), self.descendant.words()].concat()
+    }
+}
+
+/// Every pair of an ancestor and a descendant that has the relation, in no particular order.
+pub fn pairs(relation: Relation, ancestors: &[Node], descendants: &[Node]) -> Vec<Pair> {
+    let with_all = |&ancestor: &Node| descendants.iter().map(move |&descendant| Pair { ancestor, descendant });
+    ancestors.iter().flat_map(with_all).filter(|pair| pair.has(relation)).collect()
+}
+
+/// A ticket: a fresh one has no place.
+#[derive(Clone, Copy, Debug, PartialEq, Eq)]
+pub struct Ticket {
+    pub relation: Relation,
+    pub order: Order,
+    pub place: Option<Key>,
+}
+
+/// What a page call answers and writes. The place is that of the ticket for the next call.
+#[derive(Clone, Debug, PartialEq, Eq)]
+pub struct Page {
+    pub verdict: Verdict,
+    pub done: bool,
+    pub pairs: Vec<Pair>,
+    pub place: Option<Key>,
+}
+
+/// The page of two lists past a ticket's place, into an output of so many words.
+pub fn page(ancestors: &[u32], descendants: &[u32], ticket: &Ticket, words: usize) -> Page {
+    let verdict = check_two(ancestors, descendants);
+    if verdict.answer != Answer::Taken {
+        return Page { verdict, done: false, pairs: Vec::new(), place: ticket.place };
+    }
+    let mut remaining = pairs(ticket.relation, &nodes(ancestors), &nodes(descendants));
+    remaining.sort_by_key(|pair| pair.key(ticket.order));
+    remaining.retain(|pair| ticket.place.map_or(true, |place| pair.key(ticket.order) > place));
+    let room = words / PAIR_WORDS;
+    let done = remaining.len() <= room;
+    remaining.truncate(room);
+    let place = remaining.last().map(|pair| pair.key(ticket.order)).or(ticket.place);
+    Page { verdict, done, pairs: remaining, place }
+}

@@ -1,0 +1,39 @@
+//! What the program prints of a book.
+
+use super::answers::{Answer, NAMES};
+use super::books::{body_nodes, check, Opened};
+use super::nodes::words;
+use super::pages::{page, Order, Pair, Relation, Ticket};
+
+/// The most bytes that the program reads.
+pub const MOST_BYTES: usize = 61_440;
+
+/// The pairs of a book's first list with its second, in the order in which the program prints them, or the refusal.
+pub fn joined(book: &[u8]) -> Result<Vec<Pair>, Answer> {
+    if book.len() > MOST_BYTES {
+        return Err(Answer::Long);
+    }
+    let Opened { verdict, entries } = check(book);
+    if verdict.answer != Answer::Taken {
+        return Err(verdict.answer);
+    }
+    if entries.len() < 2 {
+        return Err(Answer::Absent);
+    }
+    let list = |place: usize| words(&body_nodes(book, &entries[place]));
+    let fresh = Ticket { relation: Relation::Inside, order: Order::Descendant, place: None };
+    let all = page(&list(0), &list(1), &fresh, usize::MAX);
+    match all.verdict.answer {
+        Answer::Taken => Ok(all.pairs),
+        refusal => Err(refusal),
+    }
+}
+
+/// The program's whole output.
+pub fn printed(book: &[u8]) -> String {
+    let line = |pair: &Pair| format!("{} {} {}\n", pair.ancestor.document, pair.ancestor.start, pair.descendant.start);
+    match joined(book) {
+        Ok(pairs) => pairs.iter().map(line).chain([format!("pairs {}\n", pairs.len())]).collect(),
+        Err(answer) => format!("refused {} {}\n", answer as u32, NAMES[answer as usize]),
+    }
+}

@@ -1,0 +1,141 @@
+//! The figures of document 01, word for word, of the library and of the model alike.
+
+use belfrychest::raw::{self, Ticket};
+use outside::asking;
+use outside::model::answers::Answer::{self, *};
+use outside::model::links::NONE;
+use outside::model::marks::ROW_WORDS;
+use outside::model::nodes::NODE_WORDS;
+use outside::model::pages::PAIR_WORDS;
+use outside::model::printing::printed;
+
+const DOCUMENT: u32 = 5;
+const MARKS: [u32; 11] = [1, 2, 2, 3, 65_536, 0, 0, 3, 0, 0, 0];
+const BOOK: &[u8] = include_bytes!("../../examples/figure.book");
+
+/// A list of document 5 from (start, end, level).
+fn list(nodes: &[[u32; 3]]) -> Vec<u32> {
+    nodes.iter().flat_map(|&[start, end, level]| [DOCUMENT, start, end, level]).collect()
+}
+
+fn zones() -> Vec<u32> {
+    list(&[[2, 10, 2], [3, 7, 3]])
+}
+
+fn samples() -> Vec<u32> {
+    list(&[[4, 6, 4], [8, 9, 3]])
+}
+
+fn ticket(relation: u32, order: u32) -> Ticket {
+    Ticket { relation, order, placed: 0, document: 0, first: 0, second: 0 }
+}
+
+/// The starts of the pairs of one page, whether it was done, and the ticket for the next.
+fn page(ancestors: &[u32], descendants: &[u32], ticket: Ticket, room: usize) -> (Vec<[u32; 2]>, bool, Ticket) {
+    let mut out = vec![0; room * PAIR_WORDS];
+    asking::list(ancestors, descendants, ticket, &mut out);
+    let page = raw::list(ancestors, descendants, ticket, &mut out);
+    assert_eq!(page.answer, Taken as u32);
+    let starts = out.chunks(PAIR_WORDS).take(page.count).map(|pair| [pair[1], pair[NODE_WORDS + 1]]).collect();
+    (starts, page.done == 1, page.ticket)
+}
+
+/// Fails unless the list draws this answer at this index.
+fn draws(nodes: &[[u32; 3]], answer: Answer, index: u32) {
+    assert_eq!(asking::check(&list(nodes)), answer);
+    assert_eq!(raw::check(&list(nodes)), raw::Verdict { answer: answer as u32, list: 0, index });
+}
+
+#[test]
+fn marks_number_to_the_table_and_come_back() {
+    let rows = [[5, 1, 11, 1, 1], [5, 2, 10, 2, 2], [5, 3, 7, 3, 2], [5, 4, 6, 4, 3], [5, 5, 5, 5, 65_536], [5, 8, 9, 3, 3]].concat();
+    let mut out = vec![0; rows.len()];
+    assert_eq!(asking::number(DOCUMENT, &MARKS, &mut out), Taken);
+    assert_eq!(raw::number(DOCUMENT, &MARKS, &mut out).count, rows.len() / ROW_WORDS);
+    assert_eq!(out, rows);
+    let mut back = [0; MARKS.len()];
+    assert_eq!(asking::unnumber(&rows, &mut back), Taken);
+    assert_eq!(raw::unnumber(&rows, &mut back), raw::Unnumbered { answer: 0, document: DOCUMENT, count: MARKS.len() });
+    assert_eq!(back, MARKS);
+    for (tag, nodes) in [(2, zones()), (3, samples())] {
+        let mut picked = vec![0; nodes.len()];
+        assert_eq!(asking::pick(&rows, tag, &mut picked), Taken);
+        assert_eq!(picked, nodes);
+    }
+}
+
+#[test]
+fn pairs_come_in_both_orders_and_relations() {
+    let listed = |relation, order| page(&zones(), &samples(), ticket(relation, order), 4).0;
+    assert_eq!(listed(0, 0), [[2, 4], [3, 4], [2, 8]]);
+    assert_eq!(listed(0, 1), [[2, 4], [2, 8], [3, 4]]);
+    assert_eq!(listed(1, 0), [[3, 4], [2, 8]]);
+    assert_eq!(listed(1, 1), [[2, 8], [3, 4]]);
+}
+
+#[test]
+fn two_pages_of_room_two() {
+    let (first, done, next) = page(&zones(), &samples(), ticket(0, 0), 2);
+    assert_eq!((first, done), (vec![[2, 4], [3, 4]], false));
+    let (second, done, _) = page(&zones(), &samples(), next, 2);
+    assert_eq!((second, done), (vec![[2, 8]], true));
+}
+
+#[test]
+fn zones_joined_with_themselves() {
+    assert_eq!(page(&zones(), &zones(), ticket(0, 0), 4).0, [[2, 3]]);
+}
+
+#[test]
+fn links_of_the_zones() {
+    let mut out = [0; 6];
+    assert_eq!(asking::links(&zones(), &mut out), Taken);
+    assert_eq!(out, [NONE, 1, NONE, 0, NONE, NONE]);
+}
+
+#[test]
+fn book_of_zones_and_samples() {
+    let nodes = [zones(), samples()].concat();
+    let mut book = [0; 92];
+    assert_eq!(asking::book_write(&[2, 2, 3, 2], &nodes, &mut book), Taken);
+    assert_eq!(book, BOOK);
+    for (tag, from) in [(2, 28), (3, 60)] {
+        assert_eq!(asking::book_body(BOOK, tag), Taken);
+        assert_eq!(raw::book_body(BOOK, tag), raw::Body { answer: 0, list: 0, index: 0, from, bytes: 32 });
+    }
+    assert_eq!(printed(BOOK), "5 2 4\n5 3 4\n5 2 8\npairs 3\n");
+    assert_eq!(printed(b""), "refused 15 CONTENTS\n");
+}
+
+#[test]
+fn lists_that_cross_or_sink() {
+    draws(&[[1, 5, 1], [5, 7, 2]], Cross, 1);
+    draws(&[[1, 5, 1], [6, 7, 1]], Taken, 0);
+    draws(&[[1, 9, 1], [7, 9, 2]], Cross, 1);
+    draws(&[[1, 9, 1], [7, 8, 2]], Taken, 0);
+    draws(&[[1, 9, 3], [2, 3, 3]], Depth, 1);
+    draws(&[[2, 2, 64]], Taken, 0);
+    draws(&[[2, 2, 65]], Level, 0);
+    assert_eq!(asking::check_two(&list(&[[1, 9, 1]]), &list(&[[4, 12, 2]])), Joint);
+}
+
+#[test]
+fn marks_that_stray_or_stay_open() {
+    assert_eq!(asking::number(DOCUMENT, &[0], &mut [0; 20]), Stray);
+    assert_eq!(asking::number(DOCUMENT, &[], &mut [0; 20]), Unclosed);
+    assert_eq!(asking::number(DOCUMENT, &[1, 0, 1, 0], &mut [0; 20]), Stray);
+}
+
+#[test]
+fn empty_lists_have_no_pairs() {
+    assert_eq!(page(&[], &[], ticket(0, 0), 1), (vec![], true, ticket(0, 0)));
+    assert_eq!(page(&[], &[], ticket(0, 0), 0), (vec![], true, ticket(0, 0)));
+}
+
+#[test]
+fn names_are_filled_up_with_blanks() {
+    let name = |number| String::from_utf8(raw::name(number).to_vec()).expect("names are ASCII");
+    let names: Vec<String> = (0..=17).map(name).collect();
+    let table = "TAKEN   RAGGED  LONG    LEVEL   SPAN    ORDER   CROSS   DEPTH   JOINT   ROOM    MARK    STRAY   DEEP    UNCLOSEDTABLE   CONTENTSABSENT  ";
+    assert_eq!(names.concat(), format!("{table}        "));
+}

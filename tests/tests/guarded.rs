@@ -1,0 +1,67 @@
+//! Every function with each of its buffers right before memory that can't be touched, and then right behind it; inputs can't be written besides. A word
+//! too far would end the process. The answers are held against the model as everywhere.
+
+use outside::cases::{self, Function};
+use outside::ground::{Ground, Lent};
+use outside::random::each_case;
+use std::io::{Read, Write};
+use std::os::unix::net::UnixStream;
+use std::slice;
+
+/// The cases of each function on either side of a guard.
+const CASES: u64 = 2_500;
+/// Seeds that no other test has.
+const SEEDS: u64 = 1 << 40;
+
+const FUNCTIONS: [Function; 11] = [
+    cases::CHECK,
+    cases::CHECK_TWO,
+    cases::FAULTY,
+    cases::LIST,
+    cases::NUMBER,
+    cases::UNNUMBER,
+    cases::PICK,
+    cases::LINKS,
+    cases::BOOK_CHECK,
+    cases::BOOK_BODY,
+    cases::BOOK_WRITE,
+];
+
+fn hold(ground: Ground, first_seed: u64) {
+    for (seeds, function) in (1..).zip(&FUNCTIONS) {
+        function.hold(first_seed + seeds * CASES, CASES, ground);
+    }
+    each_case(first_seed, CASES, |random| cases::name(random, ground));
+}
+
+#[test]
+fn right_before_a_guard() {
+    hold(Ground::BeforeGuard, SEEDS);
+}
+
+#[test]
+fn right_behind_a_guard() {
+    hold(Ground::AfterGuard, 2 * SEEDS);
+}
+
+/// The system's number for memory that it can't read or write on behalf of the process.
+const BAD_ADDRESS: Option<i32> = Some(14);
+
+/// The bytes beside a buffer, which the system is asked to read below.
+fn beside(buffer: &Lent<u8>, places: isize) -> &[u8] {
+    unsafe { slice::from_raw_parts(buffer.as_ptr().offset(places), 1) }
+}
+
+#[test]
+fn guards_guard() {
+    let (mut near, mut far) = UnixStream::pair().expect("a pair of sockets");
+    let before = Ground::BeforeGuard.lend(&[1_u8, 2, 3]);
+    let mut behind = Ground::AfterGuard.lend(&[1_u8, 2, 3]);
+    assert_eq!(near.write(&before).expect("three bytes are sent"), 3);
+    assert_eq!(near.write(beside(&before, 3)).expect_err("a guard is read").raw_os_error(), BAD_ADDRESS);
+    assert_eq!(near.write(beside(&behind, -1)).expect_err("a guard is read").raw_os_error(), BAD_ADDRESS);
+    assert_eq!(far.read(&mut behind).expect_err("an input is written").raw_os_error(), BAD_ADDRESS);
+    let mut out = Ground::BeforeGuard.room(3);
+    assert_eq!(far.read(&mut out).expect("three bytes are received"), 3);
+    assert_eq!(out[..], [1, 2, 3]);
+}

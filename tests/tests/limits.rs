@@ -1,0 +1,308 @@
+//! Both sides of every limit. What is too large for the model, which tries all pairs, is known from how the case is put together.
+
+use belfrychest::raw::{self, Ticket};
+use outside::asking;
+use outside::model::answers::Answer::{self, *};
+use outside::model::answers::{ANCESTORS, DESCENDANTS};
+use outside::model::books::{self, bytes, contents_end, MOST_LISTS, NODE_BYTES};
+use outside::model::links::{LINK_WORDS, NONE};
+use outside::model::lists::MOST_LEVEL;
+use outside::model::marks::{CLOSE, ROW_WORDS, TEXT};
+use outside::model::nodes::{words, Node, NODE_WORDS};
+use outside::model::pages::PAIR_WORDS;
+use outside::model::{links, marks, MOST};
+use outside::paint::hold;
+
+const FRESH: Ticket = Ticket { relation: 0, order: 0, placed: 0, document: 0, first: 0, second: 0 };
+
+/// So many texts of document 5 side by side, from position 100 on.
+fn texts(count: usize) -> Vec<Node> {
+    let text = |place: u32| Node { document: 5, start: 100 + place, end: 100 + place, level: MOST_LEVEL };
+    (0..count as u32).map(text).collect()
+}
+
+/// So many zones of document 5, each inside the one before, around all those texts.
+fn nest(count: u32) -> Vec<Node> {
+    (0..count).map(|depth| Node { document: 5, start: depth, end: 10_000 - depth, level: 1 + depth }).collect()
+}
+
+/// A document of so many marks: a root with texts.
+fn document(marks: usize) -> Vec<u32> {
+    [vec![1], vec![TEXT; marks - 2], vec![CLOSE]].concat()
+}
+
+/// Words that the checks of a list answer without looking at a node.
+fn unread(words: usize) -> Vec<u32> {
+    vec![5; words]
+}
+
+fn refused(answer: Answer) -> raw::Written {
+    raw::Written { answer: answer as u32, list: 0, index: 0, count: 0 }
+}
+
+/// Fails unless every call refuses these words as a list, alone and as either of two.
+fn draws(list: &[u32], answer: Answer) {
+    let other = words(&texts(1));
+    let verdict = |number| raw::Verdict { answer: answer as u32, list: number, index: 0 };
+    assert_eq!(raw::check(list), verdict(0));
+    hold(&answer, &mut [0; 12], &[], refused(answer), |out| raw::links(list, out));
+    for (ancestors, descendants, number) in [(list, &other[..], ANCESTORS), (&other, list, DESCENDANTS), (list, list, ANCESTORS)] {
+        assert_eq!(raw::check_two(ancestors, descendants), verdict(number));
+        let part = raw::Part { answer: answer as u32, list: number, index: 0, from: 0, words: 0 };
+        assert_eq!(raw::faulty(ancestors, descendants), part);
+        let page = raw::Page { answer: answer as u32, list: number, index: 0, done: 0, count: 0, ticket: FRESH };
+        hold(&answer, &mut [0; 12], &[], page, |out| raw::list(ancestors, descendants, FRESH, out));
+    }
+}
+
+#[test]
+fn nodes_of_a_list() {
+    let longest = words(&texts(MOST));
+    let taken = raw::Verdict { answer: Taken as u32, list: 0, index: 0 };
+    assert_eq!(raw::check(&longest), taken);
+    assert_eq!(raw::check_two(&longest, &longest), taken);
+    draws(&words(&texts(MOST + 1)), Long);
+    draws(&unread(NODE_WORDS * (MOST + 1)), Long);
+    draws(&unread(NODE_WORDS * MOST + 1), Ragged);
+    draws(&unread(NODE_WORDS * (MOST + 1) + 1), Ragged);
+    draws(&unread(1 << 20), Long);
+    draws(&unread(1), Ragged);
+}
+
+#[test]
+fn links_of_the_longest_list() {
+    let list = words(&texts(MOST));
+    let next = |index: u32| if index + 1 < MOST as u32 { index + 1 } else { NONE };
+    let expected: Vec<u32> = (0..MOST as u32).flat_map(|index| [NONE, NONE, next(index)]).collect();
+    let taken = raw::Written { count: MOST, ..refused(Taken) };
+    for longer in 0..=LINK_WORDS {
+        hold(&longer, &mut vec![0; expected.len() + longer], &expected, taken, |out| raw::links(&list, out));
+    }
+    hold(&"one word less", &mut vec![0; expected.len() - 1], &[], refused(Room), |out| raw::links(&list, out));
+}
+
+/// The words of all pairs of a nest and of the texts in it, in descendant order or in ancestor order.
+fn all_pairs(zones: &[Node], texts: &[Node], order: u32) -> Vec<u32> {
+    let pair = |zone: &Node, text: &Node| [zone.words(), text.words()].concat();
+    match order {
+        0 => texts.iter().flat_map(|text| zones.iter().flat_map(move |zone| pair(zone, text))).collect(),
+        _ => zones.iter().flat_map(|zone| texts.iter().flat_map(move |text| pair(zone, text))).collect(),
+    }
+}
+
+#[test]
+fn pairs_of_the_deepest_nest_with_the_longest_list() {
+    let (zones, texts) = (nest(MOST_LEVEL - 1), texts(MOST));
+    let (ancestors, descendants) = (words(&zones), words(&texts));
+    let count = zones.len() * texts.len();
+    for (order, last) in [(0, [100 + MOST as u32 - 1, MOST_LEVEL - 2]), (1, [MOST_LEVEL - 2, 100 + MOST as u32 - 1])] {
+        let expected = all_pairs(&zones, &texts, order);
+        let given = Ticket { order, ..FRESH };
+        let ticket = Ticket { placed: 1, document: 5, first: last[0], second: last[1], ..given };
+        let page = raw::Page { answer: 0, list: 0, index: 0, done: 1, count, ticket };
+        hold(&order, &mut vec![0; expected.len()], &expected, page, |out| raw::list(&ancestors, &descendants, given, out));
+        let mut one_less = vec![0; expected.len() - 1];
+        let page = raw::list(&ancestors, &descendants, given, &mut one_less);
+        assert_eq!((page.done, page.count), (0, count - 1));
+        assert_eq!(one_less[..PAIR_WORDS * (count - 1)], expected[..PAIR_WORDS * (count - 1)]);
+    }
+}
+
+#[test]
+fn levels() {
+    for (level, answer) in [(0, Level), (1, Taken), (63, Taken), (64, Taken), (65, Level), (1 << 31, Level), (u32::MAX, Level)] {
+        assert_eq!(asking::check(&[5, 1, 1, level]), answer);
+        assert_eq!(asking::links(&[5, 1, 9, level], &mut [0; 3]), answer);
+    }
+}
+
+#[test]
+fn the_deepest_nest() {
+    let zones = words(&nest(MOST_LEVEL));
+    assert_eq!(asking::check(&zones), Taken);
+    assert_eq!(asking::links(&zones, &mut [0; LINK_WORDS * MOST_LEVEL as usize]), Taken);
+    for (relation, order) in [(0, 0), (0, 1), (1, 0), (1, 1)] {
+        let ticket = Ticket { relation, order, ..FRESH };
+        assert_eq!(asking::list(&zones, &zones, ticket, &mut [0; 20_000]), Taken);
+    }
+    let deeper = words(&nest(MOST_LEVEL + 1));
+    assert_eq!(asking::check(&deeper), Level);
+    assert_eq!(raw::check(&deeper).index, MOST_LEVEL);
+}
+
+/// Fails unless the marks are numbered into just as much room as their table needs, and back.
+fn numbers_both_ways(marks: &[u32]) {
+    let table = marks::number(7, marks, usize::MAX).words;
+    assert_eq!(asking::number(7, marks, &mut vec![0; table.len()]), Taken);
+    assert_eq!(asking::number(7, marks, &mut vec![0; table.len() - 1]), Room);
+    assert_eq!(asking::unnumber(&table, &mut vec![0; marks.len()]), Taken);
+    assert_eq!(asking::unnumber(&table, &mut vec![0; marks.len() - 1]), Room);
+}
+
+#[test]
+fn marks_of_a_document() {
+    numbers_both_ways(&[1, 0]);
+    numbers_both_ways(&document(MOST - 1));
+    numbers_both_ways(&document(MOST));
+    for marks in [document(MOST + 1), unread(MOST + 1), unread(1 << 20)] {
+        assert_eq!(asking::number(7, &marks, &mut [0; 10]), Long);
+    }
+    assert_eq!(asking::number(7, &unread(MOST), &mut [0; 10]), Deep);
+}
+
+#[test]
+fn depth_of_a_document() {
+    let deepest = MOST_LEVEL as usize;
+    let chain = |depth: usize, within: &[u32]| [&vec![1; depth], within, &vec![CLOSE; depth]].concat();
+    numbers_both_ways(&chain(deepest, &[]));
+    numbers_both_ways(&chain(deepest - 1, &[TEXT]));
+    numbers_both_ways(&chain(1, &chain(deepest - 1, &[]).repeat(32)));
+    for marks in [chain(deepest + 1, &[]), chain(deepest, &[TEXT])] {
+        assert_eq!(asking::number(7, &marks, &mut [0; 1_000]), Deep);
+    }
+}
+
+#[test]
+fn tags_of_marks() {
+    for (tag, answer) in [(1, Taken), (TEXT - 1, Taken), (TEXT, Stray), (TEXT + 1, Mark), (1 << 31, Mark), (u32::MAX, Mark)] {
+        assert_eq!(asking::number(7, &[tag, CLOSE], &mut [0; 5]), answer);
+    }
+    for (tag, answer) in [(0, Table), (1, Taken), (TEXT - 1, Taken), (TEXT, Table), (TEXT + 1, Table), (u32::MAX, Table)] {
+        assert_eq!(asking::unnumber(&[7, 1, 2, 1, tag], &mut [0; 2]), answer);
+    }
+}
+
+#[test]
+fn rows_of_a_table() {
+    let table = |rows: usize| {
+        let text = |row: u32| [7, row, row, 2, TEXT];
+        let root = [7, 1, rows as u32 + 1, 1, 1];
+        [root].into_iter().chain((2..=rows as u32).map(text)).flatten().collect::<Vec<u32>>()
+    };
+    let mut out = vec![0; MOST + 1];
+    assert_eq!(asking::unnumber(&table(MOST - 1), &mut out), Taken);
+    assert_eq!(asking::unnumber(&table(MOST), &mut out), Table);
+    assert_eq!(asking::unnumber(&table(MOST + 1), &mut out), Long);
+    assert_eq!(asking::unnumber(&unread(ROW_WORDS * MOST + 1), &mut out), Ragged);
+    assert_eq!(asking::unnumber(&unread(ROW_WORDS * (MOST + 1) + 1), &mut out), Ragged);
+    assert_eq!(asking::unnumber(&[], &mut out), Table);
+    for (rows, answer) in [(MOST, Taken), (MOST + 1, Long)] {
+        assert_eq!(asking::pick(&table(rows), TEXT, &mut vec![0; NODE_WORDS * (rows - 1)]), answer);
+        assert_eq!(asking::pick(&unread(ROW_WORDS * rows), 5, &mut vec![0; NODE_WORDS * rows]), answer);
+    }
+    assert_eq!(asking::pick(&table(MOST), TEXT, &mut vec![0; NODE_WORDS * (MOST - 1) - 1]), Room);
+    assert_eq!(asking::pick(&unread(ROW_WORDS * (MOST + 1) + 1), 5, &mut out), Ragged);
+}
+
+/// The answers of a call with each room from none up to some words more than a result of this length needs: ROOM as long as it doesn't fit.
+fn fits_from(needed: usize, call: impl Fn(usize) -> Answer) {
+    for room in 0..needed + 10 {
+        assert_eq!(call(room), if room < needed { Room } else { Taken }, "room {room} where {needed} are needed");
+    }
+}
+
+#[test]
+fn rooms_of_results() {
+    let marks = [1, 2, 2, 3, TEXT, 0, 0, 3, 0, 0, 0];
+    let table = marks::number(5, &marks, usize::MAX).words;
+    fits_from(6 * ROW_WORDS, |room| asking::number(5, &marks, &mut vec![0; room]));
+    fits_from(marks.len(), |room| asking::unnumber(&table, &mut vec![0; room]));
+    fits_from(2 * NODE_WORDS, |room| asking::pick(&table, 2, &mut vec![0; room]));
+    fits_from(0, |room| asking::pick(&table, 9, &mut vec![0; room]));
+    let zones = words(&nest(7));
+    fits_from(links::links(&zones, usize::MAX).words.len(), |room| asking::links(&zones, &mut vec![0; room]));
+    fits_from(contents_end(2) + 7 * NODE_BYTES, |room| asking::book_write(&[1, 3, 2, 4], &zones, &mut vec![0; room]));
+    fits_from(contents_end(0), |room| asking::book_write(&[], &[], &mut vec![0; room]));
+}
+
+#[test]
+fn rooms_of_pages() {
+    let (zones, texts) = (words(&nest(3)), words(&texts(4)));
+    for (room, order) in (0..13 * PAIR_WORDS).flat_map(|room| [(room, 0), (room, 1)]) {
+        let ticket = Ticket { order, ..FRESH };
+        assert_eq!(asking::list(&zones, &texts, ticket, &mut vec![0; room]), Taken);
+    }
+}
+
+#[test]
+fn lists_of_a_book() {
+    let book = |lists: usize| (0..lists as u32).map(|tag| (tag, texts(tag as usize % 3))).collect::<Vec<_>>();
+    for (lists, answer) in [(0, Taken), (1, Taken), (MOST_LISTS, Taken), (MOST_LISTS + 1, Contents), (300, Contents)] {
+        let book = book(lists);
+        assert_eq!(asking::book_check(&bytes(&book)), answer);
+        let entries: Vec<u32> = book.iter().flat_map(|(tag, nodes)| [*tag, nodes.len() as u32]).collect();
+        let nodes: Vec<u32> = book.iter().flat_map(|(_, nodes)| words(nodes)).collect();
+        assert_eq!(asking::book_write(&entries, &nodes, &mut [0; 1_000]), answer);
+    }
+}
+
+#[test]
+fn tags_of_a_book() {
+    let some = texts(2);
+    for (tags, answer) in [([0, u32::MAX], Taken), ([0, 1], Taken), ([1, 1], Contents), ([u32::MAX, 0], Contents), ([1 << 31, (1 << 31) - 1], Contents)] {
+        let book = bytes(&tags.map(|tag| (tag, some.clone())));
+        assert_eq!(asking::book_check(&book), answer);
+        for tag in [0, 1, 2, 1 << 31, u32::MAX] {
+            let held = if tags.contains(&tag) { Taken } else { Absent };
+            assert_eq!(asking::book_body(&book, tag), if answer == Taken { held } else { answer });
+        }
+        assert_eq!(asking::book_write(&[tags[0], 2, tags[1], 2], &words(&[some.clone(), some.clone()].concat()), &mut [0; 100]), answer);
+    }
+}
+
+/// What the largest book of all answers: sixteen lists of the greatest length.
+#[test]
+fn nodes_of_a_book() {
+    let lists: Vec<books::Tagged> = (0..MOST_LISTS as u32).map(|tag| (tag, texts(MOST))).collect();
+    let book = bytes(&lists);
+    let size = contents_end(MOST_LISTS) + MOST_LISTS * MOST * NODE_BYTES;
+    assert_eq!(book.len(), size);
+    assert_eq!(raw::book_check(&book), raw::Book { answer: 0, list: 0, index: 0, lists: MOST_LISTS as u32 });
+    let last = raw::Body { answer: 0, list: 0, index: 0, from: size - MOST * NODE_BYTES, bytes: MOST * NODE_BYTES };
+    assert_eq!(raw::book_body(&book, MOST_LISTS as u32 - 1), last);
+    let entries: Vec<u32> = (0..MOST_LISTS as u32).flat_map(|tag| [tag, MOST as u32]).collect();
+    let nodes = words(&texts(MOST)).repeat(MOST_LISTS);
+    let taken = raw::Written { count: size, ..refused(Taken) };
+    hold(&"all", &mut vec![0; size], &book, taken, |out| raw::book_write(&entries, &nodes, out));
+    hold(&"one byte less", &mut vec![0; size - 1], &[], refused(Room), |out| raw::book_write(&entries, &nodes, out));
+}
+
+#[test]
+fn counts_of_a_book() {
+    let too_many = bytes(&[(1, texts(MOST + 1))]);
+    assert_eq!(asking::book_check(&too_many), Contents);
+    assert_eq!(asking::book_write(&[1, MOST as u32 + 1], &words(&texts(MOST + 1)), &mut vec![0; too_many.len()]), Contents);
+    let one = bytes(&[(1, texts(1))]);
+    for more in [0, 1 << 28, 1 << 29, 15 << 28] {
+        let mut book = one.clone();
+        book[12..16].copy_from_slice(&(1_u32 + more).to_le_bytes());
+        let answer = if more == 0 { Taken } else { Contents };
+        assert_eq!(asking::book_check(&book), answer);
+        assert_eq!(asking::book_write(&[1, 1 + more], &words(&texts(1)), &mut [0; 100]), answer);
+    }
+}
+
+/// Counts that add up to the nodes only where sums wrap at 32 bits.
+#[test]
+fn counts_that_wrap() {
+    for counts in [[u32::MAX, 2], [1 << 31, 1 + (1 << 31)], [2, u32::MAX], [u32::MAX - MOST as u32 + 2, MOST as u32]] {
+        assert_eq!(asking::book_write(&[1, counts[0], 2, counts[1]], &words(&texts(1)), &mut [0; 100]), Contents);
+    }
+}
+
+#[test]
+fn greatest_and_least_numbers() {
+    let edges = [0, 1, 1 << 31, u32::MAX - 1, u32::MAX];
+    let spans: Vec<[u32; 2]> = edges.iter().flat_map(|&start| edges.map(|end| [start, end])).collect();
+    for (x, y) in spans.iter().flat_map(|x| spans.iter().map(move |y| (x, y))) {
+        for documents in [[0, 0], [u32::MAX, u32::MAX], [0, u32::MAX], [1 << 31, 0]] {
+            let outer = [documents[0], x[0], x[1], 1];
+            let inner = [documents[1], y[0], y[1], 2];
+            asking::check(&[outer, inner].concat());
+            asking::links(&[outer, inner].concat(), &mut [0; 6]);
+            for ticket in [FRESH, Ticket { relation: 1, order: 1, ..FRESH }] {
+                asking::list(&outer, &inner, ticket, &mut [0; 9]);
+            }
+        }
+    }
+}

@@ -1,0 +1,58 @@
+//! All books that differ from the scope document's in one byte, against the model.
+
+use belfrychest::raw;
+use outside::asking;
+use outside::model::answers::Answer::{self, *};
+use outside::model::books::{body_nodes, check, Entry};
+use outside::model::nodes::words;
+use outside::tally::Tally;
+
+const BOOK: &[u8] = include_bytes!("../../examples/figure.book");
+
+/// Asks for the book, for each tag that it has or had, and for some that it hasn't.
+fn ask(book: &[u8]) -> Answer {
+    let changed = check(book).entries;
+    for tag in changed.iter().map(|entry| entry.tag).chain([0, 1, 2, 3, 4, u32::MAX]) {
+        asking::book_body(book, tag);
+    }
+    if !changed.is_empty() {
+        comes_back(book, &changed);
+    }
+    asking::book_check(book)
+}
+
+/// Fails unless the lists of an accepted book are written to the same bytes again.
+fn comes_back(book: &[u8], entries: &[Entry]) {
+    let wanted: Vec<u32> = entries.iter().flat_map(|entry| [entry.tag, entry.count as u32]).collect();
+    let nodes: Vec<u32> = entries.iter().flat_map(|entry| words(&body_nodes(book, entry))).collect();
+    let mut written = vec![0; book.len()];
+    assert_eq!(asking::book_write(&wanted, &nodes, &mut written), Taken);
+    assert_eq!(written, book);
+}
+
+#[test]
+fn every_change_of_one_byte() {
+    let mut tally = Tally::default();
+    let mut books = 0;
+    for place in 0..BOOK.len() {
+        for change in 1..=u8::MAX {
+            let mut book = BOOK.to_vec();
+            book[place] ^= change;
+            tally.count(ask(&book));
+            books += 1;
+        }
+    }
+    assert_eq!(books, 23_460);
+    tally.hold(&[Taken, Level, Span, Order, Cross, Depth, Contents]);
+}
+
+#[test]
+fn every_length() {
+    for length in 0..BOOK.len() {
+        assert_eq!(ask(&BOOK[..length]), Contents);
+    }
+    for more in 1..100 {
+        assert_eq!(ask(&[BOOK, &vec![0; more]].concat()), Contents);
+    }
+    assert_eq!(raw::book_check(BOOK), raw::Book { answer: 0, list: 0, index: 0, lists: 2 });
+}

@@ -1,0 +1,215 @@
+//! Every refusal, at every place where it can be drawn. What must be answered is known from how each case is put together, without the model.
+
+use belfrychest::raw::{self, Ticket};
+use outside::asking;
+use outside::model::answers::Answer::{self, *};
+use outside::model::answers::{Verdict, ANCESTORS, DESCENDANTS};
+use outside::model::books::{bytes, NODE_BYTES};
+use outside::model::lists::MOST_LEVEL;
+use outside::model::marks::{CLOSE, TEXT};
+use outside::model::nodes::{words, Node, NODE_WORDS};
+use outside::model::MOST;
+use outside::paint::hold;
+
+/// The nodes of the lists that get a fault at every index.
+const NODES: usize = 40;
+/// A length of output that no result of these cases would need, and that is no multiple of a pair or a link.
+const ROOM: usize = 29;
+
+/// A zone, and inside it, side by side with space between them, the other nodes.
+fn sound(count: usize) -> Vec<Node> {
+    let inner = |place: u32| Node { document: 5, start: 10 * place + 10, end: 10 * place + 15, level: 3 };
+    let zone = Node { document: 5, start: 10, end: 10 * count as u32 + 10, level: 2 };
+    [zone].into_iter().chain((1..count as u32).map(inner)).collect()
+}
+
+/// An answer, and an edit of the node at an index of the list above that draws it there and nowhere before.
+type Fault = (Answer, fn(&mut [Node], usize));
+
+/// The faults that any node can have.
+const ANYWHERE: [Fault; 5] = [
+    (Level, |list, index| list[index].level = 0),
+    (Level, |list, index| list[index].level = MOST_LEVEL + 1),
+    (Level, |list, index| list[index].level = u32::MAX),
+    (Span, |list, index| list[index].end = list[index].start - 1),
+    (Span, |list, index| list[index].end = 0),
+];
+
+/// The faults that a node can have that isn't the first.
+const BEHIND_THE_FIRST: [Fault; 7] = [
+    (Order, |list, index| list[index].start = list[index - 1].start),
+    (Order, |list, index| list[index].document = list[index - 1].document - 1),
+    (Cross, |list, index| list[index].end = list[0].end),
+    (Cross, |list, index| list[index].end = u32::MAX),
+    (Cross, |list, index| {
+        list[index].start = list[index - 1].end;
+        list[index].end = list[index].end.max(list[index].start);
+    }),
+    (Depth, |list, index| list[index].level = list[0].level),
+    (Depth, |list, index| list[index].level = 1),
+];
+
+/// Runs the test on each list of so many nodes that has a fault at this index, with the fault's answer.
+fn each_fault(count: usize, index: usize, test: impl Fn(&[Node], Answer)) {
+    let faults = ANYWHERE.iter().chain(BEHIND_THE_FIRST.iter().filter(|_| index > 0));
+    for (answer, put) in faults {
+        let mut list = sound(count);
+        put(&mut list, index);
+        test(&list, *answer);
+    }
+}
+
+/// The same for each index of a list of forty nodes, and for the first and the last of the longest list.
+fn each_fault_anywhere(test: impl Fn(&[Node], Answer, usize)) {
+    for index in 0..NODES {
+        each_fault(NODES, index, |list, answer| test(list, answer, index));
+    }
+    for index in [0, MOST - 1] {
+        each_fault(MOST, index, |list, answer| test(list, answer, index));
+    }
+}
+
+/// Fails unless all calls of two lists refuse these with this verdict, show the part at the faulty node, give the ticket back and write nothing.
+fn refuses_two(ancestors: &[Node], descendants: &[Node], verdict: Verdict, part: [usize; 2]) {
+    let (ancestors, descendants) = (words(ancestors), words(descendants));
+    let Verdict { answer, list, index } = verdict;
+    let answer = answer as u32;
+    assert_eq!(raw::check_two(&ancestors, &descendants), raw::Verdict { answer, list, index });
+    assert_eq!(raw::faulty(&ancestors, &descendants), raw::Part { answer, list, index, from: part[0], words: part[1] });
+    let fresh = Ticket { relation: 0, order: 0, placed: 0, document: 0, first: 0, second: 0 };
+    let odd = Ticket { relation: 7, order: u32::MAX, placed: 3, document: 5, first: 20, second: 10 };
+    for ticket in [fresh, odd, Ticket { order: 1, ..fresh }, Ticket { placed: 1, ..fresh }] {
+        let page = raw::Page { answer, list, index, done: 0, count: 0, ticket };
+        hold(&verdict, &mut [0; ROOM], &[], page, |out| raw::list(&ancestors, &descendants, ticket, out));
+    }
+}
+
+#[test]
+fn one_list() {
+    each_fault_anywhere(|list, answer, index| {
+        let (list, answer, index) = (words(list), answer as u32, index as u32);
+        assert_eq!(raw::check(&list), raw::Verdict { answer, list: 0, index });
+        let refused = raw::Written { answer, list: 0, index, count: 0 };
+        hold(&refused, &mut [0; ROOM], &[], refused, |out| raw::links(&list, out));
+    });
+}
+
+#[test]
+fn either_of_two_lists() {
+    each_fault_anywhere(|list, answer, index| {
+        let part = [NODE_WORDS * index, NODE_WORDS * (list.len() - index)];
+        let verdict = |list| Verdict { answer, list, index: index as u32 };
+        refuses_two(list, &sound(list.len()), verdict(ANCESTORS), part);
+        refuses_two(&sound(list.len()), list, verdict(DESCENDANTS), part);
+        refuses_two(list, list, verdict(ANCESTORS), part);
+    });
+}
+
+#[test]
+fn any_list_of_a_book() {
+    const LISTS: u32 = 3;
+    each_fault_anywhere(|list, answer, index| {
+        for faulty in 0..LISTS {
+            let nodes = |place| if place == faulty { list.to_vec() } else { sound(NODES) };
+            let lists: Vec<(u32, Vec<Node>)> = (0..LISTS).map(|place| (place, nodes(place))).collect();
+            refuses_book(&lists, Verdict { answer, list: faulty, index: index as u32 });
+        }
+    });
+}
+
+/// Fails unless a book of these lists is refused with this verdict when it is opened, when any tag is looked for in it, and when it is to be written.
+fn refuses_book(lists: &[(u32, Vec<Node>)], verdict: Verdict) {
+    let book = bytes(lists);
+    let Verdict { answer, list, index } = verdict;
+    let answer = answer as u32;
+    assert_eq!(raw::book_check(&book), raw::Book { answer, list, index, lists: 0 });
+    for tag in 0..=lists.len() as u32 {
+        assert_eq!(raw::book_body(&book, tag), raw::Body { answer, list, index, from: 0, bytes: 0 });
+    }
+    let entries: Vec<u32> = lists.iter().flat_map(|(tag, nodes)| [*tag, nodes.len() as u32]).collect();
+    let nodes: Vec<u32> = lists.iter().flat_map(|(_, nodes)| words(nodes)).collect();
+    let refused = raw::Written { answer, list, index, count: 0 };
+    hold(&verdict, &mut vec![0; book.len()], &[], refused, |out| raw::book_write(&entries, &nodes, out));
+}
+
+#[test]
+fn two_lists_at_odds() {
+    let edits: [fn(&mut Node); 3] = [|node| node.end += 1, |node| node.level -= 1, |node| node.start -= 1];
+    for (index, edit) in (0..NODES).flat_map(|index| edits.iter().map(move |edit| (index, edit))) {
+        let mut edited = sound(NODES);
+        edit(&mut edited[index]);
+        if index > 0 {
+            edited[0].level = 1;
+        }
+        assert_eq!(raw::check(&words(&edited)).answer, Taken as u32);
+        refuses_two(&sound(NODES), &edited, Verdict::of(Joint), [0, 0]);
+        refuses_two(&edited, &sound(NODES), Verdict::of(Joint), [0, 0]);
+    }
+}
+
+/// Fails unless the marks draw this answer, whatever the room.
+fn draws(marks: &[u32], answer: Answer) {
+    let refused = raw::Written { answer: answer as u32, list: 0, index: 0, count: 0 };
+    for room in [0, 1_000] {
+        hold(&marks, &mut vec![0; room], &[], refused, |out| raw::number(5, marks, out));
+    }
+}
+
+#[test]
+fn any_mark() {
+    let sound: Vec<u32> = [vec![1], vec![TEXT; NODES - 2], vec![CLOSE]].concat();
+    for place in 0..NODES {
+        let with = |mark| [&sound[..place], &[mark], &sound[place + 1..]].concat();
+        draws(&with(TEXT + 1), Mark);
+        draws(&with(u32::MAX), Mark);
+        draws(&sound[..place], Unclosed);
+        draws(&[&sound[..place], &[CLOSE], &sound[place..]].concat(), Stray);
+        draws(&[&sound[..], &sound[..=place]].concat(), Stray);
+    }
+}
+
+#[test]
+fn any_mark_too_deep() {
+    let deepest = MOST_LEVEL as usize;
+    let sound: Vec<u32> = [vec![1; deepest - 1], vec![TEXT; NODES], vec![CLOSE; deepest - 1]].concat();
+    for place in deepest - 1..deepest - 1 + NODES {
+        for mark in [1, TEXT] {
+            draws(&[&sound[..place], &[1, mark, CLOSE, CLOSE], &sound[place..]].concat(), Deep);
+        }
+    }
+}
+
+#[test]
+fn any_word_of_a_table() {
+    let marks = [1, 2, 2, 3, TEXT, 0, 0, 3, 0, 0, 0];
+    let mut table = [0; 30];
+    assert_eq!(asking::number(5, &marks, &mut table), Taken);
+    for place in 0..table.len() {
+        let is_tag = place % 5 == 4;
+        let was = table[place];
+        for word in [0, was.wrapping_sub(1), was + 1, was ^ 1 << 31, u32::MAX] {
+            table[place] = word;
+            let answer = asking::unnumber(&table, &mut [0; ROOM]);
+            assert!(answer == Table || is_tag && (1..TEXT).contains(&word), "word {place} is {word}: {answer:?}");
+        }
+        table[place] = was;
+    }
+}
+
+#[test]
+fn any_number_of_the_contents() {
+    let lists: Vec<(u32, Vec<Node>)> = (1..=16).map(|tag| (tag, sound(2))).collect();
+    let book = bytes(&lists);
+    assert_eq!(asking::book_check(&book), Taken);
+    for place in (0..1 + 3 * lists.len()).map(|number| 4 * number) {
+        let was = u32::from_le_bytes(book[place..place + 4].try_into().expect("four bytes"));
+        for number in [was - 1, was + 1, was ^ 1 << 28, was ^ 1 << 31] {
+            let mut damaged = book.clone();
+            damaged[place..place + 4].copy_from_slice(&number.to_le_bytes());
+            let keeps_order = (place == 4 && number == 0) || (place == 4 + 15 * 12 && number > was);
+            let answer = if keeps_order { Taken } else { Contents };
+            assert_eq!(asking::book_check(&damaged), answer, "the number at byte {place} is {number}");
+        }
+    }
+    assert_eq!(asking::book_check(&book[..book.len() - NODE_BYTES]), Contents);
+}
