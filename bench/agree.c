@@ -6,7 +6,7 @@
 #include <stdlib.h>
 #include <string.h>
 
-enum { PAIR_WORDS = 8, MOST_PAIRS = 300000, MOST_NOTES = 1 << 16, ANSWERS = 17, TABLE = 14 };
+enum { MOST_PAIRS = 300000, MOST_NOTES = 1 << 16, ANSWERS = BELFRY_ABSENT + 1 };
 
 /* What a case gives to the calls. */
 struct input {
@@ -14,7 +14,7 @@ struct input {
     const uint8_t *book;
     size_t ancestor_words, descendant_words, mark_words, book_bytes;
     size_t rooms[2];
-    struct ticket ticket;
+    belfry_ticket ticket;
     uint32_t tag;
 };
 
@@ -25,7 +25,7 @@ struct notes {
 };
 
 static struct notes expected, found;
-static uint32_t out[MOST_PAIRS * PAIR_WORDS];
+static uint32_t out[MOST_PAIRS * BELFRY_PAIR_WORDS];
 static unsigned long seen[ANSWERS];
 
 static void note(struct notes *notes, uint64_t number)
@@ -49,19 +49,19 @@ static void note_answer(struct notes *notes, uint32_t answer, uint32_t list, uin
 /* The output before a call; some words behind its end are part of it, which no call may alter. */
 static void clear_out(size_t words)
 {
-    for (size_t i = 0; i < words + PAIR_WORDS; i++)
+    for (size_t i = 0; i < words + BELFRY_PAIR_WORDS; i++)
         out[i] = 0xa5a5a5a5 + i;
 }
 
 static void note_out(struct notes *notes, size_t words)
 {
     uint64_t sum = 14695981039346656037u;
-    for (size_t i = 0; i < words + PAIR_WORDS; i++)
+    for (size_t i = 0; i < words + BELFRY_PAIR_WORDS; i++)
         sum = (sum ^ out[i]) * 1099511628211u;
     note(notes, sum);
 }
 
-static void note_ticket(struct notes *notes, struct ticket t)
+static void note_ticket(struct notes *notes, belfry_ticket t)
 {
     note(notes, t.relation);
     note(notes, t.order);
@@ -73,18 +73,18 @@ static void note_ticket(struct notes *notes, struct ticket t)
 
 static void note_checks(struct notes *notes, const struct code *code, const struct input *in)
 {
-    struct verdict one = code->check(in->ancestors, in->ancestor_words);
-    struct verdict other = code->check(in->descendants, in->descendant_words);
-    struct verdict two = code->check_two(in->ancestors, in->ancestor_words, in->descendants, in->descendant_words);
+    belfry_verdict one = code->check(in->ancestors, in->ancestor_words);
+    belfry_verdict other = code->check(in->descendants, in->descendant_words);
+    belfry_verdict two = code->check_two(in->ancestors, in->ancestor_words, in->descendants, in->descendant_words);
     note_answer(notes, one.answer, one.list, one.index);
     note_answer(notes, other.answer, other.list, other.index);
     note_answer(notes, two.answer, two.list, two.index);
 }
 
 /* Page after page with one room, from a ticket on, until one is done or nothing is written. */
-static void note_pages(struct notes *notes, const struct code *code, const struct input *in, struct ticket ticket, size_t room_words)
+static void note_pages(struct notes *notes, const struct code *code, const struct input *in, belfry_ticket ticket, size_t room_words)
 {
-    struct page page;
+    belfry_page page;
     do {
         clear_out(room_words);
         page = code->list(in->ancestors, in->ancestor_words, in->descendants, in->descendant_words, ticket, out, room_words);
@@ -100,8 +100,8 @@ static void note_pages(struct notes *notes, const struct code *code, const struc
 static void note_listings(struct notes *notes, const struct code *code, const struct input *in)
 {
     for (uint32_t kind = 0; kind < 4; kind++) {
-        struct ticket fresh = {.relation = kind & 1, .order = kind >> 1};
-        struct ticket made_up = in->ticket;
+        belfry_ticket fresh = {.relation = kind & 1, .order = kind >> 1};
+        belfry_ticket made_up = in->ticket;
         made_up.relation = kind & 1;
         made_up.order = kind >> 1;
         note_pages(notes, code, in, fresh, in->rooms[0]);
@@ -110,7 +110,7 @@ static void note_listings(struct notes *notes, const struct code *code, const st
     }
 }
 
-static void note_written(struct notes *notes, struct result result, size_t room_words)
+static void note_written(struct notes *notes, belfry_result result, size_t room_words)
 {
     note_answer(notes, result.answer, result.list, result.index);
     note(notes, result.count);
@@ -125,8 +125,8 @@ static void note_others(struct notes *notes, const struct code *code, const stru
         clear_out(in->rooms[i]);
         note_written(notes, code->number(in->tag, in->marks, in->mark_words, out, in->rooms[i]), in->rooms[i]);
     }
-    struct book book = code->book_check(in->book, in->book_bytes);
-    struct body body = code->book_body(in->book, in->book_bytes, in->tag);
+    belfry_book book = code->book_check(in->book, in->book_bytes);
+    belfry_body body = code->book_body(in->book, in->book_bytes, in->tag);
     note_answer(notes, book.answer, book.list, book.index);
     note(notes, book.lists);
     note_answer(notes, body.answer, body.list, body.index);
@@ -162,32 +162,31 @@ static void compare(const struct input *in, const char *name, unsigned long numb
 static uint32_t below(uint32_t limit)
 {
     static uint64_t state = 2026;
-    state = state * 6364136223846793005 + 1442695040888963407;
-    return (state >> 33) % limit;
+    return random_number(&state) % limit;
 }
 
-enum { MOST_SMALL = 24, SMALL_MARKS = 200, SMALL_LISTS = 2, CONTENTS_BYTES = 4 + 12 * SMALL_LISTS };
+enum { MOST_SMALL = 24, SMALL_MARKS = 200, SMALL_LISTS = 2, CONTENTS_BYTES = BELFRY_BOOK_BYTES(SMALL_LISTS, 0) };
 
 /* A random case. */
 struct small {
     size_t words[SMALL_LISTS], marks, bytes;
-    uint32_t list[SMALL_LISTS][NODE_WORDS * MOST_SMALL], mark[SMALL_MARKS];
-    uint8_t book[CONTENTS_BYTES + SMALL_LISTS * 16 * MOST_SMALL + 1];
+    uint32_t list[SMALL_LISTS][BELFRY_NODE_WORDS * MOST_SMALL], mark[SMALL_MARKS];
+    uint8_t book[BELFRY_BOOK_BYTES(SMALL_LISTS, SMALL_LISTS * MOST_SMALL) + 1];
 };
 
 static void put_node(struct small *s, size_t list, uint32_t document, uint32_t start, uint32_t end, uint32_t level)
 {
-    uint32_t node[NODE_WORDS] = {document, start, end, level};
-    if (s->words[list] == NODE_WORDS * MOST_SMALL)
+    uint32_t node[BELFRY_NODE_WORDS] = {document, start, end, level};
+    if (s->words[list] == BELFRY_NODE_WORDS * MOST_SMALL)
         return;
     memcpy(&s->list[list][s->words[list]], node, sizeof node);
-    s->words[list] += NODE_WORDS;
+    s->words[list] += BELFRY_NODE_WORDS;
 }
 
 /* A random forest between two positions: each of its nodes goes to one list, to both or to none, and levels may jump. */
 static void grow(struct small *s, uint32_t document, uint32_t from, uint32_t to, uint32_t level)
 {
-    while (from <= to && to - from < UINT32_MAX / 2 && level <= MOST_LEVELS) {
+    while (from <= to && to - from < UINT32_MAX / 2 && level <= BELFRY_MOST_LEVELS) {
         uint32_t start = from + below(to - from + 1) / 2, end = start + below(to - start + 1), lists = below(4);
         for (size_t list = 0; list < SMALL_LISTS; list++)
             if (lists >> list & 1)
@@ -211,12 +210,12 @@ static void fill_lists(struct small *s)
 /* Most damage is a word that is off by a little, so that the nodes nearly fit. */
 static void damage_list(uint32_t *list, size_t *words)
 {
-    static const uint32_t others[] = {0, 1, 64, 65, UINT32_MAX};
-    if (*words < NODE_WORDS)
+    static const uint32_t others[] = {0, 1, BELFRY_MOST_LEVELS, BELFRY_MOST_LEVELS + 1, UINT32_MAX};
+    if (*words < BELFRY_NODE_WORDS)
         return;
     uint32_t at = below(*words);
     if (below(16) == 0)
-        *words -= below(NODE_WORDS);
+        *words -= below(BELFRY_NODE_WORDS);
     else if (below(4) == 0)
         list[at] = others[below(5)];
     else
@@ -226,18 +225,18 @@ static void damage_list(uint32_t *list, size_t *words)
 /* Marks that open, close and stand for texts at random, most often all closed at the end; some have one mark changed. */
 static void fill_marks(struct small *s)
 {
-    static const uint32_t others[] = {0, 1, 65535, 65536, 65537, UINT32_MAX};
+    static const uint32_t others[] = {BELFRY_CLOSE, 1, BELFRY_TEXT - 1, BELFRY_TEXT, BELFRY_TEXT + 1, UINT32_MAX};
     size_t depth = 0, wanted = below(24);
     s->marks = 0;
     for (size_t i = below(8) ? 1 : 60 + below(6); i > 0; i--, depth++)
         s->mark[s->marks++] = 1 + below(3);
     for (size_t i = 0; i < wanted && depth > 0; i++) {
         uint32_t choice = below(3);
-        s->mark[s->marks++] = choice == 0 ? 0 : choice == 1 ? 65536 : 1 + below(65535);
+        s->mark[s->marks++] = choice == 0 ? BELFRY_CLOSE : choice == 1 ? BELFRY_TEXT : 1 + below(BELFRY_TEXT - 1);
         depth += choice == 2 ? 1 : choice == 0 ? -1 : 0;
     }
     for (; depth > 0; depth--)
-        s->mark[s->marks++] = 0;
+        s->mark[s->marks++] = BELFRY_CLOSE;
     if (below(2))
         s->mark[below(s->marks)] = others[below(6)];
     if (below(8) == 0)
@@ -246,20 +245,22 @@ static void fill_marks(struct small *s)
 
 static void put_number(uint8_t *at, uint32_t number)
 {
-    for (size_t i = 0; i < 4; i++)
+    for (size_t i = 0; i < BELFRY_NUMBER_BYTES; i++)
         at[i] = number >> 8 * i;
 }
 
-/* The book of both lists under tags 2 and 3; some have a byte changed, are cut short or go on. */
+/* The book of both lists under the tags of zones and samples; some have a byte changed, are cut short or go on. */
 static void fill_book(struct small *s)
 {
     size_t end = CONTENTS_BYTES;
     put_number(s->book, SMALL_LISTS);
     for (size_t list = 0; list < SMALL_LISTS; list++) {
-        put_number(&s->book[4 + 12 * list], 2 + list);
-        put_number(&s->book[8 + 12 * list], end);
-        put_number(&s->book[12 + 12 * list], s->words[list] / NODE_WORDS);
-        for (size_t i = 0; i < s->words[list] / NODE_WORDS * NODE_WORDS; i++, end += 4)
+        size_t nodes = s->words[list] / BELFRY_NODE_WORDS;
+        uint8_t *entry = &s->book[BELFRY_BOOK_BYTES(list, 0)];
+        put_number(entry, ZONE_TAG + list);
+        put_number(entry + BELFRY_NUMBER_BYTES, end);
+        put_number(entry + 2 * BELFRY_NUMBER_BYTES, nodes);
+        for (size_t i = 0; i < BELFRY_NODE_WORDS * nodes; i++, end += BELFRY_NUMBER_BYTES)
             put_number(&s->book[end], s->list[list][i]);
     }
     s->bytes = end;
@@ -292,31 +293,32 @@ static void compare_shape(const char *name)
 {
     static struct shape lists, document;
     static uint8_t book[4];
-    build_shape(&lists, name, MOST_NODES);
-    build_document(&document, name, MOST_NODES / 4 - 1);
+    build_shape(&lists, name, BELFRY_MOST_NODES);
+    build_document(&document, name, BELFRY_MOST_NODES);
     struct input in = {
-        .ancestors = lists.zone, .ancestor_words = NODE_WORDS * lists.zones, .descendants = lists.sample,
-        .descendant_words = NODE_WORDS * lists.samples, .marks = document.mark, .mark_words = document.marks,
-        .book = book, .book_bytes = sizeof book, .rooms = {PAIR_WORDS * (MOST_PAIRS - 1), PAIR_WORDS * 5000 + 3},
-        .ticket = {.placed = 1, .document = 1, .first = lists.zone[4 * (lists.zones / 2) + 1], .second = lists.zone[4 * (lists.zones / 3) + 1]},
+        .ancestors = lists.zone, .ancestor_words = BELFRY_NODE_WORDS * lists.zones, .descendants = lists.sample,
+        .descendant_words = BELFRY_NODE_WORDS * lists.samples, .marks = document.mark, .mark_words = document.marks,
+        .book = book, .book_bytes = sizeof book, .rooms = {BELFRY_PAIR_WORDS * (MOST_PAIRS - 1), BELFRY_PAIR_WORDS * 5000 + 3},
+        .ticket = {.placed = 1, .document = 1, .first = lists.zone[BELFRY_NODE_WORDS * (lists.zones / 2) + 1],
+                   .second = lists.zone[BELFRY_NODE_WORDS * (lists.zones / 3) + 1]},
     };
-    compare(&in, name, MOST_NODES);
+    compare(&in, name, BELFRY_MOST_NODES);
 }
 
 /* Lists and marks of as many words as are given, whose nodes are siblings, or a nest as deep as levels go. */
 static void compare_limit(size_t words, size_t mark_words, int nested)
 {
-    static uint32_t list[NODE_WORDS * (MOST_NODES + 1)], mark[MOST_NODES + 1];
+    static uint32_t list[BELFRY_NODE_WORDS * (BELFRY_MOST_NODES + 1)], mark[BELFRY_MOST_NODES + 1];
     static uint8_t book[CONTENTS_BYTES];
-    for (uint32_t i = 0; i < words / NODE_WORDS; i++) {
-        uint32_t node[NODE_WORDS] = {5, 1 + 2 * i, nested ? UINT32_MAX - i : 2 + 2 * i, nested ? 1 + i : 1};
-        memcpy(&list[NODE_WORDS * i], node, sizeof node);
+    for (uint32_t i = 0; i < words / BELFRY_NODE_WORDS; i++) {
+        uint32_t node[BELFRY_NODE_WORDS] = {5, 1 + 2 * i, nested ? UINT32_MAX - i : 2 + 2 * i, nested ? 1 + i : 1};
+        memcpy(&list[BELFRY_NODE_WORDS * i], node, sizeof node);
     }
     for (size_t i = 0; i < mark_words; i++)
-        mark[i] = i == 0 ? 1 : i == mark_words - 1 ? 0 : 65536;
+        mark[i] = i == 0 ? 1 : i == mark_words - 1 ? BELFRY_CLOSE : BELFRY_TEXT;
     struct input in = {
         .ancestors = list, .ancestor_words = words, .descendants = list, .descendant_words = words, .marks = mark, .mark_words = mark_words,
-        .book = book, .book_bytes = sizeof book, .rooms = {5 * (MOST_NODES + 1), 5 * (mark_words - 2)},
+        .book = book, .book_bytes = sizeof book, .rooms = {BELFRY_ROW_WORDS * (BELFRY_MOST_NODES + 1), BELFRY_ROW_WORDS * (mark_words - 2)},
     };
     compare(&in, "the limits", words);
 }
@@ -326,7 +328,7 @@ static int are_seen(void)
 {
     int all = 1;
     for (uint32_t answer = 0; answer < ANSWERS; answer++)
-        if (seen[answer] == 0 && answer != TABLE) {
+        if (seen[answer] == 0 && answer != BELFRY_TABLE) {
             printf("no case was answered %u\n", answer);
             all = 0;
         }
@@ -342,11 +344,11 @@ int main(int argc, char **argv)
     }
     for (size_t i = 0; i < SHAPES; i++)
         compare_shape(shape_names[i]);
-    for (size_t nodes = MOST_NODES; nodes <= MOST_NODES + 1; nodes++)
-        compare_limit(NODE_WORDS * nodes, nodes, 0);
-    compare_limit(NODE_WORDS * MOST_NODES + 1, MOST_NODES, 0);
-    for (size_t nodes = MOST_LEVELS; nodes <= MOST_LEVELS + 1; nodes++)
-        compare_limit(NODE_WORDS * nodes, nodes, 1);
+    for (size_t nodes = BELFRY_MOST_NODES; nodes <= BELFRY_MOST_NODES + 1; nodes++)
+        compare_limit(BELFRY_NODE_WORDS * nodes, nodes, 0);
+    compare_limit(BELFRY_NODE_WORDS * BELFRY_MOST_NODES + 1, BELFRY_MOST_NODES, 0);
+    for (size_t nodes = BELFRY_MOST_LEVELS; nodes <= BELFRY_MOST_LEVELS + 1; nodes++)
+        compare_limit(BELFRY_NODE_WORDS * nodes, nodes, 1);
     for (unsigned long i = 0; i < cases; i++)
         compare_random(i);
     printf("%d twins answered and wrote as the archive did: %d shapes, 5 cases at the limits, %lu random cases.\n", CODES - 1, SHAPES, cases);

@@ -1,11 +1,10 @@
 #include "codes.h"
 #include <string.h>
 
-SHARED_CALLS(belfry)
-SHARED_CALLS(twin_clang_three)
-SHARED_CALLS(twin_clang_fused)
-SHARED_CALLS(twin_gcc_three)
-SHARED_CALLS(twin_gcc_fused)
+TWIN_CALLS(twin_clang_three)
+TWIN_CALLS(twin_clang_fused)
+TWIN_CALLS(twin_gcc_three)
+TWIN_CALLS(twin_gcc_fused)
 
 #define CODE(name, prefix) \
     {name, prefix##_check, prefix##_check_two, prefix##_list, prefix##_links, prefix##_number, prefix##_book_check, prefix##_book_body}

@@ -13,14 +13,14 @@ enum { CODES = 5 };
 
 struct code {
     const char *name;
-    struct verdict (*check)(const uint32_t *list, size_t words);
-    struct verdict (*check_two)(const uint32_t *ancestors, size_t ancestor_words, const uint32_t *descendants, size_t descendant_words);
-    struct page (*list)(const uint32_t *ancestors, size_t ancestor_words, const uint32_t *descendants, size_t descendant_words,
-                        struct ticket ticket, uint32_t *out, size_t out_words);
-    struct result (*links)(const uint32_t *list, size_t words, uint32_t *out, size_t out_words);
-    struct result (*number)(uint32_t document, const uint32_t *marks, size_t mark_words, uint32_t *out, size_t out_words);
-    struct book (*book_check)(const uint8_t *book, size_t bytes);
-    struct body (*book_body)(const uint8_t *book, size_t bytes, uint32_t tag);
+    belfry_verdict (*check)(const uint32_t *list, size_t words);
+    belfry_verdict (*check_two)(const uint32_t *ancestors, size_t ancestor_words, const uint32_t *descendants, size_t descendant_words);
+    belfry_page (*list)(const uint32_t *ancestors, size_t ancestor_words, const uint32_t *descendants, size_t descendant_words,
+                        belfry_ticket ticket, uint32_t *out, size_t out_words);
+    belfry_result (*links)(const uint32_t *list, size_t words, uint32_t *out, size_t out_words);
+    belfry_result (*number)(uint32_t document, const uint32_t *marks, size_t mark_words, uint32_t *out, size_t out_words);
+    belfry_book (*book_check)(const uint8_t *book, size_t bytes);
+    belfry_body (*book_body)(const uint8_t *book, size_t bytes, uint32_t tag);
 };
 
 extern const struct code codes[CODES];

@@ -17,7 +17,7 @@ static struct measure measure;
 static void prepare(const char *name, const char *shape_name, const char *nodes)
 {
     size_t count = strtoul(nodes, NULL, 10);
-    if (count == 0 || count > MOST_NODES || !prepare_measure(&measure, name, shape_name, count))
+    if (count == 0 || count > BELFRY_MOST_NODES || !prepare_measure(&measure, name, shape_name, count))
         fail("no such measure, shape or number of nodes");
 }
 
@@ -60,7 +60,7 @@ static void print_sizes(const char *shape_name, const char *nodes)
 
 static void print_list(const uint32_t *list, size_t nodes)
 {
-    for (size_t i = 0; i < nodes; i++, list += NODE_WORDS)
+    for (size_t i = 0; i < nodes; i++, list += BELFRY_NODE_WORDS)
         printf("%u %u %u %u\n", list[0], list[1], list[2], list[3]);
 }
 

@@ -5,13 +5,13 @@ from statistics import median
 MOST_ROUNDS, LEAST_ROUNDS, ENOUGH_NANOSECONDS = 201, 3, 10 ** 9
 
 
-def naive(zones, samples):
+def all_pairs(zones, samples):
     """Every zone tested against every sample, in descendant order."""
     return [(z, s) for s in samples for z in zones if z[0] == s[0] and z[1] < s[1] and s[2] < z[2]]
 
 
-def sweep_descendant(zones, samples):
-    """Each sample with the zones that are open at it."""
+def sweep_samples(zones, samples):
+    """Each sample with the zones that are open at it, in descendant order."""
     pairs, open_zones, i = [], [], 0
     for s in samples:
         while i < len(zones) and zones[i][:2] < s[:2]:
@@ -29,8 +29,8 @@ def leave(open_zones, node):
         open_zones.pop()
 
 
-def sweep_ancestor(zones, samples):
-    """Each zone with the run of samples that start in it."""
+def sweep_zones(zones, samples):
+    """Each zone with the run of samples that start in it, in ancestor order."""
     pairs, first = [], 0
     for z in zones:
         document, start, end, _ = z
@@ -43,13 +43,17 @@ def sweep_ancestor(zones, samples):
     return pairs
 
 
+BY_ORDER = {"descendant": (sweep_samples, all_pairs), "ancestor": (sweep_zones,)}
+
+
 def timed(join, zones, samples, pairs):
-    """The median time in nanoseconds of a join that has to find so many pairs: of a few rounds at least, and of more until a second has passed."""
+    """The median processor time in nanoseconds of a join that has to find so many pairs: of a few rounds at least, and of more until a second
+    has passed."""
     times = []
     while len(times) < LEAST_ROUNDS or (len(times) < MOST_ROUNDS and sum(times) < ENOUGH_NANOSECONDS):
-        before = time.perf_counter_ns()
+        before = time.process_time_ns()
         found = len(join(zones, samples))
-        times.append(time.perf_counter_ns() - before)
+        times.append(time.process_time_ns() - before)
         if found != pairs:
             raise SystemExit(f"{join.__name__} found {found} pairs, not {pairs}")
     return median(times)

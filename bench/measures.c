@@ -3,11 +3,11 @@
 #include <stdlib.h>
 #include <string.h>
 
-enum { ROW_WORDS = 5, LINK_WORDS = 3, BOOK_LISTS = 2, ENTRY_BYTES = 12, NODE_BYTES = 16, OUT_WORDS = MOST_PAIRS * PAIR_WORDS };
+enum { BOOK_LISTS = 2, OUT_WORDS = MOST_PAIRS * BELFRY_PAIR_WORDS };
 
 struct shape shape;
 static uint32_t out[OUT_WORDS];
-static uint8_t book[4 + BOOK_LISTS * (ENTRY_BYTES + NODE_BYTES * MOST_NODES)];
+static uint8_t book[BELFRY_BOOK_BYTES(BOOK_LISTS, BOOK_LISTS * BELFRY_MOST_NODES)];
 static size_t book_bytes;
 
 void fail(const char *why)
@@ -26,12 +26,12 @@ static void put_numbers(const uint32_t *numbers, size_t count)
 /* The book of the shape's two lists. */
 static void build_book(void)
 {
-    uint32_t bodies = 4 + BOOK_LISTS * ENTRY_BYTES;
-    uint32_t contents[] = {BOOK_LISTS, 2, bodies, shape.zones, 3, bodies + NODE_BYTES * shape.zones, shape.samples};
+    uint32_t zones_at = BELFRY_BOOK_BYTES(BOOK_LISTS, 0), samples_at = BELFRY_BOOK_BYTES(BOOK_LISTS, shape.zones);
+    uint32_t contents[] = {BOOK_LISTS, ZONE_TAG, zones_at, shape.zones, SAMPLE_TAG, samples_at, shape.samples};
     book_bytes = 0;
     put_numbers(contents, sizeof contents / sizeof contents[0]);
-    put_numbers(shape.zone, NODE_WORDS * shape.zones);
-    put_numbers(shape.sample, NODE_WORDS * shape.samples);
+    put_numbers(shape.zone, BELFRY_NODE_WORDS * shape.zones);
+    put_numbers(shape.sample, BELFRY_NODE_WORDS * shape.samples);
 }
 
 static int prepare_listing(struct measure *measure, const char *name)
@@ -40,7 +40,7 @@ static int prepare_listing(struct measure *measure, const char *name)
     if (sscanf(name, "%15[^-]-%15[^-]-%15s", relation, order, room) != 3)
         return 0;
     measure->kind = LISTING;
-    measure->ticket = (struct ticket){.relation = strcmp(relation, "inside") != 0, .order = strcmp(order, "descendant") != 0};
+    measure->ticket = (belfry_ticket){.relation = strcmp(relation, "inside") != 0, .order = strcmp(order, "descendant") != 0};
     measure->room = strcmp(room, "all") == 0 ? MOST_PAIRS : strtoul(room, NULL, 10);
     return 0 < measure->room && measure->room <= MOST_PAIRS;
 }
@@ -57,7 +57,7 @@ int prepare_measure(struct measure *measure, const char *name, const char *shape
     if (!named && !prepare_listing(measure, name))
         return 0;
     if (measure->kind == NUMBER)
-        return build_document(&shape, shape_name, nodes / 4 - 1);
+        return build_document(&shape, shape_name, nodes);
     if (!build_shape(&shape, shape_name, nodes))
         return 0;
     build_book();
@@ -67,11 +67,11 @@ int prepare_measure(struct measure *measure, const char *name, const char *shape
 /* All pages of a listing. */
 static size_t list_all(const struct measure *measure, const struct code *code)
 {
-    struct ticket ticket = measure->ticket;
+    belfry_ticket ticket = measure->ticket;
     size_t pairs = 0;
     for (;;) {
-        struct page page = code->list(shape.zone, NODE_WORDS * shape.zones, shape.sample, NODE_WORDS * shape.samples, ticket, out,
-                                      PAIR_WORDS * measure->room);
+        belfry_page page = code->list(shape.zone, BELFRY_NODE_WORDS * shape.zones, shape.sample, BELFRY_NODE_WORDS * shape.samples, ticket, out,
+                                      BELFRY_PAIR_WORDS * measure->room);
         if (page.answer != 0)
             fail("a listing was refused");
         pairs += page.count;
@@ -90,25 +90,25 @@ static size_t taken(uint32_t answer, size_t count)
 
 static size_t check_two(const struct code *code)
 {
-    struct verdict verdict = code->check_two(shape.zone, NODE_WORDS * shape.zones, shape.sample, NODE_WORDS * shape.samples);
+    belfry_verdict verdict = code->check_two(shape.zone, BELFRY_NODE_WORDS * shape.zones, shape.sample, BELFRY_NODE_WORDS * shape.samples);
     return taken(verdict.answer, shape.zones + shape.samples);
 }
 
 static size_t link_zones(const struct code *code)
 {
-    struct result result = code->links(shape.zone, NODE_WORDS * shape.zones, out, OUT_WORDS);
+    belfry_result result = code->links(shape.zone, BELFRY_NODE_WORDS * shape.zones, out, OUT_WORDS);
     return taken(result.answer, result.count);
 }
 
 static size_t number_marks(const struct code *code)
 {
-    struct result result = code->number(1, shape.mark, shape.marks, out, OUT_WORDS);
+    belfry_result result = code->number(1, shape.mark, shape.marks, out, OUT_WORDS);
     return taken(result.answer, result.count);
 }
 
 static size_t check_book(const struct code *code)
 {
-    struct book opened = code->book_check(book, book_bytes);
+    belfry_book opened = code->book_check(book, book_bytes);
     return taken(opened.answer, opened.lists);
 }
 

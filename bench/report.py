@@ -5,15 +5,18 @@ import os
 import platform
 import subprocess
 import sys
+import textwrap
 from pathlib import Path
 
 import join
 from figures import CODES, EMULATOR, MADE, MOST_NODES, SHAPES, counted, emulated, instructions, run, sizes, units
 
 CASES = 100_000
+WIDTH = 150
 ORDERS = ("descendant", "ancestor")
 LISTINGS = ("inside-descendant", "inside-ancestor", "directly-descendant", "directly-ancestor")
 GROWTH = (64, 256, 1024, MOST_NODES)
+CODES_HERE = CODES[1:] if EMULATOR else CODES
 THREE_PASSES = ("clang-three", "gcc-three")
 MOST_CHECK, MOST_SWEEP = 80, {"inside-descendant": 12, "inside-ancestor": 16}
 
@@ -29,6 +32,11 @@ SHAPE_WORDS = {
 
 def progress(what):
     print(what, file=sys.stderr, flush=True)
+
+
+def say(text):
+    """A paragraph."""
+    print("\n" + textwrap.fill(text, WIDTH, break_on_hyphens=False))
 
 
 def table(head, rows):
@@ -93,7 +101,7 @@ def print_head():
     if EMULATOR:
         print("- Times: none. This machine is no x86-64, and a time under emulation says nothing about one, so each time is given as -.")
     else:
-        print("- Times: medians of 5 to 201 rounds, in each of which all five codes take their turn")
+        print("- Times: processor time, medians of 5 to 201 rounds, in each of which all five codes take their turn")
 
 
 def print_agreement():
@@ -102,12 +110,14 @@ def print_agreement():
     agreed = subprocess.run(emulated("agree", CASES), stdout=subprocess.PIPE, text=True)
     if agreed.returncode != 0:
         raise SystemExit(f"{agreed.stdout}the twins don't do what the archive does, so nothing is measured")
-    print("\n## Do the twins do the same?\n")
-    print(agreed.stdout.strip().replace("\n", "\n\n"))
+    print("\n## Do the twins do the same?")
+    for line in agreed.stdout.splitlines():
+        say(line)
 
 
 def print_shapes():
-    print(f"\n## Shapes\n\nEach list has at most {MOST_NODES:,} nodes. Zones are the ancestors and samples the descendants.")
+    print("\n## Shapes")
+    say(f"Each list has at most {MOST_NODES:,} nodes. Zones are the ancestors and samples the descendants.")
     table(("shape", "what it is", "zones", "samples", "pairs inside", "directly inside"),
           [(shape, SHAPE_WORDS[shape], *(f"{sizes(shape)[size]:,}" for size in ("zones", "samples", "inside", "directly"))) for shape in SHAPES])
 
@@ -122,13 +132,14 @@ def check_counter():
     once, never = (subprocess.run(command, check=True, stdout=subprocess.PIPE).stdout.count(b"Trace") for command in runs)
     if once - never != instructions(*figure):
         raise SystemExit(f"the plugin counts {instructions(*figure)} instructions, and there are {once - never} single steps")
-    print(f"\nThe counter was held against single steps on one figure: {once - never:,} instructions both ways.")
+    say(f"The counter was held against single steps on one figure: {once - never:,} instructions both ways.")
 
 
 # The figures.
 
 def print_checks():
-    print("\n## Checks and listings\n\nA cell is instructions; nanoseconds. A listing's call checks both lists too.")
+    print("\n## Checks and listings")
+    say("A cell is instructions; nanoseconds. The whole call of a listing has room for all pairs and checks both lists too.")
     measured("Checks of two lists, an input node", "check", input_nodes)
 
 
@@ -151,15 +162,17 @@ def print_listings():
 
 
 def print_pages():
-    print("\n## Pages\n\nAll pages of a listing, each a call that checks both lists again.")
+    print("\n## Pages")
+    say("All pages of a listing, each a call that checks both lists again.")
     for room in (256, MOST_NODES):
         for listing in LISTINGS:
             measured(f"{title_of(listing)}, pages of {room:,} pairs, a pair", f"{listing}-{room}", pairs_in(listing))
 
 
 def print_others():
-    print("\n## Links, numbering, books\n\nLinks are those of the zones. What is numbered is a document of the shape's kind with at most "
-          f"{MOST_NODES:,} marks. The book that is checked holds both lists.")
+    print("\n## Links, numbering, books")
+    say(f"Links are those of the zones. What is numbered is a document of the shape's kind with at most {MOST_NODES:,} marks. The book that is "
+        "checked holds both lists.")
     measured("Links, a node", "links", lambda shape: units("links", shape))
     measured("Numbering, a mark", "number", lambda shape: units("number", shape))
     measured("Checking a book, a node", "book", input_nodes)
@@ -167,7 +180,8 @@ def print_others():
 
 def print_growth():
     progress("growth")
-    print("\n## How the cost grows\n\nThe archive's instructions for an input node, with so many nodes in each list.")
+    print("\n## How the cost grows")
+    say("The archive's instructions for an input node, with so many nodes in each list.")
     for title, measure in (("Checks", "check"), ("The listing inside, descendant order", "inside-descendant-all"),
                            ("The listing inside, ancestor order", "inside-ancestor-all")):
         print(f"\n### {title}")
@@ -178,8 +192,8 @@ def print_growth():
 
 def print_stack():
     progress("stack")
-    print("\n## Stack\n\nThe most bytes of stack that a call took on the six shapes, taken and refused, its arguments, its answer and the way back "
-          "included.")
+    print("\n## Stack")
+    say("The most bytes of stack that a call took on the six shapes, taken and refused, its arguments, its answer and the way back included.")
     rows = [line.split(";") for line in run("stack").splitlines()]
     table(("call", *CODES), [(name, *(f"{int(b):,}" if b != "0" else "" for b in taken)) for name, *taken in rows])
 
@@ -219,8 +233,8 @@ def print_simple_bars():
 
 def print_twin_bars():
     progress("bars")
-    print("\nThe archive's whole call, checks included, to each twin's: instructions; time. A bar holds where neither is above 1 beside both "
-          "twins of three passes, clang's and gcc's. The fused twins are faster and no bar.")
+    say("The archive's whole call, checks included, to each twin's: instructions; time. A bar holds where neither is above 1 beside both twins of "
+        "three passes, clang's and gcc's. The fused twins are faster and no bar.")
     rows = []
     for listing in LISTINGS:
         for shape in SHAPES:
@@ -235,7 +249,7 @@ def print_twin_bars():
 def print_bars():
     print("\n## Bars")
     held = print_simple_bars() + print_twin_bars()
-    print(f"\n{held.count('pass')} of {len(held)} bars hold.")
+    say(f"{held.count('pass')} of {len(held)} bars hold.")
 
 
 # The same join elsewhere.
@@ -262,30 +276,26 @@ def microseconds(nanoseconds):
     return f"{nanoseconds / 1000:,.0f}"
 
 
-def times_here(shape):
+def times_here(order, shape):
     """The row of a shape in the table of times."""
-    progress(f"SQLite and Python, {shape}")
-    lines = [here("driver", "time", f"inside-{order}-all", shape, MOST_NODES).splitlines() for order in ORDERS]
-    codes = [dict(map(str.split, of)) for of in lines]
+    progress(f"SQLite and Python, {order} order, {shape}")
+    codes = dict(map(str.split, here("driver", "time", f"inside-{order}-all", shape, MOST_NODES).splitlines()))
     pairs, (zones, samples) = sizes(shape)["inside"], lists_of(shape)
-    row = [float(of[code]) for of in codes for code in ("archive", "gcc-three") if code in of]
-    row += [sqlite_time(order, shape) for order in ORDERS]
-    row += [join.timed(by, zones, samples, pairs) for by in (join.sweep_descendant, join.sweep_ancestor, join.naive)]
+    row = [float(codes[code]) for code in CODES_HERE] + [sqlite_time(order, shape)]
+    row += [join.timed(by, zones, samples, pairs) for by in join.BY_ORDER[order]]
     return (shape, *map(microseconds, row))
 
 
 def print_elsewhere():
-    print("\n## The same listing in SQLite and in Python\n\nThe listing inside, whole, 4,096 nodes in each list. SQLite and Python check nothing; "
-          "filling SQLite's tables isn't measured.")
-    own = [code for code in ("archive", "twin, gcc, three passes") if code != "archive" or not EMULATOR]
-    print(f"\n### Microseconds on this machine's own processor: {platform.machine()}, {processor()}; SQLite {sqlite_version()}, "
-          f"Python {platform.python_version()}")
+    print("\n## The same listing in SQLite and in Python")
+    say("The whole listing inside. SQLite and Python check nothing; filling SQLite's tables isn't measured.")
+    print(f"\n### Microseconds of processor time: {platform.machine()}, {processor()}; SQLite {sqlite_version()}, Python {platform.python_version()}")
     if EMULATOR:
-        print("\nThe archive has no code for this processor; the twin, compiled for it, stands in for the scale.")
-    table(("shape", *(f"{code}, {order}" for order in ORDERS for code in own), "SQLite, descendant", "SQLite, ancestor",
-           "Python sweep, descendant", "Python sweep, ancestor", "Python, all pairs tested"), [times_here(shape) for shape in SHAPES])
-    print("\nHow SQLite goes about it: " + "; ".join(
-        f"{order} order: " + ", ".join(here("sqlite", "plan", order, "flat", MOST_NODES).splitlines()) for order in ORDERS) + ".")
+        say("This is the machine's own processor, and the archive has no code for it; the twin, compiled for it, stands in for the scale.")
+    for order in ORDERS:
+        head = (f"{order} order", *CODES_HERE, "SQLite", *(f"Python, {by.__name__}" for by in join.BY_ORDER[order]))
+        table(head, [times_here(order, shape) for shape in SHAPES])
+        say("How SQLite goes about it: " + ", ".join(here("sqlite", "plan", order, "flat", MOST_NODES).splitlines()) + ".")
 
 
 def sqlite_version():
@@ -295,16 +305,14 @@ def sqlite_version():
 
 def print_sqlite_instructions():
     print("\n### Instructions on x86-64, counted, a pair")
-    rows = []
-    for shape in SHAPES:
-        progress(f"SQLite's instructions, {shape}")
-        row = [shape]
-        for order in ORDERS:
+    for order in ORDERS:
+        progress(f"SQLite's instructions, {order} order")
+        rows = []
+        for shape in SHAPES:
             once, never = (counted("sqlite", "count", order, shape, MOST_NODES, made) for made in (1, 0))
             archive, pairs = instructions("archive", f"inside-{order}-all", shape), sizes(shape)["inside"]
-            row += [f"{archive / pairs:,.1f}", f"{(once - never) / pairs:,.1f}", f"{(once - never) / archive:,.0f}"]
-        rows.append(row)
-    table(("shape", *(f"{what}, {order}" for order in ORDERS for what in ("archive", "SQLite", "times as many"))), rows)
+            rows.append((shape, f"{archive / pairs:,.1f}", f"{(once - never) / pairs:,.1f}", f"{(once - never) / archive:,.0f}"))
+        table((f"{order} order", "archive", "SQLite", "times as many"), rows)
 
 
 def main():

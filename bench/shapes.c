@@ -3,7 +3,7 @@
 
 const char *const shape_names[SHAPES] = {"flat", "nests", "between", "random", "eight-zones", "few-samples"};
 
-enum { ZONE_TAG = 1, SAMPLE_TAG = 2, ROOT_TAG = 3, DEEPEST_RANDOM = 20 };
+enum { ROOT_TAG = 1, DEEPEST_RANDOM = 20 };
 
 /* A shape that is being built: how many nodes each list may have, the next position, and where each open element's end is to be written. */
 struct building {
@@ -11,7 +11,7 @@ struct building {
     size_t most;
     uint32_t position;
     size_t depth;
-    uint32_t *ends[MOST_LEVELS];
+    uint32_t *ends[BELFRY_MOST_LEVELS];
 };
 
 static void put_mark(struct building *b, uint32_t mark)
@@ -32,17 +32,17 @@ static void open_element(struct building *b, uint32_t *node, uint32_t tag)
 static void close_element(struct building *b)
 {
     *b->ends[--b->depth] = b->position;
-    put_mark(b, 0);
+    put_mark(b, BELFRY_CLOSE);
 }
 
 static void open_zone(struct building *b)
 {
-    open_element(b, &b->shape->zone[NODE_WORDS * b->shape->zones++], ZONE_TAG);
+    open_element(b, &b->shape->zone[BELFRY_NODE_WORDS * b->shape->zones++], ZONE_TAG);
 }
 
 static void open_sample(struct building *b)
 {
-    open_element(b, &b->shape->sample[NODE_WORDS * b->shape->samples++], SAMPLE_TAG);
+    open_element(b, &b->shape->sample[BELFRY_NODE_WORDS * b->shape->samples++], SAMPLE_TAG);
 }
 
 static void put_samples(struct building *b, size_t count)
@@ -71,7 +71,7 @@ static void build_flat(struct building *b)
 /* Nests of as many zones as there are levels but one, and as many samples in the innermost zone of each. */
 static void build_nests(struct building *b)
 {
-    size_t deep = MOST_LEVELS - 1 - b->depth;
+    size_t deep = BELFRY_MOST_LEVELS - 1 - b->depth;
     while (has_room(b, deep, deep)) {
         for (size_t i = 0; i < deep; i++)
             open_zone(b);
@@ -84,7 +84,7 @@ static void build_nests(struct building *b)
 /* Such nests with a sample before and a sample after each inner zone. */
 static void build_between(struct building *b)
 {
-    size_t deep = MOST_LEVELS - 1 - b->depth;
+    size_t deep = BELFRY_MOST_LEVELS - 1 - b->depth;
     if (deep > b->most / 2)
         deep = b->most / 2;
     while (has_room(b, deep, 2 * deep)) {
@@ -99,7 +99,7 @@ static void build_between(struct building *b)
     }
 }
 
-static uint32_t random_number(uint64_t *state)
+uint32_t random_number(uint64_t *state)
 {
     *state = *state * 6364136223846793005 + 1442695040888963407;
     return *state >> 33;
@@ -161,10 +161,10 @@ int build_shape(struct shape *shape, const char *name, size_t nodes)
     return build(&b, name);
 }
 
-int build_document(struct shape *shape, const char *name, size_t nodes)
+int build_document(struct shape *shape, const char *name, size_t marks)
 {
-    struct building b = {.shape = shape, .most = nodes, .position = 1};
-    uint32_t root[NODE_WORDS];
+    struct building b = {.shape = shape, .most = marks / 4 - 1, .position = 1};
+    uint32_t root[BELFRY_NODE_WORDS];
     shape->zones = shape->samples = shape->marks = 0;
     open_element(&b, root, ROOT_TAG);
     int built = build(&b, name);

@@ -12,10 +12,10 @@
 #include <stdlib.h>
 #include <string.h>
 
-enum { PAIR_WORDS = 8, MOST_PAIRS = 262144 };
+enum { MOST_PAIRS = 262144 };
 
 static struct shape shape;
-static uint32_t out[MOST_PAIRS * PAIR_WORDS];
+static uint32_t out[MOST_PAIRS * BELFRY_PAIR_WORDS];
 static sqlite3 *database;
 
 static void need(int holds, const char *what)
@@ -47,10 +47,10 @@ static void fill(const char *table, const uint32_t *nodes, size_t count)
     snprintf(text, sizeof text, "INSERT INTO %s VALUES (?, ?, ?, ?, ?, ?)", table);
     sqlite3_stmt *insert = prepared(text);
     for (size_t i = 0; i < count; i++) {
-        const uint32_t *node = &nodes[NODE_WORDS * i];
+        const uint32_t *node = &nodes[BELFRY_NODE_WORDS * i];
         sqlite3_bind_int64(insert, 1, place_of(node, 1));
         sqlite3_bind_int64(insert, 2, place_of(node, 2));
-        for (int word = 0; word < NODE_WORDS; word++)
+        for (int word = 0; word < BELFRY_NODE_WORDS; word++)
             sqlite3_bind_int64(insert, 3 + word, node[word]);
         need(sqlite3_step(insert) == SQLITE_DONE, text);
         sqlite3_reset(insert);
@@ -75,8 +75,8 @@ static size_t list_all(sqlite3_stmt *listing)
     size_t pairs = 0;
     while (sqlite3_step(listing) == SQLITE_ROW) {
         need(pairs < MOST_PAIRS, "too many pairs");
-        for (int word = 0; word < PAIR_WORDS; word++)
-            out[PAIR_WORDS * pairs + word] = sqlite3_column_int64(listing, word);
+        for (int word = 0; word < BELFRY_PAIR_WORDS; word++)
+            out[BELFRY_PAIR_WORDS * pairs + word] = sqlite3_column_int64(listing, word);
         pairs++;
     }
     need(sqlite3_reset(listing) == SQLITE_OK, "listing");

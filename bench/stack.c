@@ -7,19 +7,12 @@
 #include <string.h>
 #include <ucontext.h>
 
-enum { AREA_BYTES = 1 << 18, ROW_WORDS = 5, OUT_WORDS = 1 << 21, CALLS = 13, PAINTS = 2, WORD_BYTES = 8 };
-
-struct part belfry_faulty(const uint32_t *ancestors, size_t ancestor_words, const uint32_t *descendants, size_t descendant_words);
-struct unnumbered belfry_unnumber(const uint32_t *table, size_t table_words, uint32_t *out, size_t out_words);
-struct result belfry_pick(const uint32_t *table, size_t table_words, uint32_t tag, uint32_t *out, size_t out_words);
-struct result belfry_book_write(const uint32_t *entries, size_t entry_words, const uint32_t *nodes, size_t node_words, uint8_t *out,
-                                size_t out_bytes);
-void belfry_name(uint32_t answer, uint8_t *out);
+enum { AREA_BYTES = 1 << 18, OUT_WORDS = 1 << 21, CALLS = 13, PAINTS = 2, WORD_BYTES = 8 };
 
 /* What the calls are given: a shape's lists, a document's marks and table, and a book of the zones, with the entry and the bytes that it has. */
 static struct shape lists, document;
 static size_t zone_words, sample_words, table_words, book_bytes;
-static uint32_t table[ROW_WORDS * MOST_NODES], entry[2], book[4 + NODE_WORDS * MOST_NODES], out[OUT_WORDS];
+static uint32_t table[BELFRY_ROW_WORDS * BELFRY_MOST_NODES], entry[2], book[4 + BELFRY_NODE_WORDS * BELFRY_MOST_NODES], out[OUT_WORDS];
 
 static void call_nothing(const struct code *code)
 {
@@ -44,7 +37,7 @@ static void call_faulty(const struct code *code)
 
 static void call_list(const struct code *code, uint32_t relation, uint32_t order)
 {
-    struct ticket ticket = {.relation = relation, .order = order};
+    belfry_ticket ticket = {.relation = relation, .order = order};
     code->list(lists.zone, zone_words, lists.sample, sample_words, ticket, out, OUT_WORDS);
 }
 
@@ -74,7 +67,7 @@ static void call_unnumber(const struct code *code)
 static void call_pick(const struct code *code)
 {
     (void)code;
-    belfry_pick(table, table_words, 1, out, OUT_WORDS);
+    belfry_pick(table, table_words, ZONE_TAG, out, OUT_WORDS);
 }
 
 static void call_links(const struct code *code)
@@ -167,12 +160,12 @@ static size_t stack_of(void (*make)(const struct code *code), const struct code 
 
 static void prepare(const char *shape_name)
 {
-    build_shape(&lists, shape_name, MOST_NODES);
-    build_document(&document, shape_name, MOST_NODES / 4 - 1);
-    zone_words = NODE_WORDS * lists.zones;
-    sample_words = NODE_WORDS * lists.samples;
-    table_words = ROW_WORDS * codes[0].number(1, document.mark, document.marks, table, ROW_WORDS * MOST_NODES).count;
-    entry[0] = 2;
+    build_shape(&lists, shape_name, BELFRY_MOST_NODES);
+    build_document(&document, shape_name, BELFRY_MOST_NODES);
+    zone_words = BELFRY_NODE_WORDS * lists.zones;
+    sample_words = BELFRY_NODE_WORDS * lists.samples;
+    table_words = BELFRY_ROW_WORDS * codes[0].number(1, document.mark, document.marks, table, BELFRY_ROW_WORDS * BELFRY_MOST_NODES).count;
+    entry[0] = ZONE_TAG;
     entry[1] = lists.zones;
     uint32_t contents[4] = {1, entry[0], sizeof contents, entry[1]};
     memcpy(book, contents, sizeof contents);
@@ -183,7 +176,7 @@ static void prepare(const char *shape_name)
 /* The last node of each list, and of the book, gets a level that is too high. */
 static void damage(void)
 {
-    lists.zone[zone_words - 1] = lists.sample[sample_words - 1] = book[book_bytes / 4 - 1] = MOST_LEVELS + 1;
+    lists.zone[zone_words - 1] = lists.sample[sample_words - 1] = book[book_bytes / 4 - 1] = BELFRY_MOST_LEVELS + 1;
 }
 
 int main(void)

@@ -1,4 +1,4 @@
-/* Time, taken over many rounds. */
+/* Processor time, taken over many rounds; what else the machine does counts for little. */
 #ifndef TIMING_H
 #define TIMING_H
 
@@ -6,10 +6,10 @@
 
 enum { MOST_ROUNDS = 201, LEAST_ROUNDS = 5 };
 
-/* Nanoseconds from some moment on. */
+/* The nanoseconds that the program has run. */
 double now(void);
 
-/* Whether there should be another round after so many since a moment: there are a few at least, and then no more once a second has passed. */
+/* Whether there should be another round after so many since a moment: there are a few at least, and more until a second has passed. */
 int is_round_due(size_t rounds, double begun);
 
 /* The median of times, which it puts in order. */

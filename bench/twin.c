@@ -9,11 +9,7 @@
 
 DECLARE_CALLS(PREFIX)
 
-enum { MOST_NODES = 4096, MOST_LEVELS = 64, MOST_LISTS = 16, NODE_WORDS = 4, ROW_WORDS = 5, LINK_WORDS = 3, NODE_BYTES = 16, TEXT = 65536 };
-
-enum answer { TAKEN, RAGGED, LONG, LEVEL, SPAN, ORDER, CROSS, DEPTH, JOINT, ROOM, MARK, STRAY, DEEP, UNCLOSED, TABLE, CONTENTS, ABSENT };
-
-static const uint32_t NONE = UINT32_MAX;
+enum { NODE_BYTES = BELFRY_NUMBER_BYTES * BELFRY_NODE_WORDS, ENTRY_BYTES = BELFRY_NUMBER_BYTES * BELFRY_CONTENTS_NUMBERS };
 
 struct node {
     uint32_t document, start, end, level;
@@ -31,12 +27,12 @@ struct lists {
 static struct lists lists_of(const uint32_t *ancestors, size_t ancestor_words, const uint32_t *descendants, size_t descendant_words)
 {
     const struct node *a = (const struct node *)ancestors, *d = (const struct node *)descendants;
-    return (struct lists){a, a + ancestor_words / NODE_WORDS, d, d + descendant_words / NODE_WORDS};
+    return (struct lists){a, a + ancestor_words / BELFRY_NODE_WORDS, d, d + descendant_words / BELFRY_NODE_WORDS};
 }
 
 /* The nodes that are open where a check stands are kept on a stack, the innermost on top, which is the last node passed. Each lies inside the one
    below it and has a higher level. At the bottom lies one that holds everything. */
-enum { STACK_NODES = MOST_LEVELS + 1 };
+enum { STACK_NODES = BELFRY_MOST_LEVELS + 1 };
 
 static const struct node EVERYTHING = {0, 0, UINT32_MAX, 0};
 
@@ -51,58 +47,58 @@ static inline struct node *open_at(struct node *stack, struct node *top, const s
 }
 
 /* Puts the node on top of what is open at it. It is CROSS or DEPTH where that doesn't allow it. */
-static inline enum answer open_node(struct node *stack, struct node **top, const struct node *n)
+static inline uint32_t open_node(struct node *stack, struct node **top, const struct node *n)
 {
     struct node *t = open_at(stack, *top, n);
     if (t->end <= n->end && t > stack)
-        return CROSS;
+        return BELFRY_CROSS;
     if (t->level >= n->level)
-        return DEPTH;
+        return BELFRY_DEPTH;
     *++t = *n;
     *top = t;
-    return TAKEN;
+    return BELFRY_TAKEN;
 }
 
 /* What is wrong with a node. */
-static inline enum answer check_node(struct node *stack, struct node **top, const struct node *n)
+static inline uint32_t check_node(struct node *stack, struct node **top, const struct node *n)
 {
     const struct node *last = *top;
-    if (n->level - 1 >= MOST_LEVELS)
-        return LEVEL;
+    if (n->level - 1 >= BELFRY_MOST_LEVELS)
+        return BELFRY_LEVEL;
     if (n->end < n->start)
-        return SPAN;
+        return BELFRY_SPAN;
     if (n->document < last->document || (n->document == last->document && n->start <= last->start && last > stack))
-        return ORDER;
+        return BELFRY_ORDER;
     return open_node(stack, top, n);
 }
 
-static enum answer word_fault(size_t words)
+static uint32_t word_fault(size_t words)
 {
-    if (words % NODE_WORDS != 0)
-        return RAGGED;
-    return words / NODE_WORDS > MOST_NODES ? LONG : TAKEN;
+    if (words % BELFRY_NODE_WORDS != 0)
+        return BELFRY_RAGGED;
+    return words / BELFRY_NODE_WORDS > BELFRY_MOST_NODES ? BELFRY_LONG : BELFRY_TAKEN;
 }
 
-static struct verdict verdict_of(enum answer answer)
+static belfry_verdict verdict_of(uint32_t answer)
 {
-    return (struct verdict){answer, 0, 0};
+    return (belfry_verdict){answer, 0, 0};
 }
 
 /* One list alone: the first pass, and the second. */
-static struct verdict check_list(const uint32_t *list, size_t words)
+static belfry_verdict check_list(const uint32_t *list, size_t words)
 {
-    const struct node *nodes = (const struct node *)list, *end = nodes + words / NODE_WORDS;
+    const struct node *nodes = (const struct node *)list, *end = nodes + words / BELFRY_NODE_WORDS;
     struct node stack[STACK_NODES], *top = stack;
-    enum answer fault = word_fault(words);
-    if (fault != TAKEN)
+    uint32_t fault = word_fault(words);
+    if (fault != BELFRY_TAKEN)
         return verdict_of(fault);
     *top = EVERYTHING;
     for (const struct node *n = nodes; n < end; n++) {
         fault = check_node(stack, &top, n);
-        if (fault != TAKEN)
-            return (struct verdict){fault, 0, n - nodes};
+        if (fault != BELFRY_TAKEN)
+            return (belfry_verdict){fault, 0, n - nodes};
     }
-    return verdict_of(TAKEN);
+    return verdict_of(BELFRY_TAKEN);
 }
 
 static inline int is_same(const struct node *x, const struct node *y)
@@ -133,29 +129,30 @@ static int are_agreeing(struct lists l)
     *top = EVERYTHING;
     while (l.ancestor < l.ancestors_end && l.descendant < l.descendants_end) {
         const struct node *n = next_node(&l);
-        if (!n || open_node(stack, &top, n) != TAKEN)
+        if (!n || open_node(stack, &top, n) != BELFRY_TAKEN)
             return 0;
     }
     for (; l.ancestor < l.ancestors_end; l.ancestor++)
-        if (open_node(stack, &top, l.ancestor) != TAKEN)
+        if (open_node(stack, &top, l.ancestor) != BELFRY_TAKEN)
             return 0;
     for (; l.descendant < l.descendants_end; l.descendant++)
-        if (open_node(stack, &top, l.descendant) != TAKEN)
+        if (open_node(stack, &top, l.descendant) != BELFRY_TAKEN)
             return 0;
     return 1;
 }
 
-static struct verdict three_passes(const uint32_t *ancestors, size_t ancestor_words, const uint32_t *descendants, size_t descendant_words)
+/* All three passes. */
+static belfry_verdict three_passes(const uint32_t *ancestors, size_t ancestor_words, const uint32_t *descendants, size_t descendant_words)
 {
-    struct verdict verdict = check_list(ancestors, ancestor_words);
-    if (verdict.answer != TAKEN)
+    belfry_verdict verdict = check_list(ancestors, ancestor_words);
+    if (verdict.answer != BELFRY_TAKEN)
         return verdict;
     verdict = check_list(descendants, descendant_words);
-    if (verdict.answer != TAKEN) {
-        verdict.list = 1;
+    if (verdict.answer != BELFRY_TAKEN) {
+        verdict.list = BELFRY_DESCENDANTS;
         return verdict;
     }
-    return verdict_of(are_agreeing(lists_of(ancestors, ancestor_words, descendants, descendant_words)) ? TAKEN : JOINT);
+    return verdict_of(are_agreeing(lists_of(ancestors, ancestor_words, descendants, descendant_words)) ? BELFRY_TAKEN : BELFRY_JOINT);
 }
 
 #if FUSED
@@ -166,35 +163,35 @@ static int are_taken(struct lists l)
     *top = EVERYTHING;
     while (l.ancestor < l.ancestors_end && l.descendant < l.descendants_end) {
         const struct node *n = next_node(&l);
-        if (!n || check_node(stack, &top, n) != TAKEN)
+        if (!n || check_node(stack, &top, n) != BELFRY_TAKEN)
             return 0;
     }
     for (; l.ancestor < l.ancestors_end; l.ancestor++)
-        if (check_node(stack, &top, l.ancestor) != TAKEN)
+        if (check_node(stack, &top, l.ancestor) != BELFRY_TAKEN)
             return 0;
     for (; l.descendant < l.descendants_end; l.descendant++)
-        if (check_node(stack, &top, l.descendant) != TAKEN)
+        if (check_node(stack, &top, l.descendant) != BELFRY_TAKEN)
             return 0;
     return 1;
 }
 #endif
 
-static struct verdict check_both(const uint32_t *ancestors, size_t ancestor_words, const uint32_t *descendants, size_t descendant_words)
+static belfry_verdict check_both(const uint32_t *ancestors, size_t ancestor_words, const uint32_t *descendants, size_t descendant_words)
 {
 #if FUSED
-    if (word_fault(ancestor_words) == TAKEN && word_fault(descendant_words) == TAKEN &&
+    if (word_fault(ancestor_words) == BELFRY_TAKEN && word_fault(descendant_words) == BELFRY_TAKEN &&
         are_taken(lists_of(ancestors, ancestor_words, descendants, descendant_words)))
-        return verdict_of(TAKEN);
+        return verdict_of(BELFRY_TAKEN);
 #endif
     return three_passes(ancestors, ancestor_words, descendants, descendant_words);
 }
 
-struct verdict TWIN(check)(const uint32_t *list, size_t words)
+belfry_verdict TWIN(check)(const uint32_t *list, size_t words)
 {
     return check_list(list, words);
 }
 
-struct verdict TWIN(check_two)(const uint32_t *ancestors, size_t ancestor_words, const uint32_t *descendants, size_t descendant_words)
+belfry_verdict TWIN(check_two)(const uint32_t *ancestors, size_t ancestor_words, const uint32_t *descendants, size_t descendant_words)
 {
     return check_both(ancestors, ancestor_words, descendants, descendant_words);
 }
@@ -250,7 +247,7 @@ static inline struct node *open_ancestors(struct node *stack, struct node *top, 
 
 /* Pairs each descendant with the ancestors open at it, past the ticket's place. Directly inside it can only lie in the innermost. It says whether
    all found room. */
-static int sweep_descendants(struct lists l, const struct ticket *ticket, struct writing *w)
+static int sweep_descendants(struct lists l, const belfry_ticket *ticket, struct writing *w)
 {
     const struct node place = {ticket->document, ticket->first, 0, 0};
     struct node stack[STACK_NODES], *top = stack;
@@ -274,7 +271,7 @@ static int sweep_descendants(struct lists l, const struct ticket *ticket, struct
 }
 
 /* Pairs each ancestor with the run of descendants that start in it, past the ticket's place. It says whether all found room. */
-static int sweep_ancestors(struct lists l, const struct ticket *ticket, struct writing *w)
+static int sweep_ancestors(struct lists l, const belfry_ticket *ticket, struct writing *w)
 {
     const struct node place = {ticket->document, ticket->first, 0, 0};
     if (ticket->placed)
@@ -296,7 +293,7 @@ static int sweep_ancestors(struct lists l, const struct ticket *ticket, struct w
 }
 
 /* The ticket after a page whose last pair is given. */
-static struct ticket ticket_after(struct ticket ticket, const struct pair *last)
+static belfry_ticket ticket_after(belfry_ticket ticket, const struct pair *last)
 {
     ticket.placed = 1;
     ticket.document = last->descendant.document;
@@ -305,24 +302,24 @@ static struct ticket ticket_after(struct ticket ticket, const struct pair *last)
     return ticket;
 }
 
-struct page TWIN(list)(const uint32_t *ancestors, size_t ancestor_words, const uint32_t *descendants, size_t descendant_words,
-                       struct ticket ticket, uint32_t *out, size_t out_words)
+belfry_page TWIN(list)(const uint32_t *ancestors, size_t ancestor_words, const uint32_t *descendants, size_t descendant_words,
+                       belfry_ticket ticket, uint32_t *out, size_t out_words)
 {
-    struct verdict v = check_both(ancestors, ancestor_words, descendants, descendant_words);
-    if (v.answer != TAKEN)
-        return (struct page){v.answer, v.list, v.index, 0, 0, ticket};
+    belfry_verdict v = check_both(ancestors, ancestor_words, descendants, descendant_words);
+    if (v.answer != BELFRY_TAKEN)
+        return (belfry_page){v.answer, v.list, v.index, 0, 0, ticket};
     struct lists lists = lists_of(ancestors, ancestor_words, descendants, descendant_words);
     struct pair *pairs = (struct pair *)out;
-    struct writing w = {pairs, pairs + out_words / (2 * NODE_WORDS)};
+    struct writing w = {pairs, pairs + out_words / BELFRY_PAIR_WORDS};
     int done = ticket.order ? sweep_ancestors(lists, &ticket, &w) : sweep_descendants(lists, &ticket, &w);
     if (w.out > pairs)
         ticket = ticket_after(ticket, w.out - 1);
-    return (struct page){TAKEN, 0, 0, done, w.out - pairs, ticket};
+    return (belfry_page){BELFRY_TAKEN, 0, 0, done, w.out - pairs, ticket};
 }
 
-static struct result result_of(struct verdict v, size_t count)
+static belfry_result result_of(belfry_verdict v, size_t count)
 {
-    return (struct result){v.answer, v.list, v.index, count};
+    return (belfry_result){v.answer, v.list, v.index, count};
 }
 
 static inline int has_ended(const struct node *earlier, const struct node *n)
@@ -331,68 +328,68 @@ static inline int has_ended(const struct node *earlier, const struct node *n)
 }
 
 /* The links of a list that was taken. The last node left on the way to a node's parent is its elder sibling, if it is of the same document. */
-static void link_nodes(const struct node *nodes, size_t count, uint32_t (*links)[LINK_WORDS])
+static void link_nodes(const struct node *nodes, size_t count, uint32_t (*links)[BELFRY_LINK_WORDS])
 {
-    uint32_t open[MOST_LEVELS];
+    uint32_t open[BELFRY_MOST_LEVELS];
     size_t depth = 0;
     for (uint32_t i = 0; i < count; i++) {
-        uint32_t elder = NONE;
+        uint32_t elder = BELFRY_NONE;
         while (depth > 0 && has_ended(&nodes[open[depth - 1]], &nodes[i]))
             elder = open[--depth];
-        uint32_t parent = depth > 0 ? open[depth - 1] : NONE;
+        uint32_t parent = depth > 0 ? open[depth - 1] : BELFRY_NONE;
         links[i][0] = parent;
-        links[i][1] = links[i][2] = NONE;
-        if (elder != NONE && nodes[elder].document == nodes[i].document)
+        links[i][1] = links[i][2] = BELFRY_NONE;
+        if (elder != BELFRY_NONE && nodes[elder].document == nodes[i].document)
             links[elder][2] = i;
-        else if (parent != NONE)
+        else if (parent != BELFRY_NONE)
             links[parent][1] = i;
         open[depth++] = i;
     }
 }
 
-struct result TWIN(links)(const uint32_t *list, size_t words, uint32_t *out, size_t out_words)
+belfry_result TWIN(links)(const uint32_t *list, size_t words, uint32_t *out, size_t out_words)
 {
-    struct verdict verdict = check_list(list, words);
-    size_t count = words / NODE_WORDS;
-    if (verdict.answer != TAKEN)
+    belfry_verdict verdict = check_list(list, words);
+    size_t count = words / BELFRY_NODE_WORDS;
+    if (verdict.answer != BELFRY_TAKEN)
         return result_of(verdict, 0);
-    if (out_words / LINK_WORDS < count)
-        return result_of(verdict_of(ROOM), 0);
-    link_nodes((const struct node *)list, count, (uint32_t(*)[LINK_WORDS])out);
+    if (out_words / BELFRY_LINK_WORDS < count)
+        return result_of(verdict_of(BELFRY_ROOM), 0);
+    link_nodes((const struct node *)list, count, (uint32_t(*)[BELFRY_LINK_WORDS])out);
     return result_of(verdict, count);
 }
 
 /* What is wrong with a document's marks, and how many rows its table has. */
-static enum answer check_marks(const uint32_t *marks, size_t count, size_t *rows)
+static uint32_t check_marks(const uint32_t *marks, size_t count, size_t *rows)
 {
     size_t depth = 0, found = 0;
     for (size_t i = 0; i < count; i++) {
         uint32_t mark = marks[i];
-        if (mark > TEXT)
-            return MARK;
-        if (depth == 0 && (i > 0 || mark == 0 || mark == TEXT))
-            return STRAY;
-        if (mark == 0) {
+        if (mark > BELFRY_TEXT)
+            return BELFRY_MARK;
+        if (depth == 0 && (i > 0 || mark == BELFRY_CLOSE || mark == BELFRY_TEXT))
+            return BELFRY_STRAY;
+        if (mark == BELFRY_CLOSE) {
             depth--;
             continue;
         }
-        if (depth == MOST_LEVELS)
-            return DEEP;
+        if (depth == BELFRY_MOST_LEVELS)
+            return BELFRY_DEEP;
         found++;
-        depth += mark != TEXT;
+        depth += mark != BELFRY_TEXT;
     }
     *rows = found;
-    return count == 0 || depth > 0 ? UNCLOSED : TAKEN;
+    return count == 0 || depth > 0 ? BELFRY_UNCLOSED : BELFRY_TAKEN;
 }
 
 /* The rows of marks that were taken. An element's end is filled in at its close. */
-static void write_rows(uint32_t document, const uint32_t *marks, size_t count, uint32_t (*row)[ROW_WORDS])
+static void write_rows(uint32_t document, const uint32_t *marks, size_t count, uint32_t (*row)[BELFRY_ROW_WORDS])
 {
-    uint32_t *ends[MOST_LEVELS];
+    uint32_t *ends[BELFRY_MOST_LEVELS];
     size_t depth = 0;
     for (uint32_t position = 1; position <= count; position++) {
         uint32_t mark = marks[position - 1];
-        if (mark == 0) {
+        if (mark == BELFRY_CLOSE) {
             *ends[--depth] = position;
             continue;
         }
@@ -401,22 +398,22 @@ static void write_rows(uint32_t document, const uint32_t *marks, size_t count, u
         (*row)[2] = position;
         (*row)[3] = depth + 1;
         (*row)[4] = mark;
-        if (mark != TEXT)
+        if (mark != BELFRY_TEXT)
             ends[depth++] = &(*row)[2];
         row++;
     }
 }
 
-struct result TWIN(number)(uint32_t document, const uint32_t *marks, size_t mark_words, uint32_t *out, size_t out_words)
+belfry_result TWIN(number)(uint32_t document, const uint32_t *marks, size_t mark_words, uint32_t *out, size_t out_words)
 {
     size_t rows = 0;
-    enum answer fault = mark_words > MOST_NODES ? LONG : check_marks(marks, mark_words, &rows);
-    if (fault == TAKEN && out_words / ROW_WORDS < rows)
-        fault = ROOM;
-    if (fault != TAKEN)
+    uint32_t fault = mark_words > BELFRY_MOST_NODES ? BELFRY_LONG : check_marks(marks, mark_words, &rows);
+    if (fault == BELFRY_TAKEN && out_words / BELFRY_ROW_WORDS < rows)
+        fault = BELFRY_ROOM;
+    if (fault != BELFRY_TAKEN)
         return result_of(verdict_of(fault), 0);
-    write_rows(document, marks, mark_words, (uint32_t(*)[ROW_WORDS])out);
-    return result_of(verdict_of(TAKEN), rows);
+    write_rows(document, marks, mark_words, (uint32_t(*)[BELFRY_ROW_WORDS])out);
+    return result_of(verdict_of(BELFRY_TAKEN), rows);
 }
 
 /* A number of a book, which may lie anywhere. */
@@ -432,22 +429,22 @@ struct entry {
 
 static inline struct entry entry_at(const uint8_t *book, size_t index)
 {
-    const uint8_t *at = book + 4 + 12 * index;
+    const uint8_t *at = book + BELFRY_NUMBER_BYTES + ENTRY_BYTES * index;
     return (struct entry){number_at(at), number_at(at + 4), number_at(at + 8)};
 }
 
 /* Whether the contents keep the rules, and how many lists they name. */
 static int are_contents(const uint8_t *book, size_t bytes, uint32_t *lists)
 {
-    if (bytes < 4 || number_at(book) > MOST_LISTS)
+    if (bytes < BELFRY_NUMBER_BYTES || number_at(book) > BELFRY_MOST_LISTS)
         return 0;
     *lists = number_at(book);
-    size_t end = 4 + 12 * (size_t)*lists;
+    size_t end = BELFRY_NUMBER_BYTES + ENTRY_BYTES * (size_t)*lists;
     if (bytes < end)
         return 0;
     for (uint32_t i = 0; i < *lists; i++) {
         struct entry entry = entry_at(book, i);
-        if (entry.offset != end || entry.count > MOST_NODES)
+        if (entry.offset != end || entry.count > BELFRY_MOST_NODES)
             return 0;
         if (i > 0 && entry.tag <= entry_at(book, i - 1).tag)
             return 0;
@@ -457,47 +454,47 @@ static int are_contents(const uint8_t *book, size_t bytes, uint32_t *lists)
 }
 
 /* One list alone, out of a book's bytes. */
-static struct verdict check_body(const uint8_t *at, uint32_t count)
+static belfry_verdict check_body(const uint8_t *at, uint32_t count)
 {
     struct node stack[STACK_NODES], *top = stack;
     *top = EVERYTHING;
     for (uint32_t i = 0; i < count; i++, at += NODE_BYTES) {
         struct node n = {number_at(at), number_at(at + 4), number_at(at + 8), number_at(at + 12)};
-        enum answer fault = check_node(stack, &top, &n);
-        if (fault != TAKEN)
-            return (struct verdict){fault, 0, i};
+        uint32_t fault = check_node(stack, &top, &n);
+        if (fault != BELFRY_TAKEN)
+            return (belfry_verdict){fault, 0, i};
     }
-    return verdict_of(TAKEN);
+    return verdict_of(BELFRY_TAKEN);
 }
 
-static struct book check_book(const uint8_t *book, size_t bytes)
+static belfry_book check_book(const uint8_t *book, size_t bytes)
 {
     uint32_t lists = 0;
     if (!are_contents(book, bytes, &lists))
-        return (struct book){CONTENTS, 0, 0, 0};
+        return (belfry_book){BELFRY_CONTENTS, 0, 0, 0};
     for (uint32_t i = 0; i < lists; i++) {
         struct entry entry = entry_at(book, i);
-        struct verdict verdict = check_body(book + entry.offset, entry.count);
-        if (verdict.answer != TAKEN)
-            return (struct book){verdict.answer, i, verdict.index, 0};
+        belfry_verdict verdict = check_body(book + entry.offset, entry.count);
+        if (verdict.answer != BELFRY_TAKEN)
+            return (belfry_book){verdict.answer, i, verdict.index, 0};
     }
-    return (struct book){TAKEN, 0, 0, lists};
+    return (belfry_book){BELFRY_TAKEN, 0, 0, lists};
 }
 
-struct book TWIN(book_check)(const uint8_t *book, size_t bytes)
+belfry_book TWIN(book_check)(const uint8_t *book, size_t bytes)
 {
     return check_book(book, bytes);
 }
 
-struct body TWIN(book_body)(const uint8_t *book, size_t bytes, uint32_t tag)
+belfry_body TWIN(book_body)(const uint8_t *book, size_t bytes, uint32_t tag)
 {
-    struct book b = check_book(book, bytes);
-    if (b.answer != TAKEN)
-        return (struct body){b.answer, b.list, b.index, 0, 0};
+    belfry_book b = check_book(book, bytes);
+    if (b.answer != BELFRY_TAKEN)
+        return (belfry_body){b.answer, b.list, b.index, 0, 0};
     for (uint32_t i = 0; i < b.lists; i++) {
         struct entry entry = entry_at(book, i);
         if (entry.tag == tag)
-            return (struct body){TAKEN, 0, 0, entry.offset, NODE_BYTES * (size_t)entry.count};
+            return (belfry_body){BELFRY_TAKEN, 0, 0, entry.offset, NODE_BYTES * (size_t)entry.count};
     }
-    return (struct body){ABSENT, 0, 0, 0, 0};
+    return (belfry_body){BELFRY_ABSENT, 0, 0, 0, 0};
 }
