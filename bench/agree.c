@@ -1,0 +1,360 @@
+/* Whether every twin answers and writes as the archive does: on the six shapes, on lists at the limits and on random small lists, most of which are
+   damaged. agree CASES says how many random ones. A difference is printed and ends it with 1. */
+#include "codes.h"
+#include "shapes.h"
+#include <stdio.h>
+#include <stdlib.h>
+#include <string.h>
+
+enum { MOST_PAIRS = 300000, MOST_NOTES = 1 << 16, ANSWERS = BELFRY_ABSENT + 1 };
+
+/* What a case gives to the calls. */
+struct input {
+    const uint32_t *ancestors, *descendants, *marks;
+    const uint8_t *book;
+    size_t ancestor_words, descendant_words, mark_words, book_bytes;
+    size_t rooms[2];
+    belfry_ticket ticket;
+    uint32_t tag;
+};
+
+/* All that a code answered in a case, in order. */
+struct notes {
+    size_t count;
+    uint64_t note[MOST_NOTES];
+};
+
+static struct notes expected, found;
+static uint32_t out[MOST_PAIRS * BELFRY_PAIR_WORDS];
+static unsigned long seen[ANSWERS];
+
+static void note(struct notes *notes, uint64_t number)
+{
+    if (notes->count == MOST_NOTES) {
+        fprintf(stderr, "agree: a case with too many answers\n");
+        exit(2);
+    }
+    notes->note[notes->count++] = number;
+}
+
+static void note_answer(struct notes *notes, uint32_t answer, uint32_t list, uint32_t index)
+{
+    if (notes == &expected && answer < ANSWERS)
+        seen[answer]++;
+    note(notes, answer);
+    note(notes, list);
+    note(notes, index);
+}
+
+/* The output before a call; some words behind its end are part of it, which no call may alter. */
+static void clear_out(size_t words)
+{
+    for (size_t i = 0; i < words + BELFRY_PAIR_WORDS; i++)
+        out[i] = 0xa5a5a5a5 + i;
+}
+
+static void note_out(struct notes *notes, size_t words)
+{
+    uint64_t sum = 14695981039346656037u;
+    for (size_t i = 0; i < words + BELFRY_PAIR_WORDS; i++)
+        sum = (sum ^ out[i]) * 1099511628211u;
+    note(notes, sum);
+}
+
+static void note_ticket(struct notes *notes, belfry_ticket t)
+{
+    note(notes, t.relation);
+    note(notes, t.order);
+    note(notes, t.placed);
+    note(notes, t.document);
+    note(notes, t.first);
+    note(notes, t.second);
+}
+
+static void note_checks(struct notes *notes, const struct code *code, const struct input *in)
+{
+    belfry_verdict one = code->check(in->ancestors, in->ancestor_words);
+    belfry_verdict other = code->check(in->descendants, in->descendant_words);
+    belfry_verdict two = code->check_two(in->ancestors, in->ancestor_words, in->descendants, in->descendant_words);
+    note_answer(notes, one.answer, one.list, one.index);
+    note_answer(notes, other.answer, other.list, other.index);
+    note_answer(notes, two.answer, two.list, two.index);
+}
+
+/* Page after page with one room, from a ticket on, until one is done or nothing is written. */
+static void note_pages(struct notes *notes, const struct code *code, const struct input *in, belfry_ticket ticket, size_t room_words)
+{
+    belfry_page page;
+    do {
+        clear_out(room_words);
+        page = code->list(in->ancestors, in->ancestor_words, in->descendants, in->descendant_words, ticket, out, room_words);
+        note_answer(notes, page.answer, page.list, page.index);
+        note(notes, page.done);
+        note(notes, page.count);
+        note_ticket(notes, page.ticket);
+        note_out(notes, room_words);
+        ticket = page.ticket;
+    } while (!page.done && page.count > 0);
+}
+
+static void note_listings(struct notes *notes, const struct code *code, const struct input *in)
+{
+    for (uint32_t kind = 0; kind < 4; kind++) {
+        belfry_ticket fresh = {.relation = kind & 1, .order = kind >> 1};
+        belfry_ticket made_up = in->ticket;
+        made_up.relation = kind & 1;
+        made_up.order = kind >> 1;
+        note_pages(notes, code, in, fresh, in->rooms[0]);
+        note_pages(notes, code, in, fresh, in->rooms[1]);
+        note_pages(notes, code, in, made_up, in->rooms[1]);
+    }
+}
+
+static void note_written(struct notes *notes, belfry_result result, size_t room_words)
+{
+    note_answer(notes, result.answer, result.list, result.index);
+    note(notes, result.count);
+    note_out(notes, room_words);
+}
+
+static void note_others(struct notes *notes, const struct code *code, const struct input *in)
+{
+    for (size_t i = 0; i < 2; i++) {
+        clear_out(in->rooms[i]);
+        note_written(notes, code->links(in->ancestors, in->ancestor_words, out, in->rooms[i]), in->rooms[i]);
+        clear_out(in->rooms[i]);
+        note_written(notes, code->number(in->tag, in->marks, in->mark_words, out, in->rooms[i]), in->rooms[i]);
+    }
+    belfry_book book = code->book_check(in->book, in->book_bytes);
+    belfry_body body = code->book_body(in->book, in->book_bytes, in->tag);
+    note_answer(notes, book.answer, book.list, book.index);
+    note(notes, book.lists);
+    note_answer(notes, body.answer, body.list, body.index);
+    note(notes, body.from);
+    note(notes, body.bytes);
+}
+
+static void note_all(struct notes *notes, const struct code *code, const struct input *in)
+{
+    notes->count = 0;
+    note_checks(notes, code, in);
+    note_listings(notes, code, in);
+    note_others(notes, code, in);
+}
+
+/* Runs a case on all codes, and ends where one differs from the archive. */
+static void compare(const struct input *in, const char *name, unsigned long number)
+{
+    note_all(&expected, &codes[0], in);
+    for (size_t i = 1; i < CODES; i++) {
+        note_all(&found, &codes[i], in);
+        if (found.count == expected.count && memcmp(found.note, expected.note, found.count * sizeof found.note[0]) == 0)
+            continue;
+        size_t at = 0;
+        while (at < found.count && at < expected.count && found.note[at] == expected.note[at])
+            at++;
+        printf("%s differs from %s in %s %lu at number %zu of what it answered\n", codes[i].name, codes[0].name, name, number, at);
+        exit(1);
+    }
+}
+
+/* A random number below a limit. */
+static uint32_t below(uint32_t limit)
+{
+    static uint64_t state = 2026;
+    return random_number(&state) % limit;
+}
+
+enum { MOST_SMALL = 24, SMALL_MARKS = 200, SMALL_LISTS = 2, CONTENTS_BYTES = BELFRY_BOOK_BYTES(SMALL_LISTS, 0) };
+
+/* A random case. */
+struct small {
+    size_t words[SMALL_LISTS], marks, bytes;
+    uint32_t list[SMALL_LISTS][BELFRY_NODE_WORDS * MOST_SMALL], mark[SMALL_MARKS];
+    uint8_t book[BELFRY_BOOK_BYTES(SMALL_LISTS, SMALL_LISTS * MOST_SMALL) + 1];
+};
+
+static void put_node(struct small *s, size_t list, uint32_t document, uint32_t start, uint32_t end, uint32_t level)
+{
+    uint32_t node[BELFRY_NODE_WORDS] = {document, start, end, level};
+    if (s->words[list] == BELFRY_NODE_WORDS * MOST_SMALL)
+        return;
+    memcpy(&s->list[list][s->words[list]], node, sizeof node);
+    s->words[list] += BELFRY_NODE_WORDS;
+}
+
+/* A random forest between two positions: each of its nodes goes to one list, to both or to none, and levels may jump. */
+static void grow(struct small *s, uint32_t document, uint32_t from, uint32_t to, uint32_t level)
+{
+    while (from <= to && to - from < UINT32_MAX / 2 && level <= BELFRY_MOST_LEVELS) {
+        uint32_t start = from + below(to - from + 1) / 2, end = start + below(to - start + 1), lists = below(4);
+        for (size_t list = 0; list < SMALL_LISTS; list++)
+            if (lists >> list & 1)
+                put_node(s, list, document, start, end, level);
+        if (end - start > 1)
+            grow(s, document, start + 1, end - 1, level + 1 + below(2));
+        if (end == to)
+            return;
+        from = end + 1;
+    }
+}
+
+static void fill_lists(struct small *s)
+{
+    uint32_t width = 1 + below(24), from = below(4) ? below(3) : UINT32_MAX - width, document = below(4) ? below(3) : UINT32_MAX - 2;
+    s->words[0] = s->words[1] = 0;
+    for (uint32_t i = below(3); i < 3; i++)
+        grow(s, document + i, from, from + width, below(4) ? 1 : 58 + below(6));
+}
+
+/* Most damage is a word that is off by a little, so that the nodes nearly fit. */
+static void damage_list(uint32_t *list, size_t *words)
+{
+    static const uint32_t others[] = {0, 1, BELFRY_MOST_LEVELS, BELFRY_MOST_LEVELS + 1, UINT32_MAX};
+    if (*words < BELFRY_NODE_WORDS)
+        return;
+    uint32_t at = below(*words);
+    if (below(16) == 0)
+        *words -= below(BELFRY_NODE_WORDS);
+    else if (below(4) == 0)
+        list[at] = others[below(5)];
+    else
+        list[at] += below(5) - 2;
+}
+
+/* Marks that open, close and stand for texts at random, most often all closed at the end; some have one mark changed. */
+static void fill_marks(struct small *s)
+{
+    static const uint32_t others[] = {BELFRY_CLOSE, 1, BELFRY_TEXT - 1, BELFRY_TEXT, BELFRY_TEXT + 1, UINT32_MAX};
+    size_t depth = 0, wanted = below(24);
+    s->marks = 0;
+    for (size_t i = below(8) ? 1 : 60 + below(6); i > 0; i--, depth++)
+        s->mark[s->marks++] = 1 + below(3);
+    for (size_t i = 0; i < wanted && depth > 0; i++) {
+        uint32_t choice = below(3);
+        s->mark[s->marks++] = choice == 0 ? BELFRY_CLOSE : choice == 1 ? BELFRY_TEXT : 1 + below(BELFRY_TEXT - 1);
+        depth += choice == 2 ? 1 : choice == 0 ? -1 : 0;
+    }
+    for (; depth > 0; depth--)
+        s->mark[s->marks++] = BELFRY_CLOSE;
+    if (below(2))
+        s->mark[below(s->marks)] = others[below(6)];
+    if (below(8) == 0)
+        s->marks = below(s->marks + 1);
+}
+
+static void put_number(uint8_t *at, uint32_t number)
+{
+    for (size_t i = 0; i < BELFRY_NUMBER_BYTES; i++)
+        at[i] = number >> 8 * i;
+}
+
+/* The book of both lists under the tags of zones and samples; some have a byte changed, are cut short or go on. */
+static void fill_book(struct small *s)
+{
+    size_t end = CONTENTS_BYTES;
+    put_number(s->book, SMALL_LISTS);
+    for (size_t list = 0; list < SMALL_LISTS; list++) {
+        size_t nodes = s->words[list] / BELFRY_NODE_WORDS;
+        uint8_t *entry = &s->book[BELFRY_BOOK_BYTES(list, 0)];
+        put_number(entry, ZONE_TAG + list);
+        put_number(entry + BELFRY_NUMBER_BYTES, end);
+        put_number(entry + 2 * BELFRY_NUMBER_BYTES, nodes);
+        for (size_t i = 0; i < BELFRY_NODE_WORDS * nodes; i++, end += BELFRY_NUMBER_BYTES)
+            put_number(&s->book[end], s->list[list][i]);
+    }
+    s->bytes = end;
+    if (below(4) == 0)
+        s->book[below(CONTENTS_BYTES)] += below(3) - 1;
+    if (below(16) == 0)
+        s->bytes = below(2) ? below(end) : end + 1;
+}
+
+static void compare_random(unsigned long number)
+{
+    static struct small s;
+    fill_lists(&s);
+    for (size_t damages = below(3); damages > 0; damages--) {
+        size_t list = below(SMALL_LISTS);
+        damage_list(s.list[list], &s.words[list]);
+    }
+    fill_marks(&s);
+    fill_book(&s);
+    struct input in = {
+        .ancestors = s.list[0], .ancestor_words = s.words[0], .descendants = s.list[1], .descendant_words = s.words[1],
+        .marks = s.mark, .mark_words = s.marks, .book = s.book, .book_bytes = s.bytes, .tag = 1 + below(4),
+        .rooms = {below(200), below(40)},
+        .ticket = {.placed = below(4), .document = below(3), .first = below(24), .second = below(24)},
+    };
+    compare(&in, "random case", number);
+}
+
+static void compare_shape(const char *name)
+{
+    static struct shape lists, document;
+    static uint8_t book[4];
+    build_shape(&lists, name, BELFRY_MOST_NODES);
+    build_document(&document, name, BELFRY_MOST_NODES);
+    struct input in = {
+        .ancestors = lists.zone, .ancestor_words = BELFRY_NODE_WORDS * lists.zones, .descendants = lists.sample,
+        .descendant_words = BELFRY_NODE_WORDS * lists.samples, .marks = document.mark, .mark_words = document.marks,
+        .book = book, .book_bytes = sizeof book, .rooms = {BELFRY_PAIR_WORDS * (MOST_PAIRS - 1), BELFRY_PAIR_WORDS * 5000 + 3},
+        .ticket = {.placed = 1, .document = 1, .first = lists.zone[BELFRY_NODE_WORDS * (lists.zones / 2) + 1],
+                   .second = lists.zone[BELFRY_NODE_WORDS * (lists.zones / 3) + 1]},
+    };
+    compare(&in, name, BELFRY_MOST_NODES);
+}
+
+/* Lists and marks of as many words as are given, whose nodes are siblings, or a nest as deep as levels go. */
+static void compare_limit(size_t words, size_t mark_words, int nested)
+{
+    static uint32_t list[BELFRY_NODE_WORDS * (BELFRY_MOST_NODES + 1)], mark[BELFRY_MOST_NODES + 1];
+    static uint8_t book[CONTENTS_BYTES];
+    for (uint32_t i = 0; i < words / BELFRY_NODE_WORDS; i++) {
+        uint32_t node[BELFRY_NODE_WORDS] = {5, 1 + 2 * i, nested ? UINT32_MAX - i : 2 + 2 * i, nested ? 1 + i : 1};
+        memcpy(&list[BELFRY_NODE_WORDS * i], node, sizeof node);
+    }
+    for (size_t i = 0; i < mark_words; i++)
+        mark[i] = i == 0 ? 1 : i == mark_words - 1 ? BELFRY_CLOSE : BELFRY_TEXT;
+    struct input in = {
+        .ancestors = list, .ancestor_words = words, .descendants = list, .descendant_words = words, .marks = mark, .mark_words = mark_words,
+        .book = book, .book_bytes = sizeof book, .rooms = {BELFRY_ROW_WORDS * (BELFRY_MOST_NODES + 1), BELFRY_ROW_WORDS * (mark_words - 2)},
+    };
+    compare(&in, "the limits", words);
+}
+
+/* The answers that no case drew, of those that the calls compared here can give. */
+static int are_seen(void)
+{
+    int all = 1;
+    for (uint32_t answer = 0; answer < ANSWERS; answer++)
+        if (seen[answer] == 0 && answer != BELFRY_TABLE) {
+            printf("no case was answered %u\n", answer);
+            all = 0;
+        }
+    return all;
+}
+
+int main(int argc, char **argv)
+{
+    unsigned long cases = argc == 2 ? strtoul(argv[1], NULL, 10) : 0;
+    if (cases == 0) {
+        fprintf(stderr, "usage: agree CASES\n");
+        return 2;
+    }
+    for (size_t i = 0; i < SHAPES; i++)
+        compare_shape(shape_names[i]);
+    for (size_t nodes = BELFRY_MOST_NODES; nodes <= BELFRY_MOST_NODES + 1; nodes++)
+        compare_limit(BELFRY_NODE_WORDS * nodes, nodes, 0);
+    compare_limit(BELFRY_NODE_WORDS * BELFRY_MOST_NODES + 1, BELFRY_MOST_NODES, 0);
+    for (size_t nodes = BELFRY_MOST_LEVELS; nodes <= BELFRY_MOST_LEVELS + 1; nodes++)
+        compare_limit(BELFRY_NODE_WORDS * nodes, nodes, 1);
+    for (unsigned long i = 0; i < cases; i++)
+        compare_random(i);
+    printf("%d twins answered and wrote as the archive did: %d shapes, 5 cases at the limits, %lu random cases.\n", CODES - 1, SHAPES, cases);
+    printf("Answers by number:");
+    for (size_t i = 0; i < ANSWERS; i++)
+        printf(" %zu:%lu", i, seen[i]);
+    printf("\n");
+    return are_seen() ? 0 : 1;
+}

@@ -1,0 +1,173 @@
+#include "shapes.h"
+#include <string.h>
+
+const char *const shape_names[SHAPES] = {"flat", "nests", "between", "random", "eight-zones", "few-samples"};
+
+enum { ROOT_TAG = 1, DEEPEST_RANDOM = 20 };
+
+/* A shape that is being built: how many nodes each list may have, the next position, and where each open element's end is to be written. */
+struct building {
+    struct shape *shape;
+    size_t most;
+    uint32_t position;
+    size_t depth;
+    uint32_t *ends[BELFRY_MOST_LEVELS];
+};
+
+static void put_mark(struct building *b, uint32_t mark)
+{
+    b->shape->mark[b->shape->marks++] = mark;
+    b->position++;
+}
+
+static void open_element(struct building *b, uint32_t *node, uint32_t tag)
+{
+    node[0] = 1;
+    node[1] = b->position;
+    node[3] = ++b->depth;
+    b->ends[b->depth - 1] = &node[2];
+    put_mark(b, tag);
+}
+
+static void close_element(struct building *b)
+{
+    *b->ends[--b->depth] = b->position;
+    put_mark(b, BELFRY_CLOSE);
+}
+
+static void open_zone(struct building *b)
+{
+    open_element(b, &b->shape->zone[BELFRY_NODE_WORDS * b->shape->zones++], ZONE_TAG);
+}
+
+static void open_sample(struct building *b)
+{
+    open_element(b, &b->shape->sample[BELFRY_NODE_WORDS * b->shape->samples++], SAMPLE_TAG);
+}
+
+static void put_samples(struct building *b, size_t count)
+{
+    for (size_t i = 0; i < count; i++) {
+        open_sample(b);
+        close_element(b);
+    }
+}
+
+static int has_room(const struct building *b, size_t zones, size_t samples)
+{
+    return b->shape->zones + zones <= b->most && b->shape->samples + samples <= b->most;
+}
+
+/* Zones side by side, a sample in each. */
+static void build_flat(struct building *b)
+{
+    while (has_room(b, 1, 1)) {
+        open_zone(b);
+        put_samples(b, 1);
+        close_element(b);
+    }
+}
+
+/* Nests of as many zones as there are levels but one, and as many samples in the innermost zone of each. */
+static void build_nests(struct building *b)
+{
+    size_t deep = BELFRY_MOST_LEVELS - 1 - b->depth;
+    while (has_room(b, deep, deep)) {
+        for (size_t i = 0; i < deep; i++)
+            open_zone(b);
+        put_samples(b, deep);
+        for (size_t i = 0; i < deep; i++)
+            close_element(b);
+    }
+}
+
+/* Such nests with a sample before and a sample after each inner zone. */
+static void build_between(struct building *b)
+{
+    size_t deep = BELFRY_MOST_LEVELS - 1 - b->depth;
+    if (deep > b->most / 2)
+        deep = b->most / 2;
+    while (has_room(b, deep, 2 * deep)) {
+        for (size_t i = 0; i < deep; i++) {
+            open_zone(b);
+            put_samples(b, 1);
+        }
+        for (size_t i = 0; i < deep; i++) {
+            put_samples(b, 1);
+            close_element(b);
+        }
+    }
+}
+
+uint32_t random_number(uint64_t *state)
+{
+    *state = *state * 6364136223846793005 + 1442695040888963407;
+    return *state >> 33;
+}
+
+/* A walk that opens a zone, opens a sample or closes what is open, at random. */
+static void build_random(struct building *b)
+{
+    uint64_t state = 1;
+    size_t lowest = b->depth, deepest = lowest + DEEPEST_RANDOM;
+    while (has_room(b, 1, 1)) {
+        uint32_t choice = random_number(&state);
+        if (b->depth == deepest || (b->depth > lowest && choice % 2 == 0))
+            close_element(b);
+        else if (choice / 2 % 2 == 0)
+            open_zone(b);
+        else
+            open_sample(b);
+    }
+    while (b->depth > lowest)
+        close_element(b);
+}
+
+/* Zones side by side, so many of which hold as many samples as are given for each. */
+static void build_some(struct building *b, size_t holders, size_t samples)
+{
+    size_t apart = b->most < holders ? 1 : b->most / holders;
+    for (size_t i = 0; i < b->most; i++) {
+        open_zone(b);
+        if (i % apart == 0 && i / apart < holders)
+            put_samples(b, samples);
+        close_element(b);
+    }
+}
+
+static int build(struct building *b, const char *name)
+{
+    if (strcmp(name, "flat") == 0)
+        build_flat(b);
+    else if (strcmp(name, "nests") == 0)
+        build_nests(b);
+    else if (strcmp(name, "between") == 0)
+        build_between(b);
+    else if (strcmp(name, "random") == 0)
+        build_random(b);
+    else if (strcmp(name, "eight-zones") == 0)
+        build_some(b, 8, b->most / 8);
+    else if (strcmp(name, "few-samples") == 0)
+        build_some(b, 16, 1);
+    else
+        return 0;
+    return 1;
+}
+
+int build_shape(struct shape *shape, const char *name, size_t nodes)
+{
+    struct building b = {.shape = shape, .most = nodes, .position = 1};
+    shape->zones = shape->samples = shape->marks = 0;
+    return build(&b, name);
+}
+
+int build_document(struct shape *shape, const char *name, size_t marks)
+{
+    struct building b = {.shape = shape, .most = marks / 4 - 1, .position = 1};
+    uint32_t root[BELFRY_NODE_WORDS];
+    shape->zones = shape->samples = shape->marks = 0;
+    open_element(&b, root, ROOT_TAG);
+    int built = build(&b, name);
+    close_element(&b);
+    return built;
+}

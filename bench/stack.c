@@ -1,0 +1,203 @@
+/* How much stack each call takes, its arguments, its answer and the way back included: the most over the six shapes, taken and refused. A call runs
+   on a stack of its own that was painted before, and what lost its paint is counted, less what an empty function leaves. A line is printed for
+   each call: its name, and the bytes for each code, 0 where the twin has no such call. */
+#include "codes.h"
+#include "shapes.h"
+#include <stdio.h>
+#include <string.h>
+#include <ucontext.h>
+
+enum { AREA_BYTES = 1 << 18, OUT_WORDS = 1 << 21, CALLS = 13, PAINTS = 2, WORD_BYTES = 8 };
+
+/* What the calls are given: a shape's lists, a document's marks and table, and a book of the zones, with the entry and the bytes that it has. */
+static struct shape lists, document;
+static size_t zone_words, sample_words, table_words, book_bytes;
+static uint32_t table[BELFRY_ROW_WORDS * BELFRY_MOST_NODES], entry[2], book[4 + BELFRY_NODE_WORDS * BELFRY_MOST_NODES], out[OUT_WORDS];
+
+static void call_nothing(const struct code *code)
+{
+    (void)code;
+}
+
+static void call_check(const struct code *code)
+{
+    code->check(lists.zone, zone_words);
+}
+
+static void call_check_two(const struct code *code)
+{
+    code->check_two(lists.zone, zone_words, lists.sample, sample_words);
+}
+
+static void call_faulty(const struct code *code)
+{
+    (void)code;
+    belfry_faulty(lists.zone, zone_words, lists.sample, sample_words);
+}
+
+static void call_list(const struct code *code, uint32_t relation, uint32_t order)
+{
+    belfry_ticket ticket = {.relation = relation, .order = order};
+    code->list(lists.zone, zone_words, lists.sample, sample_words, ticket, out, OUT_WORDS);
+}
+
+static void call_list_descendant(const struct code *code)
+{
+    call_list(code, 0, 0);
+    call_list(code, 1, 0);
+}
+
+static void call_list_ancestor(const struct code *code)
+{
+    call_list(code, 0, 1);
+    call_list(code, 1, 1);
+}
+
+static void call_number(const struct code *code)
+{
+    code->number(1, document.mark, document.marks, out, OUT_WORDS);
+}
+
+static void call_unnumber(const struct code *code)
+{
+    (void)code;
+    belfry_unnumber(table, table_words, out, OUT_WORDS);
+}
+
+static void call_pick(const struct code *code)
+{
+    (void)code;
+    belfry_pick(table, table_words, ZONE_TAG, out, OUT_WORDS);
+}
+
+static void call_links(const struct code *code)
+{
+    code->links(lists.zone, zone_words, out, OUT_WORDS);
+}
+
+static void call_book_check(const struct code *code)
+{
+    code->book_check((const uint8_t *)book, book_bytes);
+}
+
+static void call_book_body(const struct code *code)
+{
+    code->book_body((const uint8_t *)book, book_bytes, entry[0]);
+}
+
+static void call_book_write(const struct code *code)
+{
+    (void)code;
+    belfry_book_write(entry, 2, lists.zone, zone_words, (uint8_t *)out, sizeof out);
+}
+
+static void call_name(const struct code *code)
+{
+    (void)code;
+    belfry_name(1, (uint8_t *)out);
+}
+
+static const struct {
+    const char *name;
+    void (*make)(const struct code *code);
+    int shared;
+} calls[CALLS] = {
+    {"check", call_check, 1},
+    {"check_two", call_check_two, 1},
+    {"faulty", call_faulty, 0},
+    {"list, descendant order", call_list_descendant, 1},
+    {"list, ancestor order", call_list_ancestor, 1},
+    {"number", call_number, 1},
+    {"unnumber", call_unnumber, 0},
+    {"pick", call_pick, 0},
+    {"links", call_links, 1},
+    {"book_check", call_book_check, 1},
+    {"book_body", call_book_body, 1},
+    {"book_write", call_book_write, 0},
+    {"name", call_name, 0},
+};
+
+static ucontext_t outside, inside;
+static unsigned char area[AREA_BYTES];
+static void (*made)(const struct code *code);
+static const struct code *made_by;
+
+static void make_call(void)
+{
+    made(made_by);
+}
+
+/* The bytes that a call leaves without paint. */
+static size_t unpainted(void (*make)(const struct code *code), const struct code *code, unsigned char paint)
+{
+    size_t left = 0;
+    memset(area, paint, sizeof area);
+    made = make;
+    made_by = code;
+    getcontext(&inside);
+    inside.uc_stack.ss_sp = area;
+    inside.uc_stack.ss_size = sizeof area;
+    inside.uc_link = &outside;
+    makecontext(&inside, make_call, 0);
+    swapcontext(&outside, &inside);
+    while (left < sizeof area && area[left] == paint)
+        left++;
+    return sizeof area - left;
+}
+
+/* The stack of a call, in whole words of it. A byte that happens to be written in the paint's colour has another colour the second time. */
+static size_t stack_of(void (*make)(const struct code *code), const struct code *code)
+{
+    static const unsigned char paints[PAINTS] = {0xa5, 0x5a};
+    size_t most = 0;
+    for (size_t i = 0; i < PAINTS; i++) {
+        size_t bytes = unpainted(make, code, paints[i]) - unpainted(call_nothing, code, paints[i]);
+        if (bytes > most)
+            most = bytes;
+    }
+    return (most + WORD_BYTES - 1) / WORD_BYTES * WORD_BYTES;
+}
+
+static void prepare(const char *shape_name)
+{
+    build_shape(&lists, shape_name, BELFRY_MOST_NODES);
+    build_document(&document, shape_name, BELFRY_MOST_NODES);
+    zone_words = BELFRY_NODE_WORDS * lists.zones;
+    sample_words = BELFRY_NODE_WORDS * lists.samples;
+    table_words = BELFRY_ROW_WORDS * codes[0].number(1, document.mark, document.marks, table, BELFRY_ROW_WORDS * BELFRY_MOST_NODES).count;
+    entry[0] = ZONE_TAG;
+    entry[1] = lists.zones;
+    uint32_t contents[4] = {1, entry[0], sizeof contents, entry[1]};
+    memcpy(book, contents, sizeof contents);
+    memcpy(book + 4, lists.zone, zone_words * sizeof lists.zone[0]);
+    book_bytes = sizeof contents + zone_words * sizeof lists.zone[0];
+}
+
+/* The last node of each list, and of the book, gets a level that is too high. */
+static void damage(void)
+{
+    lists.zone[zone_words - 1] = lists.sample[sample_words - 1] = book[book_bytes / 4 - 1] = BELFRY_MOST_LEVELS + 1;
+}
+
+int main(void)
+{
+    static size_t most[CALLS][CODES];
+    for (size_t round = 0; round < 2 * SHAPES; round++) {
+        prepare(shape_names[round / 2]);
+        if (round % 2 == 1)
+            damage();
+        for (size_t c = 0; c < CALLS; c++)
+            for (size_t k = 0; k < (calls[c].shared ? CODES : 1); k++) {
+                size_t bytes = stack_of(calls[c].make, &codes[k]);
+                if (bytes > most[c][k])
+                    most[c][k] = bytes;
+            }
+    }
+    for (size_t c = 0; c < CALLS; c++) {
+        printf("%s", calls[c].name);
+        for (size_t k = 0; k < CODES; k++)
+            printf(";%zu", most[c][k]);
+        printf("\n");
+    }
+    return 0;
+}
