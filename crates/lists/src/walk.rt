@@ -82,8 +82,8 @@ fn top_of(stack: &[u32], used: usize) -> Node
     node_from(stack, used - NODE_WORDS)
 }
 
-// Whether the node is the first one of its document: the last one passed, which lies on top of the stack, is of an earlier one, or there is
-// none.
+// Whether the node is the first one of its document, at which nothing is open: the last one passed, which lies on top of the stack, is of an
+// earlier one, or there is none.
 fn is_first(stack: &[u32; STACK_WORDS], used: usize, node: Node) -> bool
     requires { ⌜ Fits used ⌝ }
     ensures { λ r. ⌜ r ≡ firstb (opened used (now (stack .entry))) node ⌝ }
