@@ -1,7 +1,6 @@
 //! Where the buffers of a call lie: anywhere, or right beside memory that nobody may touch, so that a word too far ends the process.
 
 use crate::paint::Word;
-use std::marker::PhantomData;
 use std::mem::size_of;
 use std::ops::{Deref, DerefMut};
 use std::ptr::{copy_nonoverlapping, null_mut};
@@ -65,6 +64,7 @@ impl<T> DerefMut for Lent<T> {
     }
 }
 
+/// Linux's numbers for what may be done with memory, and for memory that is of no file.
 const NOTHING: i32 = 0;
 const READ: i32 = 1;
 const READ_AND_WRITE: i32 = 3;
@@ -84,7 +84,6 @@ pub struct Guarded<T> {
     between: usize,
     first: *mut T,
     count: usize,
-    words: PhantomData<T>,
 }
 
 impl<T> Guarded<T> {
@@ -95,7 +94,7 @@ impl<T> Guarded<T> {
         assert_ne!(base as isize, -1, "no memory for {bytes} bytes");
         let skipped = if let Ground::BeforeGuard = ground { between - bytes } else { 0 };
         let first = unsafe { base.add(GUARD + skipped) }.cast();
-        let guarded = Guarded { base, between, first, count, words: PhantomData };
+        let guarded = Guarded { base, between, first, count };
         guarded.protect(READ_AND_WRITE);
         guarded
     }

@@ -2,6 +2,8 @@
 
 use belfrychest::raw::{self, Ticket};
 use outside::asking;
+use outside::making::marks::FIGURE;
+use outside::making::tickets::FRESH;
 use outside::model::answers::Answer::{self, *};
 use outside::model::links::NONE;
 use outside::model::marks::ROW_WORDS;
@@ -10,7 +12,6 @@ use outside::model::pages::PAIR_WORDS;
 use outside::model::printing::printed;
 
 const DOCUMENT: u32 = 5;
-const MARKS: [u32; 11] = [1, 2, 2, 3, 65_536, 0, 0, 3, 0, 0, 0];
 const BOOK: &[u8] = include_bytes!("../../examples/figure.book");
 
 /// A list of document 5 from (start, end, level).
@@ -27,7 +28,7 @@ fn samples() -> Vec<u32> {
 }
 
 fn ticket(relation: u32, order: u32) -> Ticket {
-    Ticket { relation, order, placed: 0, document: 0, first: 0, second: 0 }
+    Ticket { relation, order, ..FRESH }
 }
 
 /// The starts of the pairs of one page, whether it was done, and the ticket for the next.
@@ -50,13 +51,13 @@ fn draws(nodes: &[[u32; 3]], answer: Answer, index: u32) {
 fn marks_number_to_the_table_and_come_back() {
     let rows = [[5, 1, 11, 1, 1], [5, 2, 10, 2, 2], [5, 3, 7, 3, 2], [5, 4, 6, 4, 3], [5, 5, 5, 5, 65_536], [5, 8, 9, 3, 3]].concat();
     let mut out = vec![0; rows.len()];
-    assert_eq!(asking::number(DOCUMENT, &MARKS, &mut out), Taken);
-    assert_eq!(raw::number(DOCUMENT, &MARKS, &mut out).count, rows.len() / ROW_WORDS);
+    assert_eq!(asking::number(DOCUMENT, &FIGURE, &mut out), Taken);
+    assert_eq!(raw::number(DOCUMENT, &FIGURE, &mut out).count, rows.len() / ROW_WORDS);
     assert_eq!(out, rows);
-    let mut back = [0; MARKS.len()];
+    let mut back = [0; FIGURE.len()];
     assert_eq!(asking::unnumber(&rows, &mut back), Taken);
-    assert_eq!(raw::unnumber(&rows, &mut back), raw::Unnumbered { answer: 0, document: DOCUMENT, count: MARKS.len() });
-    assert_eq!(back, MARKS);
+    assert_eq!(raw::unnumber(&rows, &mut back), raw::Unnumbered { answer: 0, document: DOCUMENT, count: FIGURE.len() });
+    assert_eq!(back, FIGURE);
     for (tag, nodes) in [(2, zones()), (3, samples())] {
         let mut picked = vec![0; nodes.len()];
         assert_eq!(asking::pick(&rows, tag, &mut picked), Taken);

@@ -2,6 +2,10 @@
 
 use belfrychest::raw::{self, Ticket};
 use outside::asking;
+use outside::making::books::parts;
+use outside::making::lists::{nest, texts};
+use outside::making::marks::FIGURE;
+use outside::making::tickets::FRESH;
 use outside::model::answers::Answer::{self, *};
 use outside::model::answers::{ANCESTORS, DESCENDANTS};
 use outside::model::books::{self, bytes, contents_end, MOST_LISTS, NODE_BYTES, NUMBER_BYTES};
@@ -12,27 +16,18 @@ use outside::model::nodes::{words, Node, NODE_WORDS};
 use outside::model::pages::PAIR_WORDS;
 use outside::model::{links, marks, MOST};
 use outside::paint::hold;
+use outside::tally::Tally;
 
-const FRESH: Ticket = Ticket { relation: 0, order: 0, placed: 0, document: 0, first: 0, second: 0 };
-
-/// So many texts of document 5 side by side, from position 100 on.
-fn texts(count: usize) -> Vec<Node> {
-    let text = |place: u32| Node { document: 5, start: 100 + place, end: 100 + place, level: MOST_LEVEL };
-    (0..count as u32).map(text).collect()
-}
-
-/// So many zones of document 5, each inside the one before, around all those texts.
-fn nest(count: u32) -> Vec<Node> {
-    (0..count).map(|depth| Node { document: 5, start: depth, end: 10_000 - depth, level: 1 + depth }).collect()
-}
+/// The greatest level, as a number of nodes.
+const DEEPEST: usize = MOST_LEVEL as usize;
 
 /// A document of so many marks: a root with texts.
 fn document(marks: usize) -> Vec<u32> {
     [vec![1], vec![TEXT; marks - 2], vec![CLOSE]].concat()
 }
 
-/// Words that the checks of a list answer without looking at a node.
-fn unread(words: usize) -> Vec<u32> {
+/// So many words, which make neither nodes nor marks of a sound list.
+fn fives(words: usize) -> Vec<u32> {
     vec![5; words]
 }
 
@@ -62,11 +57,11 @@ fn nodes_of_a_list() {
     assert_eq!(raw::check(&longest), taken);
     assert_eq!(raw::check_two(&longest, &longest), taken);
     draws(&words(&texts(MOST + 1)), Long);
-    draws(&unread(NODE_WORDS * (MOST + 1)), Long);
-    draws(&unread(NODE_WORDS * MOST + 1), Ragged);
-    draws(&unread(NODE_WORDS * (MOST + 1) + 1), Ragged);
-    draws(&unread(1 << 20), Long);
-    draws(&unread(1), Ragged);
+    draws(&fives(NODE_WORDS * (MOST + 1)), Long);
+    draws(&fives(NODE_WORDS * MOST + 1), Ragged);
+    draws(&fives(NODE_WORDS * (MOST + 1) + 1), Ragged);
+    draws(&fives(1 << 20), Long);
+    draws(&fives(1), Ragged);
 }
 
 #[test]
@@ -92,13 +87,14 @@ fn all_pairs(zones: &[Node], texts: &[Node], order: u32) -> Vec<u32> {
 
 #[test]
 fn pairs_of_the_deepest_nest_with_the_longest_list() {
-    let (zones, texts) = (nest(MOST_LEVEL - 1), texts(MOST));
+    let (zones, texts) = (nest(DEEPEST - 1), texts(MOST));
     let (ancestors, descendants) = (words(&zones), words(&texts));
     let count = zones.len() * texts.len();
-    for (order, last) in [(0, [100 + MOST as u32 - 1, MOST_LEVEL - 2]), (1, [MOST_LEVEL - 2, 100 + MOST as u32 - 1])] {
+    let [zone, text] = [&zones, &texts].map(|list| list[list.len() - 1].start);
+    for (order, first, second) in [(0, text, zone), (1, zone, text)] {
         let expected = all_pairs(&zones, &texts, order);
         let given = Ticket { order, ..FRESH };
-        let ticket = Ticket { placed: 1, document: 5, first: last[0], second: last[1], ..given };
+        let ticket = Ticket { placed: 1, document: 5, first, second, ..given };
         let page = raw::Page { answer: 0, list: 0, index: 0, done: 1, count, ticket };
         hold(&order, &mut vec![0; expected.len()], &expected, page, |out| raw::list(&ancestors, &descendants, given, out));
         let mut one_less = vec![0; expected.len() - 1];
@@ -118,14 +114,14 @@ fn levels() {
 
 #[test]
 fn the_deepest_nest() {
-    let zones = words(&nest(MOST_LEVEL));
+    let zones = words(&nest(DEEPEST));
     assert_eq!(asking::check(&zones), Taken);
-    assert_eq!(asking::links(&zones, &mut [0; LINK_WORDS * MOST_LEVEL as usize]), Taken);
+    assert_eq!(asking::links(&zones, &mut [0; LINK_WORDS * DEEPEST]), Taken);
     for (relation, order) in [(0, 0), (0, 1), (1, 0), (1, 1)] {
         let ticket = Ticket { relation, order, ..FRESH };
         assert_eq!(asking::list(&zones, &zones, ticket, &mut [0; 20_000]), Taken);
     }
-    let deeper = words(&nest(MOST_LEVEL + 1));
+    let deeper = words(&nest(DEEPEST + 1));
     assert_eq!(asking::check(&deeper), Level);
     assert_eq!(raw::check(&deeper).index, MOST_LEVEL);
 }
@@ -144,20 +140,19 @@ fn marks_of_a_document() {
     numbers_both_ways(&[1, 0]);
     numbers_both_ways(&document(MOST - 1));
     numbers_both_ways(&document(MOST));
-    for marks in [document(MOST + 1), unread(MOST + 1), unread(1 << 20)] {
+    for marks in [document(MOST + 1), fives(MOST + 1), fives(1 << 20)] {
         assert_eq!(asking::number(7, &marks, &mut [0; 10]), Long);
     }
-    assert_eq!(asking::number(7, &unread(MOST), &mut [0; 10]), Deep);
+    assert_eq!(asking::number(7, &fives(MOST), &mut [0; 10]), Deep);
 }
 
 #[test]
 fn depth_of_a_document() {
-    let deepest = MOST_LEVEL as usize;
     let chain = |depth: usize, within: &[u32]| [&vec![1; depth], within, &vec![CLOSE; depth]].concat();
-    numbers_both_ways(&chain(deepest, &[]));
-    numbers_both_ways(&chain(deepest - 1, &[TEXT]));
-    numbers_both_ways(&chain(1, &chain(deepest - 1, &[]).repeat(32)));
-    for marks in [chain(deepest + 1, &[]), chain(deepest, &[TEXT])] {
+    numbers_both_ways(&chain(DEEPEST, &[]));
+    numbers_both_ways(&chain(DEEPEST - 1, &[TEXT]));
+    numbers_both_ways(&chain(1, &chain(DEEPEST - 1, &[]).repeat(32)));
+    for marks in [chain(DEEPEST + 1, &[]), chain(DEEPEST, &[TEXT])] {
         assert_eq!(asking::number(7, &marks, &mut [0; 1_000]), Deep);
     }
 }
@@ -183,15 +178,15 @@ fn rows_of_a_table() {
     assert_eq!(asking::unnumber(&table(MOST - 1), &mut out), Taken);
     assert_eq!(asking::unnumber(&table(MOST), &mut out), Table);
     assert_eq!(asking::unnumber(&table(MOST + 1), &mut out), Long);
-    assert_eq!(asking::unnumber(&unread(ROW_WORDS * MOST + 1), &mut out), Ragged);
-    assert_eq!(asking::unnumber(&unread(ROW_WORDS * (MOST + 1) + 1), &mut out), Ragged);
+    assert_eq!(asking::unnumber(&fives(ROW_WORDS * MOST + 1), &mut out), Ragged);
+    assert_eq!(asking::unnumber(&fives(ROW_WORDS * (MOST + 1) + 1), &mut out), Ragged);
     assert_eq!(asking::unnumber(&[], &mut out), Table);
     for (rows, answer) in [(MOST, Taken), (MOST + 1, Long)] {
         assert_eq!(asking::pick(&table(rows), TEXT, &mut vec![0; NODE_WORDS * (rows - 1)]), answer);
-        assert_eq!(asking::pick(&unread(ROW_WORDS * rows), 5, &mut vec![0; NODE_WORDS * rows]), answer);
+        assert_eq!(asking::pick(&fives(ROW_WORDS * rows), 5, &mut vec![0; NODE_WORDS * rows]), answer);
     }
     assert_eq!(asking::pick(&table(MOST), TEXT, &mut vec![0; NODE_WORDS * (MOST - 1) - 1]), Room);
-    assert_eq!(asking::pick(&unread(ROW_WORDS * (MOST + 1) + 1), 5, &mut out), Ragged);
+    assert_eq!(asking::pick(&fives(ROW_WORDS * (MOST + 1) + 1), 5, &mut out), Ragged);
 }
 
 /// The answers of a call with each room from none up to some words more than a result of this length needs: ROOM as long as it doesn't fit.
@@ -203,10 +198,9 @@ fn fits_from(needed: usize, call: impl Fn(usize) -> Answer) {
 
 #[test]
 fn rooms_of_results() {
-    let marks = [1, 2, 2, 3, TEXT, 0, 0, 3, 0, 0, 0];
-    let table = marks::number(5, &marks, usize::MAX).words;
-    fits_from(6 * ROW_WORDS, |room| asking::number(5, &marks, &mut vec![0; room]));
-    fits_from(marks.len(), |room| asking::unnumber(&table, &mut vec![0; room]));
+    let table = marks::number(5, &FIGURE, usize::MAX).words;
+    fits_from(6 * ROW_WORDS, |room| asking::number(5, &FIGURE, &mut vec![0; room]));
+    fits_from(FIGURE.len(), |room| asking::unnumber(&table, &mut vec![0; room]));
     fits_from(2 * NODE_WORDS, |room| asking::pick(&table, 2, &mut vec![0; room]));
     fits_from(0, |room| asking::pick(&table, 9, &mut vec![0; room]));
     let zones = words(&nest(7));
@@ -230,8 +224,7 @@ fn lists_of_a_book() {
     for (lists, answer) in [(0, Taken), (1, Taken), (MOST_LISTS, Taken), (MOST_LISTS + 1, Contents), (300, Contents)] {
         let book = book(lists);
         assert_eq!(asking::book_check(&bytes(&book)), answer);
-        let entries: Vec<u32> = book.iter().flat_map(|(tag, nodes)| [*tag, nodes.len() as u32]).collect();
-        let nodes: Vec<u32> = book.iter().flat_map(|(_, nodes)| words(nodes)).collect();
+        let (entries, nodes) = parts(&book);
         assert_eq!(asking::book_write(&entries, &nodes, &mut [0; 1_000]), answer);
     }
 }
@@ -262,8 +255,7 @@ fn nodes_of_a_book() {
     assert_eq!(raw::book_check(&book), raw::Book { answer: 0, list: 0, index: 0, lists: MOST_LISTS as u32 });
     let last = raw::Body { answer: 0, list: 0, index: 0, from: size - MOST * NODE_BYTES, bytes: MOST * NODE_BYTES };
     assert_eq!(raw::book_body(&book, MOST_LISTS as u32 - 1), last);
-    let entries: Vec<u32> = (0..MOST_LISTS as u32).flat_map(|tag| [tag, MOST as u32]).collect();
-    let nodes = words(&texts(MOST)).repeat(MOST_LISTS);
+    let (entries, nodes) = parts(&lists);
     let taken = raw::Written { count: size, ..refused(Taken) };
     hold(&"all", &mut vec![0; size], &book, taken, |out| raw::book_write(&entries, &nodes, out));
     hold(&"one byte less", &mut vec![0; size - 1], &[], refused(Room), |out| raw::book_write(&entries, &nodes, out));
@@ -295,17 +287,19 @@ fn counts_that_wrap() {
 
 #[test]
 fn greatest_and_least_numbers() {
+    let mut tally = Tally::default();
     let edges = [0, 1, 1 << 31, u32::MAX - 1, u32::MAX];
     let spans: Vec<[u32; 2]> = edges.iter().flat_map(|&start| edges.map(|end| [start, end])).collect();
     for (x, y) in spans.iter().flat_map(|x| spans.iter().map(move |y| (x, y))) {
         for documents in [[0, 0], [u32::MAX, u32::MAX], [0, u32::MAX], [1 << 31, 0]] {
             let outer = [documents[0], x[0], x[1], 1];
             let inner = [documents[1], y[0], y[1], 2];
-            asking::check(&[outer, inner].concat());
+            tally.count(asking::check(&[outer, inner].concat()));
             asking::links(&[outer, inner].concat(), &mut [0; 6]);
             for ticket in [FRESH, Ticket { relation: 1, order: 1, ..FRESH }] {
                 asking::list(&outer, &inner, ticket, &mut [0; 9]);
             }
         }
     }
+    tally.hold(&[Taken, Span, Order, Cross]);
 }

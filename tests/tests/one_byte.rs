@@ -11,12 +11,12 @@ const BOOK: &[u8] = include_bytes!("../../examples/figure.book");
 
 /// Asks for the book, for each tag that it has or had, and for some that it hasn't.
 fn ask(book: &[u8]) -> Answer {
-    let changed = check(book).entries;
-    for tag in changed.iter().map(|entry| entry.tag).chain([0, 1, 2, 3, 4, u32::MAX]) {
+    let entries = check(book).entries;
+    for tag in entries.iter().map(|entry| entry.tag).chain([0, 1, 2, 3, 4, u32::MAX]) {
         asking::book_body(book, tag);
     }
-    if !changed.is_empty() {
-        comes_back(book, &changed);
+    if !entries.is_empty() {
+        comes_back(book, &entries);
     }
     asking::book_check(book)
 }

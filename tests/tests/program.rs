@@ -1,6 +1,7 @@
 //! The printing program as a process, on a thousand books: its whole standard output and its exit status against the model's text.
 
 use outside::making::books::book;
+use outside::making::lists::{nest, texts};
 use outside::model::answers::Answer::{self, *};
 use outside::model::books::bytes;
 use outside::model::nodes::Node;
@@ -78,16 +79,6 @@ fn books_that_are_none_or_have_few_lists() {
     hold_random(21_000, 120, |pairs| pairs == Err(Absent));
 }
 
-/// So many zones of document 5, each inside the one before.
-fn nest(count: u32) -> Vec<Node> {
-    (0..count).map(|depth| Node { document: 5, start: depth, end: 100_000 - depth, level: 1 + depth }).collect()
-}
-
-/// So many texts of document 5, inside all those zones.
-fn texts(count: u32) -> Vec<Node> {
-    (0..count).map(|place| Node { document: 5, start: 1_000 + place, end: 1_000 + place, level: 64 }).collect()
-}
-
 #[test]
 fn the_books_of_the_examples() {
     let figure = (&include_bytes!("../../examples/figure.book")[..], include_str!("../../examples/figure.out"));
@@ -107,7 +98,7 @@ fn the_books_of_the_examples() {
 fn books_of_many_pages() {
     for (zones, samples) in [(1, 1_023), (32, 32), (41, 25), (2, 1_024), (63, 63), (60, 3_700)] {
         let book = bytes(&[(2, nest(zones)), (3, texts(samples))]);
-        assert_eq!(joined(&book).map(|pairs| pairs.len()), Ok((zones * samples) as usize));
+        assert_eq!(joined(&book).map(|pairs| pairs.len()), Ok(zones * samples));
         hold(&book);
     }
 }

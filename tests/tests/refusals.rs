@@ -1,7 +1,10 @@
-//! Every refusal, at every place where it can be drawn. What must be answered is known from how each case is put together, without the model.
+//! Every refusal, at every place where it can be drawn. What must be answered is known from how each case is put together.
 
 use belfrychest::raw::{self, Ticket};
 use outside::asking;
+use outside::making::books::parts;
+use outside::making::marks::FIGURE;
+use outside::making::tickets::FRESH;
 use outside::model::answers::Answer::{self, *};
 use outside::model::answers::{Verdict, ANCESTORS, DESCENDANTS};
 use outside::model::books::{bytes, contents_end, numbers, Tagged, MOST_LISTS, NUMBER_BYTES};
@@ -13,7 +16,7 @@ use outside::paint::hold;
 
 /// The nodes of the lists that get a fault at every index.
 const NODES: usize = 40;
-/// A length of output that no result of these cases would need, and that is no multiple of a pair or a link.
+/// The words of an output that stays as it was; no multiple of a pair's or a link's.
 const ROOM: usize = 29;
 
 /// A zone, and inside it, side by side, the other nodes, with space between them and between their levels.
@@ -76,9 +79,8 @@ fn refuses_two(ancestors: &[Node], descendants: &[Node], verdict: Verdict, part:
     let answer = answer as u32;
     assert_eq!(raw::check_two(&ancestors, &descendants), raw::Verdict { answer, list, index });
     assert_eq!(raw::faulty(&ancestors, &descendants), raw::Part { answer, list, index, from: part[0], words: part[1] });
-    let fresh = Ticket { relation: 0, order: 0, placed: 0, document: 0, first: 0, second: 0 };
     let odd = Ticket { relation: 7, order: u32::MAX, placed: 3, document: 5, first: 20, second: 10 };
-    for ticket in [fresh, odd, Ticket { order: 1, ..fresh }, Ticket { placed: 1, ..fresh }] {
+    for ticket in [FRESH, odd, Ticket { order: 1, ..FRESH }, Ticket { placed: 1, ..FRESH }] {
         let page = raw::Page { answer, list, index, done: 0, count: 0, ticket };
         hold(&verdict, &mut [0; ROOM], &[], page, |out| raw::list(&ancestors, &descendants, ticket, out));
     }
@@ -126,8 +128,7 @@ fn refuses_book(lists: &[Tagged], verdict: Verdict) {
     for tag in 0..=lists.len() as u32 {
         assert_eq!(raw::book_body(&book, tag), raw::Body { answer, list, index, from: 0, bytes: 0 });
     }
-    let entries: Vec<u32> = lists.iter().flat_map(|(tag, nodes)| [*tag, nodes.len() as u32]).collect();
-    let nodes: Vec<u32> = lists.iter().flat_map(|(_, nodes)| words(nodes)).collect();
+    let (entries, nodes) = parts(lists);
     let refused = raw::Written { answer, list, index, count: 0 };
     hold(&verdict, &mut vec![0; book.len()], &[], refused, |out| raw::book_write(&entries, &nodes, out));
 }
@@ -181,16 +182,15 @@ fn any_mark_too_deep() {
 
 #[test]
 fn any_word_of_a_table() {
-    let marks = [1, 2, 2, 3, TEXT, 0, 0, 3, 0, 0, 0];
     let mut table = [0; 6 * ROW_WORDS];
-    assert_eq!(asking::number(5, &marks, &mut table), Taken);
+    assert_eq!(asking::number(5, &FIGURE, &mut table), Taken);
     for place in 0..table.len() {
-        let is_tag = place % ROW_WORDS == NODE_WORDS;
         let was = table[place];
-        for word in [0, was.wrapping_sub(1), was + 1, was ^ 1 << 31, u32::MAX] {
+        let is_element_tag = place % ROW_WORDS == NODE_WORDS && was != TEXT;
+        for word in [0, was - 1, was + 1, was ^ 1 << 31, u32::MAX] {
             table[place] = word;
-            let answer = asking::unnumber(&table, &mut [0; ROOM]);
-            assert!(answer == Table || is_tag && (1..TEXT).contains(&word), "word {place} is {word}: {answer:?}");
+            let answer = if is_element_tag && (1..TEXT).contains(&word) { Taken } else { Table };
+            assert_eq!(asking::unnumber(&table, &mut [0; ROOM]), answer, "word {place} is {word}");
         }
         table[place] = was;
     }

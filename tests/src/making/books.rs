@@ -69,14 +69,20 @@ pub fn tag(random: &mut Random, book: &[u8]) -> u32 {
     random.mostly_of(&tags)
 }
 
+/// The entries and the nodes that a book of these lists is written from.
+pub fn parts(lists: &[Tagged]) -> (Vec<u32>, Vec<u32>) {
+    let entries = lists.iter().flat_map(|(tag, nodes)| [*tag, nodes.len() as u32]).collect();
+    let nodes: Vec<Node> = lists.iter().flat_map(|(_, nodes)| nodes).copied().collect();
+    (entries, words(&nodes))
+}
+
 /// Entries and nodes to write a book from, mostly sound.
 pub fn wanted(random: &mut Random) -> (Vec<u32>, Vec<u32>) {
     let lists = lists(random);
-    let mut entries: Vec<u32> = lists.iter().flat_map(|(tag, nodes)| [*tag, nodes.len() as u32]).collect();
-    let nodes: Vec<Node> = lists.into_iter().flat_map(|(_, nodes)| nodes).collect();
+    let (mut entries, nodes) = parts(&lists);
     if !entries.is_empty() && random.one_in(12) {
         let place = random.below(entries.len());
         entries[place] = random.other_than(entries[place]);
     }
-    (misfit(random, entries, WANTED_WORDS), misfit(random, words(&nodes), NODE_WORDS))
+    (misfit(random, entries, WANTED_WORDS), misfit(random, nodes, NODE_WORDS))
 }

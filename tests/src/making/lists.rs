@@ -106,6 +106,16 @@ pub fn any_family(random: &mut Random) -> Vec<Node> {
     }
 }
 
+/// So many zones of document 5, each inside the one before.
+pub fn nest(count: usize) -> Vec<Node> {
+    (0..count as u32).map(|depth| Node { document: 5, start: depth, end: 10_000 - depth, level: 1 + depth }).collect()
+}
+
+/// So many texts of document 5, side by side inside all those zones.
+pub fn texts(count: usize) -> Vec<Node> {
+    (100..100 + count as u32).map(|start| Node { document: 5, start, end: start, level: MOST_LEVEL }).collect()
+}
+
 /// Some of the nodes, in their order.
 pub fn some_of(random: &mut Random, nodes: &[Node]) -> Vec<Node> {
     nodes.iter().copied().filter(|_| random.below(8) < 5).collect()

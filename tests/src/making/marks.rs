@@ -4,15 +4,20 @@ use super::misfit;
 use crate::model::marks::{number, CLOSE, ROW_WORDS, TEXT};
 use crate::random::Random;
 
+/// The marks of document 01's figure.
+pub const FIGURE: [u32; 11] = [1, 2, 2, 3, TEXT, CLOSE, CLOSE, 3, CLOSE, CLOSE, CLOSE];
+
 /// Tags of elements, the least and the greatest among them.
 const TAGS: [u32; 4] = [1, 2, 3, TEXT - 1];
 
 /// Accepted marks, unless they go deeper than any may. Now and then they go just about that deep.
 fn sound(random: &mut Random) -> Vec<u32> {
     let chain = if random.one_in(80) { 60 + random.below(6) } else { 1 };
-    let mut marks = vec![random.pick(&TAGS); chain];
+    let within = random.below(12);
+    let mut marks = Vec::with_capacity(2 * (chain + within));
+    marks.resize(chain, random.pick(&TAGS));
     let mut open = chain;
-    for _ in 0..random.below(12) {
+    for _ in 0..within {
         match random.below(4) {
             0 if open > 1 => {
                 marks.push(CLOSE);

@@ -5,8 +5,11 @@ use crate::model::pages::{Key, Order, Pair};
 use crate::random::Random;
 use belfrychest::raw::Ticket;
 
+/// A ticket for all pairs that are inside, in descendant order.
+pub const FRESH: Ticket = Ticket { relation: 0, order: 0, placed: 0, document: 0, first: 0, second: 0 };
+
 /// One of the words that mean the first of two choices, or the second.
-pub fn choice(random: &mut Random, second: bool) -> u32 {
+fn choice(random: &mut Random, second: bool) -> u32 {
     if second {
         random.pick(&[1, 2, 1 << 31, u32::MAX])
     } else {

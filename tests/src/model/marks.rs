@@ -14,7 +14,8 @@ pub const ROW_WORDS: usize = NODE_WORDS + 1;
 
 /// How many elements are open before each mark, and behind the last.
 fn open_elements(marks: &[u32]) -> Vec<i64> {
-    let mut open = vec![0];
+    let mut open = Vec::with_capacity(marks.len() + 1);
+    open.push(0);
     for (place, &mark) in marks.iter().enumerate() {
         let opened = match mark {
             CLOSE => -1,
@@ -59,7 +60,11 @@ fn table(document: u32, marks: &[u32]) -> Vec<u32> {
         let end = if marks[place] == TEXT { place } else { close_of(place) };
         [document, place as u32 + 1, end as u32 + 1, open[place] as u32 + 1, marks[place]]
     };
-    (0..marks.len()).filter(|&place| marks[place] != CLOSE).map(row).collect::<Vec<_>>().concat()
+    let mut rows = Vec::with_capacity(ROW_WORDS * marks.len());
+    for place in (0..marks.len()).filter(|&place| marks[place] != CLOSE) {
+        rows.extend(row(place));
+    }
+    rows
 }
 
 pub fn number(document: u32, marks: &[u32], room: usize) -> Written<u32> {

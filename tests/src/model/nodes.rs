@@ -27,7 +27,11 @@ pub fn nodes(words: &[u32]) -> Vec<Node> {
 }
 
 pub fn words(nodes: &[Node]) -> Vec<u32> {
-    nodes.iter().map(Node::words).collect::<Vec<_>>().concat()
+    let mut words = Vec::with_capacity(NODE_WORDS * nodes.len());
+    for node in nodes {
+        words.extend(node.words());
+    }
+    words
 }
 
 /// Whether y is inside x.

@@ -44,8 +44,9 @@ impl Pair {
         }
     }
 
-    pub fn words(&self) -> Vec<u32> {
-        [self.ancestor.words(), self.descendant.words()].concat()
+    pub fn words(&self) -> [u32; PAIR_WORDS] {
+        let [[a, b, c, d], [e, f, g, h]] = [self.ancestor, self.descendant].map(|node| node.words());
+        [a, b, c, d, e, f, g, h]
     }
 }
 
