@@ -27,7 +27,7 @@ ghost use Rattle.lists.specs.Two.{checkTwo};
 ghost use Rattle.tickets.specs.Row.{matches};
 ghost use Rattle.pairs.specs.Sweep.{Running, served, servedAll};
 
-// How many descendants further on the search for the end of a run looks first. Most runs are short or much longer than this.
+// How many descendants further on the search for the end of a run looks.
 const STRIDE: usize = 8;
 
 // The first descendant from an index on that stands after the ancestor.
