@@ -11,7 +11,6 @@ use lib.Dec.{eqb}
 use borrow.Author.Tests.{eqb-true, eqb-false}
 use Rattle.nodes.specs.Choose.{All}
 use Rattle.nodes.proofs.Tests.{either, never}
-use Rattle.forest.specs.Climb.{Last}
 use Rattle.forest.specs.Links.{NONE, upTo, firstOf}
 
 -- a number is NONE or not
@@ -36,6 +35,11 @@ all-up P (suc n) f = all-next P (upTo n) n (all-up P n (λ j l. f j (omega arith
 pub record First (test : ℕ → Bool) (bound r : ℕ) : Type 0 where
   pub found : (r ≡ NONE → ⊥) → (r < bound) × (test r ≡ true)
   pub first : (j : ℕ) → j < bound → ((r ≡ NONE → ⊥) → j < r) → test j ≡ false
+
+-- r is the last of them, or NONE where none does
+pub record Last (test : ℕ → Bool) (bound r : ℕ) : Type 0 where
+  pub found : (r ≡ NONE → ⊥) → (r < bound) × (test r ≡ true)
+  pub last : (j : ℕ) → j < bound → ((r ≡ NONE → ⊥) → r < j) → test j ≡ false
 
 module _ (test : ℕ → Bool) where
   -- a search goes on behind a list only where it found nothing there

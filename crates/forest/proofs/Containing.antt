@@ -1,8 +1,9 @@
--- An accepted list ascends, and of two nodes of one document the later is inside the earlier or starts behind its end; so what contains a node
--- contains all that stand between the two. A list in which a node could stand between another and its container would fall here.
+-- An accepted list ascends, and of two nodes of one document the later is inside the earlier or
+-- starts after its end; so what contains a node contains all that stand between the two. A list in
+-- which a node could stand between another and its container would fall here.
 use mathlib.Core.Path.{_≡_}
 use mathlib.Core.Logic.{inl, inr, ⊎-elim}
-use mathlib.Core.Bool.{true}
+use mathlib.Core.Bool.{true, false}
 use mathlib.Core.List.{List}
 use Prim.Native.Nat.{ℕ, _≤_, _<_}
 use native.Mathlib.Nat.{eq-or-lt-of-le}
@@ -14,9 +15,9 @@ use Rattle.nodes.specs.declared.node.Node.{Node}
 use Rattle.nodes.specs.Answer.{TAKEN}
 use Rattle.nodes.specs.Choose.{All, Pairs}
 use Rattle.nodes.specs.Node.{insideb}
-use Rattle.nodes.specs.Words.{MOST-NODES, node, nodes}
+use Rattle.nodes.specs.Words.{MOST-NODES, node, nodes, nodeAt}
 use Rattle.nodes.proofs.NodeLaws.{within, inside-self, after-read, after-starts}
-use Rattle.nodes.proofs.Tests.{either, never}
+use Rattle.nodes.proofs.Tests.{either, never, not-so}
 use Rattle.nodes.proofs.WordLaws.{length-nodes}
 use Rattle.lists.specs.Check.{checkWords}
 use Rattle.lists.proofs.Faults.{Sound}
@@ -32,6 +33,11 @@ pub record AcceptedList (ns : List Node) : Type 0 where
 
 pub accepted-list : (ws : List ℕ) → checkWords ws .answer ≡ TAKEN → AcceptedList (nodes ws)
 accepted-list ws h = let t = words-taken-iff ws .0 h in record { short = omega (arith, length-nodes ws, t .1); sound = t .2; fine = t .3 }
+
+-- a node read out of the words is that node of the list
+pub node-in : (ws : List ℕ) (i : ℕ) (n : Node) → n ≡ nodeAt ws i → n ≡ nodeIn (nodes ws) i
+unfolding nodeAt nodeIn
+node-in ws i n q = q
 
 module _ (ns : List Node) (ok : AcceptedList ns) where
   sound-at : (i : ℕ) → i < length ns → Sound (nodeIn ns i)
@@ -49,6 +55,16 @@ module _ (ns : List Node) (ok : AcceptedList ns) where
         | inl q ↦ rw q (omega arith)
         | inr q ↦ ⊎-elim (λ p. omega arith) (λ p. omega arith) (after-read _ _ (fine-at e i q l .after))
       ]
+
+  -- of two nodes of one document the later is inside the earlier, unless that one ended before it
+  pub inside-unended : (e i : ℕ) → e < i → i < length ns → nodeIn ns e .document ≡ nodeIn ns i .document
+      → nodeIn ns i .start ≤ nodeIn ns e .end → insideb (nodeIn ns i) (nodeIn ns e) ≡ true
+  inside-unended e i k l d s =
+      ⊎-elim (λ q. absurd (omega arith)) (λ q. nested-read _ _ q .0)
+      (fine-settles (nodeIn ns i) (nodeIn ns e) (sound-at i l .span) (fine-at e i k l) d)
+
+  pub outside-ended : (e i : ℕ) → i < length ns → nodeIn ns e .end < nodeIn ns i .start → insideb (nodeIn ns i) (nodeIn ns e) ≡ false
+  outside-ended e i l s = not-so (λ h. let w = within _ _ h in omega (arith, sound-at i l .span, w .end))
 
   -- what contains a node stands before it
   pub contains-before : (i e : ℕ) → e < length ns → insideb (nodeIn ns i) (nodeIn ns e) ≡ true → e < i
@@ -71,5 +87,4 @@ module _ (ns : List Node) (ok : AcceptedList ns) where
       omega (arith, documents e j (omega arith) (omega arith), documents j i (omega arith) l) in
       let s = after-starts _ _ (fine-at j i m l .after) (omega arith) in
       let u = sound-at i l .span in
-      ⊎-elim (λ q. absurd (omega arith)) (λ q. nested-read _ _ q .0)
-      (fine-settles (nodeIn ns j) (nodeIn ns e) (sound-at j (omega arith) .span) (fine-at e j k (omega arith)) d)
+      inside-unended e j k (omega arith) d (omega arith)

@@ -1,7 +1,9 @@
--- Three words more are one node's links more, so a link of a node stands at three times its index and one store alters it alone.
--- A link stored one word off, or over another node's, would fall here.
+-- Three words more are one node's links more, so a link of a node stands at three times its index
+-- and one store alters it alone. A link stored one word off, or over another node's, would fall
+-- here.
 use mathlib.Core.Path.{_≡_, refl, sym, ap, _∙_}
 use mathlib.Core.Logic.{inl, inr}
+use mathlib.Core.Bool.{false}
 use mathlib.Core.List.{List, [], _∷_, _++_, map, flatMap, append-assoc}
 use Prim.Native.Nat.{ℕ, zero, suc, _+_, _*_, _/_, _<_}
 use native.Mathlib.Nat.{not-suc-le-zero, suc-add}
@@ -9,20 +11,17 @@ use native.Mathlib.Numerals.{add-one}
 use native.Mathlib.Omega.{arith}
 use lib.ListN.{length, getD, set, drop, length-append, List·getD-append}
 use lib.Seq.{sets, sets-eq, set-append-left, getD-append-add, getD-take, take-at, drop-append-add, drop-drop}
-use borrow.Author.Tests.{eq-eqb, ne-eqb}
 use Rattle.nodes.specs.declared.node.Node.{Node}
 use Rattle.nodes.specs.Words.{nodes, count}
 use Rattle.nodes.specs.Written.{wordsIn, written}
 use Rattle.nodes.proofs.WordLaws.{length-nodes}
-use Rattle.forest.specs.declared.climb.Kin.{Kin}
 use Rattle.forest.specs.declared.link.Link.{Link}
-use Rattle.forest.specs.Climb.{Kindred, Linking, link, childTo, nextTo, linkTo, linksTo, named}
+use Rattle.forest.specs.Climb.{Elder, Linking, link, childTo, nextTo, linkTo, linksTo}
 use Rattle.forest.specs.Linked.{linksIn}
-use Rattle.forest.specs.Links.{NONE, upTo, linkWords, indices, parentOf, childOf, nextOf, linkOf, linksOf}
-use Rattle.forest.proofs.Choosing.{none-or-not, last-or-below}
+use Rattle.forest.specs.Links.{NONE, upTo, linkWords, indices, parentOf, childOf, nextOf, siblingb, linkOf, linksOf}
+use Rattle.forest.proofs.Choosing.{last-or-below}
 use Rattle.forest.proofs.Containing.{AcceptedList}
 use Rattle.forest.proofs.Joining.{alone, elder-gets, elder-only, parent-only, parent-gets}
-use Rattle.forest.proofs.Parents.{parent-before}
 
 -- the words of the links of the first nodes
 abbrev words : (ℕ → Link) → ℕ → List ℕ
@@ -83,48 +82,61 @@ module _ (f g : ℕ → Link) where
             set-append-left (words f k) (linkWords (f k)) (3 * e + c) v (omega arith) ∙ λ t. rest t ++ linkWords (sym last t)
       ])
 
-module _ (ns : List Node) (ok : AcceptedList ns) (i : ℕ) (l : i < length ns) (kin : Kin) (k : Kindred ns i kin) where
-  -- naming a node by its kin is what it adds to the links of the nodes before
-  named-words : (tail : List ℕ) → named (words (linkTo ns i) i ++ tail) i kin ≡ words (linkTo ns (suc i)) i ++ tail
-  unfolding named linkTo linkWords
-  named-words tail =
-      let long = words-length (linkTo ns i) i in
-      elim (none-or-not (kin .elder)) [
-        | inr n ↦ let b = k .elder .found n .0 in
-            rw (ne-eqb (kin .elder) NONE n)
-            (set-append-left (words (linkTo ns i) i) tail (3 * kin .elder + 2) i (omega arith)
-            ∙ ap (λ ws. ws ++ tail) (words-set (linkTo ns i) (linkTo ns (suc i)) i (kin .elder) 2 i b (omega arith) (elder-only ns ok i l kin k n)
-            (sym (ap linkWords (elder-gets ns ok i l kin k n)))))
-        | inl n ↦ rw (eq-eqb (kin .elder) NONE n)
-            (elim (none-or-not (kin .parent)) [
-              | inl p ↦ rw (eq-eqb (kin .parent) NONE p)
-                  (ap (λ ws. ws ++ tail) (words-same (linkTo ns i) (linkTo ns (suc i)) i
-                  (λ j m. parent-only ns ok i l kin k n j m (λ q. omega (arith, ok .short)))))
-              | inr p ↦ let b = parent-before ns ok i l (λ q. p (k .parent ∙ q)) in
-                  rw (ne-eqb (kin .parent) NONE p)
-                  (set-append-left (words (linkTo ns i) i) tail (3 * kin .parent + 1) i (omega (arith, k .parent))
-                  ∙ ap (λ ws. ws ++ tail) (words-set (linkTo ns i) (linkTo ns (suc i)) i (kin .parent) 1 i (omega (arith, k .parent)) (omega arith)
-                  (parent-only ns ok i l kin k n) (sym (ap linkWords (parent-gets ns ok i l kin k n p)))))
-            ])
-      ]
+module _ (ns : List Node) (ok : AcceptedList ns) (i : ℕ) (l : i < length ns) (out : List ℕ) (m : i < length out / 3) (h : Linking ns i out) where
+  abbrev f : ℕ → Link
+  f = linkTo ns i
 
-  -- a node linked behind the nodes before, and named by its kin, makes the links of one node more
-  pub joined : (out : List ℕ) → i < length out / 3 → Linking ns i out
-      → named (sets out (3 * i) (linkWords (link (kin .parent) NONE NONE))) i kin ≡ written (linksTo ns (i + 1)) out
+  abbrev g : ℕ → Link
+  g = linkTo ns (suc i)
+
+  -- the words once the node's own links are written after those of the nodes before
+  abbrev own : List ℕ
+  own = sets out (3 * i) (linkWords (link (parentOf ns i) NONE NONE))
+
+  -- a change that turns the links of the nodes before into what they are with the node makes the
+  -- links of one node more
+  joined : (change : List ℕ → List ℕ) → ((tail : List ℕ) → change (words f i ++ tail) ≡ words g i ++ tail)
+      → change own ≡ written (linksTo ns (i + 1)) out
   unfolding linksTo written linkWords
-  joined out m h =
-      let f = linkTo ns i in
-      let g = linkTo ns (suc i) in
-      let vs = linkWords (link (kin .parent) NONE NONE) in
+  joined change turns =
+      let vs = linkWords (link (parentOf ns i) NONE NONE) in
       let tail = drop (3 * i + 3) out in
-      let own : vs ≡ linkWords (g i) = ap (λ p. linkWords (link p NONE NONE)) (k .parent) ∙ sym (ap linkWords (alone ns ok i l)) in
-      let put : sets out (3 * i) vs ≡ words f i ++ (vs ++ tail) =
+      let last : vs ≡ linkWords (g i) = sym (ap linkWords (alone ns ok i l)) in
+      let put : own ≡ words f i ++ (vs ++ tail) =
       sets-eq vs out (3 * i) (omega arith) ∙ ap (λ ws. ws ++ vs ++ tail) h ∙ append-assoc (words f i) vs tail in
       let all : words g i ++ (vs ++ tail) ≡ words g (suc i) ++ tail =
-      sym (append-assoc (words g i) vs tail) ∙ ap (λ ws. words g i ++ ws ++ tail) own ∙ ap (λ ws. ws ++ tail) (sym (words-next g i)) in
+      sym (append-assoc (words g i) vs tail) ∙ ap (λ ws. words g i ++ ws ++ tail) last ∙ ap (λ ws. ws ++ tail) (sym (words-next g i)) in
       let long : 3 * i + 3 ≡ length (words g (suc i)) = omega (arith, words-length g (suc i)) in
       rw (add-one i)
-      (ap (λ ws. named ws i kin) put ∙ named-words (vs ++ tail) ∙ all ∙ ap (λ n. words g (suc i) ++ drop n out) long)
+      (ap change put ∙ turns (vs ++ tail) ∙ all ∙ ap (λ n. words g (suc i) ++ drop n out) long)
+
+  -- one store into the links of a node before
+  stored : (e c : ℕ) → e < i → c < 3 → ((j : ℕ) → j < i → (j ≡ e → ⊥) → g j ≡ f j) → set (linkWords (f e)) c i ≡ linkWords (g e)
+      → set own (3 * e + c) i ≡ written (linksTo ns (i + 1)) out
+  stored e c b t only gets =
+      joined (λ ws. set ws (3 * e + c) i) (λ tail.
+      set-append-left (words f i) tail (3 * e + c) i (omega (arith, words-length f i))
+      ∙ ap (λ ws. ws ++ tail) (words-set f g i e c i b t only gets))
+
+  -- a node with an elder becomes its next one
+  pub joined-next : (e : ℕ) → Elder ns i e → set own (3 * e + 2) i ≡ written (linksTo ns (i + 1)) out
+  unfolding linkTo linkWords
+  joined-next e k =
+      stored e 2 (k .before) (omega arith) (elder-only ns ok i l e k) (sym (ap linkWords (elder-gets ns ok i l e k)))
+
+  module _ (none : (j : ℕ) → j < i → siblingb ns i j ≡ false) where
+    -- one without becomes the first child of its parent
+    pub joined-child : (p : ℕ) → parentOf ns i ≡ p → p < i → set own (3 * p + 1) i ≡ written (linksTo ns (i + 1)) out
+    unfolding linkTo linkWords
+    joined-child p q b =
+        stored p 1 b (omega arith) (λ j c d. parent-only ns ok i l none j c (λ z. d (z ∙ q)))
+        (sym (ap linkWords (parent-gets ns ok i l none p q b)))
+
+    -- and where it has no parent either, nothing else changes
+    pub joined-alone : parentOf ns i ≡ NONE → own ≡ written (linksTo ns (i + 1)) out
+    joined-alone q =
+        joined (λ ws. ws) (λ tail. ap (λ ws. ws ++ tail) (words-same f g i
+        (λ j b. parent-only ns ok i l none j b (λ z. omega (arith, ok .short)))))
 
 -- the links of the first nodes, as they are written in an output
 module _ (ns : List Node) where

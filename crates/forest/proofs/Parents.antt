@@ -15,9 +15,8 @@ use Rattle.nodes.specs.Words.{node}
 use Rattle.nodes.proofs.Choices.{any-none, none-any, all-at, at-all}
 use Rattle.nodes.proofs.NodeLaws.{within}
 use Rattle.nodes.proofs.Tests.{never, not-so, and-read, and-make, not-read}
-use Rattle.forest.specs.Climb.{Last}
 use Rattle.forest.specs.Links.{NONE, nodeIn, indices, innermostb, parentOf, siblingb}
-use Rattle.forest.proofs.Choosing.{none-or-not, first-is, last-of}
+use Rattle.forest.proofs.Choosing.{Last, none-or-not, first-is, last-of}
 use Rattle.forest.proofs.Containing.{AcceptedList, contains-before, contains-between}
 
 -- node j contains node i

@@ -1,16 +1,15 @@
--- Words of the contracts of private functions: the links of a list as far as its first nodes tell them, and what one more node adds to them.
--- No public contract cites this file.
-use Prim.Native.Nat.{ℕ, _+_, _*_, _<_}
+-- Words of the contracts of private functions: the links of a list as far as its first nodes tell
+-- them, and how a node stands to the nodes before it. No public contract cites this file.
+use Prim.Native.Nat.{ℕ, _*_, _-_, _<_}
 use mathlib.Core.Path.{_≡_}
-use mathlib.Core.Bool.{Bool, true, false, cond, _&&_}
+use mathlib.Core.Bool.{Bool, true, false, cond, not, _&&_}
 use mathlib.Core.List.{List, map}
 use lib.Dec.{ltb, eqb}
-use lib.ListN.{set, take}
+use lib.ListN.{take}
 use Rattle.nodes.specs.declared.node.Node.{Node}
 use Rattle.nodes.specs.Written.{wordsIn}
-use Rattle.forest.specs.declared.climb.Kin.{Kin}
 use Rattle.forest.specs.declared.link.Link.{Link}
-use Rattle.forest.specs.Links.{NONE, LINK-WORDS, upTo, firstOf, nodeIn, parentOf, siblingb, linkWords}
+use Rattle.forest.specs.Links.{LINK-WORDS, upTo, firstOf, nodeIn, parentOf, siblingb, linkWords}
 
 abbrev pub link : ℕ → ℕ → ℕ → Link
 link parent child next = record { parent = parent; child = child; next = next }
@@ -34,24 +33,19 @@ module _ (ns : List Node) (count : ℕ) where
   abbrev pub Linking : List ℕ → Type 0
   Linking words = take (LINK-WORDS * count) words ≡ linksTo
 
--- r is the last of the numbers below another that passes a test, or NONE where none does
-pub record Last (test : ℕ → Bool) (bound r : ℕ) : Type 0 where
-  pub found : (r ≡ NONE → ⊥) → (r < bound) × (test r ≡ true)
-  pub last : (j : ℕ) → j < bound → ((r ≡ NONE → ⊥) → r < j) → test j ≡ false
+-- node i is the first one of its document: no node stands before it, or the one before is of
+-- another
+unfoldable pub firstb : List Node → ℕ → Bool
+firstb ns i = cond (eqb i 0) true (not (eqb (nodeIn ns (i - 1) .document) (nodeIn ns i .document)))
 
--- a node's kin: its parent, and its elder, the last node before it with the same parent in the same document
-pub record Kindred (ns : List Node) (i : ℕ) (kin : Kin) : Type 0 where
-  pub parent : kin .parent ≡ parentOf ns i
-  pub elder : Last (siblingb ns i) i (kin .elder)
+-- the node before node i is of its document and ended before it starts
+pub record Ended (ns : List Node) (i : ℕ) : Type 0 where
+  pub later : 0 < i
+  pub document : nodeIn ns (i - 1) .document ≡ nodeIn ns i .document
+  pub ended : nodeIn ns (i - 1) .end < nodeIn ns i .start
 
--- the last node passed on the way up to a node's parent, where there was one and it is of the node's document
-unfoldable pub elderOf : List Node → ℕ → ℕ → ℕ
-elderOf ns passed i =
-    cond (eqb passed NONE) NONE (cond (eqb (nodeIn ns passed .document) (nodeIn ns i .document)) passed NONE)
-
--- the words with a node as the next of its elder, or else as the first child of its parent
-unfoldable pub named : List ℕ → ℕ → Kin → List ℕ
-named words i kin =
-    cond (eqb (kin .elder) NONE)
-    (cond (eqb (kin .parent) NONE) words (set words (LINK-WORDS * kin .parent + 1) i))
-    (set words (LINK-WORDS * kin .elder + 2) i)
+-- e is node i's elder: the last node before it with the same parent in the same document
+pub record Elder (ns : List Node) (i e : ℕ) : Type 0 where
+  pub before : e < i
+  pub sibling : siblingb ns i e ≡ true
+  pub last : (j : ℕ) → e < j → j < i → siblingb ns i j ≡ false

@@ -1,61 +1,55 @@
-// Finding a node's parent without a stack. What contains a node contains the node before it too, or is that node; so the way up from there,
-// along the parents already written, meets every node that contains it, the innermost first.
+// Finding a node's elder without a stack. What contains a node contains the node before it too, or
+// is that node; so the way up from there, along the parents already written, meets every node that
+// contains it, the innermost first. All nodes on the way are of one document, so that is tested
+// once, at the node before; after that a node on the way contains the given one unless it ended
+// before it.
 use crate::link::NONE;
 use crate::link::parent_at;
-use nodes::node::is_inside;
+use nodes::node::NODE_WORDS;
 use nodes::node::node_at;
 ghost use mathlib.Core.Path.{_≡_};
 ghost use Prim.Native.Nat.{_/_, _≤_, _<_};
 ghost use lib.ListN.{length};
 ghost use Rattle.nodes.specs.Answer.{TAKEN};
-ghost use Rattle.nodes.specs.Words.{nodes, count};
+ghost use Rattle.nodes.specs.Words.{nodes, nodeAt, count};
 ghost use Rattle.lists.specs.Check.{checkWords};
-ghost use Rattle.forest.specs.Climb.{Linking, Kindred, elderOf};
+ghost use Rattle.forest.specs.Climb.{Linking, Ended, Elder, firstb};
 ghost use Rattle.forest.specs.Links.{LINK-WORDS};
 
-// A node's parent, and its elder: the last node before it with the same parent in the same document. Either may be NONE.
-pub(crate) struct Kin {
-    pub parent: u32,
-    pub elder: u32,
-}
-
-// The elder of a node: the last node that was passed on the way up, where there was one and it is of the node's document.
-fn elder_of(list: &[u32], passed: u32, index: usize) -> u32
-    ensures { λ r. ⌜ r ≡ elderOf (nodes (now (list .entry))) passed index ⌝ }
+// Whether the node at an index is the first one of its document in an accepted list.
+pub(crate) fn is_first(list: &[u32], index: usize) -> bool
+    ensures { λ r. ⌜ r ≡ firstb (nodes (now (list .entry))) index ⌝ }
 {
-    if passed == NONE {
-        return NONE;
+    if index == 0 {
+        return true;
     }
-    if node_at(list, passed as usize).document != node_at(list, index).document {
-        return NONE;
-    }
-    passed
+    node_at(list, index - 1).document != node_at(list, index).document
 }
 
-// The kin of the node at an index of an accepted list, where the links of all nodes before it are written.
-pub(crate) fn kin_of(list: &[u32], links: &[u32], index: usize) -> Kin
+// Returns the end of the node at an index.
+fn end_at(list: &[u32], index: usize) -> u32
+    requires { ⌜ index < count (now list) ⌝ }
+    ensures { λ r. ⌜ r ≡ nodeAt (now (list .entry)) index .end ⌝ }
+{
+    list[NODE_WORDS * index + 2]
+}
+
+// Returns the index of a node's elder, the last node before it with the same parent in the same
+// document. The node before has ended, and the links of all nodes before are written.
+pub(crate) fn elder_of(list: &[u32], links: &[u32], index: usize) -> usize
     requires { ⌜ (checkWords (now list) .answer ≡ TAKEN) × (index < count (now list)) × (index ≤ length (now links) / LINK-WORDS)
-        × Linking (nodes (now list)) index (now links) ⌝ }
-    ensures { λ r. ⌜ Kindred (nodes (now (list .entry))) index r ⌝ }
+        × Linking (nodes (now list)) index (now links) × Ended (nodes (now list)) index ⌝ }
+    ensures { λ r. ⌜ Elder (nodes (now (list .entry))) index r ⌝ }
 {
-    let node = node_at(list, index);
-    let mut passed = NONE;
-    let mut parent = NONE;
-    if 0 < index {
-        parent = index as u32 - 1;
-    }
+    let start = node_at(list, index).start;
+    let mut elder = index - 1;
+    let mut parent = parent_at(links, elder);
     while parent != NONE {
-        if is_inside(node, node_at(list, parent as usize)) {
-            return Kin {
-                parent: parent,
-                elder: elder_of(list, passed, index),
-            };
+        if start <= end_at(list, parent as usize) {
+            return elder;
         }
-        passed = parent;
-        parent = parent_at(links, parent as usize);
+        elder = parent as usize;
+        parent = parent_at(links, elder);
     }
-    Kin {
-        parent: NONE,
-        elder: elder_of(list, passed, index),
-    }
+    elder
 }

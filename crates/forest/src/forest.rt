@@ -1,9 +1,10 @@
 // The links of one list.
-use crate::climb::Kin;
-use crate::climb::kin_of;
+use crate::climb::elder_of;
+use crate::climb::is_first;
 use crate::link::LINK_WORDS;
 use crate::link::Link;
 use crate::link::NONE;
+use crate::link::parent_at;
 use crate::link::put_child;
 use crate::link::put_link;
 use crate::link::put_next;
@@ -12,60 +13,70 @@ use lists::verdict::ANCESTORS;
 use lists::verdict::Verdict;
 use nodes::answer::ROOM;
 use nodes::answer::TAKEN;
+use nodes::node::node_at;
 use nodes::node::node_count;
 ghost use mathlib.Core.Path.{_≡_};
-ghost use Prim.Native.Nat.{_+_, _/_, _≤_, _<_};
+ghost use Prim.Native.Nat.{_+_, _*_, _/_, _≤_, _<_};
 ghost use lib.ListN.{length};
+ghost use lib.Seq.{sets};
 ghost use Rattle.nodes.specs.Answer.{TAKEN};
 ghost use Rattle.nodes.specs.Words.{nodes, count};
 ghost use Rattle.nodes.specs.Written.{written};
 ghost use Rattle.lists.specs.Check.{checkWords};
-ghost use Rattle.forest.specs.Climb.{Linking, linksTo, named};
+ghost use Rattle.forest.specs.Climb.{Linking, link, linksTo};
 ghost use Rattle.forest.specs.Linked.{linksIn, linkedOf, linksOutput};
-ghost use Rattle.forest.specs.Links.{NONE, LINK-WORDS};
+ghost use Rattle.forest.specs.Links.{NONE, LINK-WORDS, linkWords};
 
-// What the call answers: the list's verdict or ROOM, and how many nodes got their links, 0 on refusal.
+// What the call answers: the list's verdict or ROOM, and how many nodes got their links, 0 on
+// refusal.
 pub struct Linked {
     pub verdict: Verdict,
     pub count: usize,
 }
 
-// A node is named by its kin: it becomes the next of its elder, or else the first child of its parent.
-fn name_node(out: &mut [u32], index: usize, kin: Kin)
-    requires { ⌜ ((kin .elder ≡ NONE → ⊥) → kin .elder < length (now out) / LINK-WORDS)
-        × ((kin .parent ≡ NONE → ⊥) → kin .parent < length (now out) / LINK-WORDS) × (index < NONE) ⌝ }
-    ensures { λ r. ⌜ now (out .exit) ≡ named (now (out .entry)) index kin ⌝ }
+// Writes the links of a node that has a given parent, or NONE, and neither child nor next sibling
+// yet.
+fn put_leaf(out: &mut [u32], index: usize, parent: u32)
+    requires { ⌜ index < length (now out) / LINK-WORDS ⌝ }
+    ensures { λ r. ⌜ now (out .exit) ≡ sets (now (out .entry)) (LINK-WORDS * index) (linkWords (link parent NONE NONE)) ⌝ }
 {
-    if kin.elder != NONE {
-        put_next(out, kin.elder as usize, index as u32);
-        return;
-    }
-    if kin.parent != NONE {
-        put_child(out, kin.parent as usize, index as u32);
-    }
+    put_link(
+        out,
+        index,
+        Link {
+            parent: parent,
+            child: NONE,
+            next: NONE,
+        },
+    );
 }
 
-// The next node is linked: its own links are written, and it is named by its kin.
+// Links the next node. The first one of a document has neither a parent nor an elder, its last
+// sibling before it. Any other is the first child of the node before, if that one hasn't ended, and
+// else the next sibling of its elder.
 fn link_node(list: &[u32], out: &mut [u32], index: usize)
     requires { ⌜ (checkWords (now list) .answer ≡ TAKEN) × (index < count (now list)) × (count (now list) ≤ length (now out) / LINK-WORDS)
         × Linking (nodes (now list)) index (now out) ⌝ }
     ensures { λ r. ⌜ now (out .exit) ≡ written (linksTo (nodes (now (list .entry))) (index + 1)) (now (out .entry)) ⌝ }
 {
-    let kin = kin_of(list, out, index);
-    put_link(
-        out,
-        index,
-        Link {
-            parent: kin.parent,
-            child: NONE,
-            next: NONE,
-        },
-    );
-    name_node(out, index, kin);
+    if is_first(list, index) {
+        put_leaf(out, index, NONE);
+        return;
+    }
+    let before = index - 1;
+    if node_at(list, index).start <= node_at(list, before).end {
+        put_leaf(out, index, before as u32);
+        put_child(out, before, index as u32);
+        return;
+    }
+    let elder = elder_of(list, out, index);
+    let parent = parent_at(out, elder);
+    put_leaf(out, index, parent);
+    put_next(out, elder, index as u32);
 }
 
-// The links of an accepted list's nodes are written one after the other. A node's parent and elder come before it, so each turn leaves the
-// links as far as the nodes passed tell them.
+// The links of an accepted list's nodes are written one after the other. A node's parent and elder
+// come before it, so each turn leaves the links as far as the nodes passed tell them.
 fn link_all(list: &[u32], out: &mut [u32])
     requires { ⌜ (checkWords (now list) .answer ≡ TAKEN) × (count (now list) ≤ length (now out) / LINK-WORDS) ⌝ }
     ensures { λ r. ⌜ now (out .exit) ≡ written (linksIn (now (list .entry))) (now (out .entry)) ⌝ }
@@ -77,8 +88,8 @@ fn link_all(list: &[u32], out: &mut [u32])
     }
 }
 
-// The caller gets the links of the list's nodes in the output, three words a node in list order, and the number of nodes; or the list's
-// refusal or ROOM, and an output as it was.
+// The caller gets the links of the list's nodes in the output, three words a node in list order,
+// and the number of nodes; or the list's refusal or ROOM, and an output as it was.
 pub fn link_list(list: &[u32], out: &mut [u32]) -> Linked
     ensures { λ r. ⌜ (r ≡ linkedOf (now (list .entry)) (now (out .entry)))
         × (now (out .exit) ≡ linksOutput (now (list .entry)) (now (out .entry))) ⌝ }
