@@ -94,7 +94,8 @@ fn the_books_of_the_examples() {
     hold(b"");
 }
 
-/// A page has 8,192 pairs. The books have a page less two pairs, one page, one pair more, two pages, one pair more, and 28 pages.
+/// A page has 8,192 pairs. The books have two pairs fewer, one page, one pair more, two pages, one
+/// pair more, and 28 pages.
 #[test]
 fn books_of_many_pages() {
     for (zones, samples) in [(63, 130), (32, 256), (3, 2_731), (32, 512), (5, 3_277), (60, 3_700)] {

@@ -1,7 +1,7 @@
--- `Only` says that no second answer satisfies a public contract. Laws for the code: `Putting` is what
--- texts put one after the other make, `Digits` what a number's digits are and how many, `TwoDigits`
--- what a table of two digits has, `Blanks` what a word is without its blanks, `Fields` how long the
--- lines are, `PairLines` which pairs they are of.
+-- `Only` says that no second answer satisfies a public contract. Laws for the code: `Putting` is
+-- what texts put one after the other make, `Digits` what a number's digits are and how many,
+-- `TwoDigits` what a table of two digits has, `Blanks` what a word is without its blanks, `Fields`
+-- how long the lines are, `PairLines` which pairs they are of.
 pub mod Blanks
 pub mod Digits
 pub mod Fields

@@ -1,5 +1,6 @@
--- The digits counted and those of what is left are together as many as the number's, and a hundredth
--- has two digits fewer. A digit counted twice falls at the next turn, one not counted at the return.
+-- The digits counted and those of what is left are together as many as the number's, and a
+-- hundredth has two digits fewer. A digit counted twice falls at the next turn, one not counted at
+-- the return.
 use borrow.Author.Needs.{needs}
 use mathlib.Core.Path.{_≡_}
 use Prim.Native.Nat.{_+_, _≤_}
