@@ -1,39 +1,20 @@
--- A number's digits are those of its tenth and then its last one, and a number below a power of ten has no more digits than the power has zeros.
--- A digit left out, or one of another number, falls here.
-use mathlib.Core.Path.{_≡_, refl}
+-- A number of three digits or more has those of its hundredth and then two more, and a number below
+-- a power of ten has no more digits than the power has zeros. A digit left out, or one of another
+-- number, falls here.
+use mathlib.Core.Path.{_≡_, refl, sym, ap, _∙_}
 use mathlib.Core.Logic.{inl, inr}
-use mathlib.Core.Bool.{cond}
-use mathlib.Core.List.{List, [], _∷_, _++_}
+use mathlib.Core.List.{[], _∷_, _++_, append-assoc}
 use Prim.Native.Nat.{ℕ, zero, suc, _+_, _*_, _/_, _%_, _≤_, _<_, zero-le}
 use native.Mathlib.Omega.{arith}
 use lib.Dec.{ltb}
 use lib.ListN.{length, length-append}
-use borrow.Author.Tests.{lt-ltb, le-ltb, ltb-true, ltb-false}
+use borrow.Author.Tests.{lt-ltb, le-ltb, ltb-false}
 use Rattle.nodes.proofs.Tests.{either}
 use Rattle.lines.specs.Line.{MOST-DIGITS, digitsTo, decimal}
-
--- the digits before a number's last one: a number below ten has none, and any other those of its tenth
-unfoldable pub earlier : ℕ → ℕ → List ℕ
-earlier most n = cond (ltb n 10) [] (digitsTo most (n / 10))
-
-pub earlier-none : (most n : ℕ) → n < 10 → earlier most n ≡ []
-unfolding earlier
-earlier-none most n h = rw (lt-ltb n 10 h)
-
-pub earlier-some : (most n : ℕ) → 10 ≤ n → earlier most n ≡ digitsTo most (n / 10)
-unfolding earlier
-earlier-some most n h = rw (le-ltb n 10 h)
-
-pub last-digit : (most n : ℕ) → digitsTo (suc most) n ≡ earlier most n ++ (48 + n % 10) ∷ []
-unfolding digitsTo earlier
-last-digit most n =
-    elim (either (ltb n 10)) [
-      | inl h ↦ let l = ltb-true n 10 h in let e : n % 10 ≡ n = omega arith in rw (h, e) refl
-      | inr h ↦ rw h refl
-    ]
+use Rattle.lines.specs.Table.{twoDigits}
 
 -- the powers of ten
-unfoldable pub tens : ℕ → ℕ
+unfoldable tens : ℕ → ℕ
 tens zero = 1
 tens (suc k) = 10 * tens k
 
@@ -50,6 +31,61 @@ few-digits (suc most) n (suc (suc k)) h p =
           let e = length-append (digitsTo most (n / 10)) ((48 + n % 10) ∷ []) in
           rw t (omega arith)
     ]
+
+-- the digits are the same however many there might be, once that is enough
+digits-more : (most n : ℕ) → n < tens most → 1 ≤ most → digitsTo (suc most) n ≡ digitsTo most n
+unfolding digitsTo tens
+digits-more zero n h p = absurd (omega arith)
+digits-more (suc zero) n h p = rw (lt-ltb n 10 h) refl
+digits-more (suc (suc most)) n h p =
+    elim (either (ltb n 10)) [
+      | inl t ↦ rw t refl
+      | inr t ↦ rw t (ap (λ ds. ds ++ (48 + n % 10) ∷ []) (digits-more (suc most) (n / 10) (omega arith) (omega arith)))
+    ]
+
+-- a number of one digit, one of two, and one of more
+pub decimal-one : (n : ℕ) → n < 10 → decimal n ≡ (48 + n) ∷ []
+unfolding decimal digitsTo
+decimal-one n h = rw (lt-ltb n 10 h) refl
+
+pub decimal-two : (n : ℕ) → 10 ≤ n → n < 100 → decimal n ≡ twoDigits n
+unfolding decimal digitsTo twoDigits
+decimal-two n h l = rw (le-ltb n 10 h, lt-ltb (n / 10) 10 (omega arith)) refl
+
+two-last : (n k : ℕ) → n / 10 ≡ k → (48 + k % 10) ∷ (48 + n % 10) ∷ [] ≡ twoDigits (n % 100)
+unfolding twoDigits
+two-last n k e =
+    let a : k % 10 ≡ n % 100 / 10 = omega arith in
+    let b : n % 10 ≡ n % 100 % 10 = omega arith in
+    rw (a, b) refl
+
+digits-two : (most n : ℕ) → 100 ≤ n → digitsTo (suc (suc most)) n ≡ digitsTo most (n / 100) ++ twoDigits (n % 100)
+unfolding digitsTo
+digits-two most n h =
+    let tenth = n / 10 in
+    let hundredth : tenth / 10 ≡ n / 100 = omega arith in
+    rw (le-ltb n 10 (omega arith), le-ltb tenth 10 (omega arith))
+    (append-assoc (digitsTo most (tenth / 10)) ((48 + tenth % 10) ∷ []) ((48 + n % 10) ∷ [])
+    ∙ λ i. digitsTo most (hundredth i) ++ two-last n tenth refl i)
+
+pub decimal-more : (n : ℕ) → 100 ≤ n → n < 18446744073709551616 → decimal n ≡ decimal (n / 100) ++ twoDigits (n % 100)
+unfolding decimal tens
+decimal-more n h l =
+    let m = n / 100 in
+    let more = digits-more 19 m (omega arith) (omega arith) ∙ digits-more 18 m (omega arith) (omega arith) in
+    digits-two 18 n h ∙ ap (λ ds. ds ++ twoDigits (n % 100)) (sym more)
+
+-- and how many they are
+pub length-one : (n : ℕ) → n < 10 → length (decimal n) ≡ 1
+length-one n h = ap length (decimal-one n h)
+
+pub length-two : (n : ℕ) → 10 ≤ n → n < 100 → length (decimal n) ≡ 2
+unfolding twoDigits
+length-two n h l = ap length (decimal-two n h l)
+
+pub length-more : (n : ℕ) → 100 ≤ n → n < 18446744073709551616 → length (decimal n) ≡ length (decimal (n / 100)) + 2
+unfolding twoDigits
+length-more n h l = ap length (decimal-more n h l) ∙ length-append (decimal (n / 100)) (twoDigits (n % 100))
 
 -- a 32-bit number has at most ten digits, and a 64-bit one at most twenty
 pub digits-32 : (n : ℕ) → n < 4294967296 → length (decimal n) ≤ 10

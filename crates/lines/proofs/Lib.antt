@@ -1,9 +1,11 @@
--- `Only` says that no second answer satisfies a public contract. Laws for the code: `Putting` is what texts put one behind the other make, `Digits`
--- what a number's digits are and how many, `Blanks` what a word is without its blanks, `Fields` how long the lines are, `PairLines` which pairs
--- they are of.
+-- `Only` says that no second answer satisfies a public contract. Laws for the code: `Putting` is
+-- what texts put one after the other make, `Digits` what a number's digits are and how many,
+-- `TwoDigits` what a table of two digits has, `Blanks` what a word is without its blanks, `Fields`
+-- how long the lines are, `PairLines` which pairs they are of.
 pub mod Blanks
 pub mod Digits
 pub mod Fields
 pub mod Only
 pub mod PairLines
 pub mod Putting
+pub mod TwoDigits

@@ -2,10 +2,10 @@
 -- A piece put one place off, or over the one before it, falls here.
 use mathlib.Core.Path.{_≡_, refl, ap, subst, _∙_}
 use mathlib.Core.List.{List, [], _∷_, _++_}
-use Prim.Native.Nat.{ℕ, _+_, _≤_}
+use Prim.Native.Nat.{ℕ, suc, _+_, _≤_}
 use native.Mathlib.Omega.{arith}
-use lib.ListN.{length, length-append}
-use lib.Seq.{sets, append-snoc}
+use lib.ListN.{length, set, length-append}
+use lib.Seq.{sets, set-comm, append-snoc}
 use Rattle.nodes.specs.Written.{written}
 use Rattle.nodes.proofs.Writing.{sets-more, sets-written}
 
@@ -35,6 +35,23 @@ put-next {before} {at} {us} p vs e = record {
 pub put-parted : {before : List ℕ} {at : ℕ} {after : List ℕ} {to : ℕ} (us : List ℕ) (a : ℕ) → Put before at (us ++ a ∷ []) after to
     → (vs : List ℕ) {after′ : List ℕ} {to′ : ℕ} → (to′ ≡ to + length vs) × (after′ ≡ sets after to vs) → Put before at (us ++ a ∷ vs) after′ to′
 put-parted {before} {at} us a p vs {after′} {to′} e = subst (λ ws. Put before at ws after′ to′) (append-snoc us a vs) (put-next p vs e)
+
+-- a text put before another, or after it
+set-apart : (ws : List ℕ) (at : ℕ) (us : List ℕ) (next v : ℕ) → at + length us ≤ next → sets (set ws next v) at us ≡ set (sets ws at us) next v
+set-apart ws at [] next v h = refl
+set-apart ws at (u ∷ us) next v h =
+    ap (λ ds. sets ds (suc at) us) (set-comm ws next at v u (λ e. absurd (omega arith))) ∙ set-apart (set ws at u) (suc at) us next v (omega arith)
+
+sets-apart : (ws : List ℕ) (at : ℕ) (us : List ℕ) (next : ℕ) (vs : List ℕ) → at + length us ≤ next
+    → sets (sets ws next vs) at us ≡ sets (sets ws at us) next vs
+sets-apart ws at us next [] h = refl
+sets-apart ws at us next (v ∷ vs) h =
+    sets-apart (set ws next v) at us (suc next) vs (omega arith) ∙ ap (λ ds. sets ds (suc next) vs) (set-apart ws at us next v h)
+
+-- the last part of a text may be put first
+pub sets-last-first : (ws : List ℕ) (at : ℕ) (us : List ℕ) (next : ℕ) (vs : List ℕ) → next ≡ at + length us
+    → sets (sets ws next vs) at us ≡ sets ws at (us ++ vs)
+sets-last-first ws at us next vs e = sets-apart ws at us next vs (omega arith) ∙ sets-more us vs ws at next e
 
 -- a text put at the beginning is what is written there
 pub put-written : (before us : List ℕ) {after : List ℕ} {to : ℕ} → to ≤ length before → Put before 0 us after to

@@ -1,4 +1,6 @@
 // The lines themselves.
+use crate::text::TABLE_BYTES;
+use crate::text::TWO_DIGITS;
 use crate::text::put_byte;
 use crate::text::put_bytes;
 use crate::text::put_field;
@@ -13,6 +15,7 @@ ghost use lib.ListN.{length};
 ghost use lib.Seq.{sets};
 ghost use Rattle.nodes.specs.Written.{written};
 ghost use Rattle.lines.specs.Line.{LINE-BYTES, pairLine, pairOf, linesFor, totalLine, refusalLine};
+ghost use Rattle.lines.specs.Table.{Tabled};
 
 // The most bytes of a pair's line.
 pub const LINE_BYTES: usize = 33;
@@ -20,23 +23,31 @@ pub const LINE_BYTES: usize = 33;
 // The bytes of a buffer for one of the two other lines.
 pub const NOTE_BYTES: usize = 32;
 
-// The line of a pair is put at a place.
-fn put_line(text: &mut [u8], at: usize, ancestor: Node, descendant: Node) -> usize
-    requires { ⌜ at + LINE-BYTES ≤ length (now text) ⌝ }
+// Puts the line of a pair at a place and returns the place after it.
+fn put_line(
+    text: &mut [u8],
+    at: usize,
+    ancestor: Node,
+    descendant: Node,
+    table: &[u8; TABLE_BYTES],
+) -> usize
+    requires { ⌜ (at + LINE-BYTES ≤ length (now text)) × Tabled (now table) ⌝ }
     ensures { λ r. ⌜ (r ≡ at + length (pairLine (pairOf ancestor descendant)))
         × (now (text .exit) ≡ sets (now (text .entry)) at (pairLine (pairOf ancestor descendant))) ⌝ }
 {
-    let mut to = put_field(text, at, ancestor.document as u64, b' ');
-    to = put_field(text, to, ancestor.start as u64, b' ');
-    put_field(text, to, descendant.start as u64, b'\n')
+    let mut to = put_field(text, at, ancestor.document as u64, b' ', table);
+    to = put_field(text, to, ancestor.start as u64, b' ', table);
+    put_field(text, to, descendant.start as u64, b'\n', table)
 }
 
-// The caller gets the lines of the pairs in the text, as many as it has room for however long they are, and the number of their bytes. A pair is
-// eight words, the ancestor's and then the descendant's.
+// Puts the lines of the pairs at the beginning of the text, as many as it has room for however long
+// they are, and returns how many bytes they have. A pair is eight words, the ancestor's and then
+// the descendant's.
 pub fn put_lines(pairs: &[u32], text: &mut [u8]) -> usize
     ensures { λ r. ⌜ (r ≡ length (linesFor (now (pairs .entry)) (now (text .entry))))
         × (now (text .exit) ≡ written (linesFor (now (pairs .entry)) (now (text .entry))) (now (text .entry))) ⌝ }
 {
+    let table = TWO_DIGITS;
     let room = text.len() / LINE_BYTES;
     let mut to = 0;
     let mut index = 0;
@@ -46,26 +57,31 @@ pub fn put_lines(pairs: &[u32], text: &mut [u8]) -> usize
             to,
             node_at(pairs, 2 * index),
             node_at(pairs, 2 * index + 1),
+            &table,
         );
         index += 1;
     }
     to
 }
 
-// The caller gets the line that says how many pairs there are, and the number of its bytes.
+// Puts the line that says how many pairs there are at the beginning of the text, and returns how
+// many bytes it has.
 pub fn put_total(count: u64, text: &mut [u8; NOTE_BYTES]) -> usize
     ensures { λ r. ⌜ (r ≡ length (totalLine count)) × (now (text .exit) ≡ written (totalLine count) (now (text .entry))) ⌝ }
 {
+    let table = TWO_DIGITS;
     let to = put_bytes(text, 0, b"pairs ");
-    put_field(text, to, count, b'\n')
+    put_field(text, to, count, b'\n', &table)
 }
 
-// The caller gets the line that says why nothing is listed, and the number of its bytes: the answer's number, and its name out of the one table.
+// Puts the line that says why nothing is listed at the beginning of the text, and returns how many
+// bytes it has. It gives the answer's number and its name, which `nodes` keeps in a table.
 pub fn put_refusal(answer: u32, text: &mut [u8; NOTE_BYTES]) -> usize
     ensures { λ r. ⌜ (r ≡ length (refusalLine answer)) × (now (text .exit) ≡ written (refusalLine answer) (now (text .entry))) ⌝ }
 {
+    let table = TWO_DIGITS;
     let mut to = put_bytes(text, 0, b"refused ");
-    to = put_field(text, to, answer as u64, b' ');
+    to = put_field(text, to, answer as u64, b' ', &table);
     let name = name_of(answer);
     to = put_unfilled(text, to, &name);
     put_byte(text, to, b'\n')

@@ -1,15 +1,25 @@
-// Texts are put into a buffer one behind the other; each function answers the place behind what it put.
+// Texts are put into a buffer one after the other. Each function that puts a whole text returns the
+// place after it.
 ghost use mathlib.Core.Path.{_≡_};
 ghost use Prim.Native.Nat.{_+_, _≤_, _<_};
 ghost use mathlib.Core.List.{_∷_, [], _++_};
-ghost use lib.ListN.{length, drop};
+ghost use lib.ListN.{length};
 ghost use lib.Seq.{sets};
-ghost use Rattle.lines.specs.Line.{MOST-DIGITS, decimal, unfilled};
+ghost use Rattle.lines.specs.Line.{decimal, unfilled};
+ghost use Rattle.lines.specs.Table.{twoDigits, Tabled};
 
-// The most digits of a 64-bit number.
-pub(crate) const MOST_DIGITS: usize = 20;
+// The bytes of a table of two digits for each number below a hundred.
+pub(crate) const TABLE_BYTES: usize = 200;
 
-// A byte is put at a place.
+// The table, one number after the other. Each public function copies it once and lends the copy,
+// since a constant that a function reads is copied at each call.
+pub(crate) const TWO_DIGITS: [u8; TABLE_BYTES] = *b"0001020304050607080910111213141516171819\
+    2021222324252627282930313233343536373839\
+    4041424344454647484950515253545556575859\
+    6061626364656667686970717273747576777879\
+    8081828384858687888990919293949596979899";
+
+// Puts a byte at a place.
 pub(crate) fn put_byte(text: &mut [u8], at: usize, byte: u8) -> usize
     requires { ⌜ at < length (now text) ⌝ }
     ensures { λ r. ⌜ (r ≡ at + 1) × (now (text .exit) ≡ sets (now (text .entry)) at (byte ∷ [])) ⌝ }
@@ -18,7 +28,7 @@ pub(crate) fn put_byte(text: &mut [u8], at: usize, byte: u8) -> usize
     at + 1
 }
 
-// Bytes are put at a place.
+// Puts bytes at a place.
 pub(crate) fn put_bytes(text: &mut [u8], at: usize, bytes: &[u8]) -> usize
     requires { ⌜ at + length (now bytes) ≤ length (now text) ⌝ }
     ensures { λ r. ⌜ (r ≡ at + length (now (bytes .entry))) × (now (text .exit) ≡ sets (now (text .entry)) at (now (bytes .entry))) ⌝ }
@@ -31,44 +41,71 @@ pub(crate) fn put_bytes(text: &mut [u8], at: usize, bytes: &[u8]) -> usize
     at + index
 }
 
-// The digits of a number are put at the end of a buffer, the last one first; the caller gets where they start. A number below ten has one digit,
-// and any other the digits of its tenth before its last one.
-fn spell(number: u64, digits: &mut [u8]) -> usize
-    requires { ⌜ length (now digits) ≡ MOST-DIGITS ⌝ }
-    ensures { λ r. ⌜ (r ≤ MOST-DIGITS) × (drop r (now (digits .exit)) ≡ decimal number) ⌝ }
+// Returns how many digits a number has: one or two, and two more for each division by a hundred.
+fn digit_count(number: u64) -> usize
+    ensures { λ r. ⌜ r ≡ length (decimal number) ⌝ }
 {
     let mut rest = number;
-    let mut from = MOST_DIGITS - 1;
-    digits[from] = (48 + rest % 10) as u8;
-    while 9 < rest {
-        rest /= 10;
-        from -= 1;
-        digits[from] = (48 + rest % 10) as u8;
+    let mut count = 0;
+    while 99 < rest {
+        rest /= 100;
+        count += 2;
     }
-    from
+    if rest < 10 {
+        return count + 1;
+    }
+    count + 2
 }
 
-// A number is put at a place, in decimal.
-fn put_decimal(text: &mut [u8], at: usize, number: u64) -> usize
-    requires { ⌜ at + length (decimal number) ≤ length (now text) ⌝ }
+// Puts the two digits of a number below a hundred at a place.
+fn put_two(text: &mut [u8], at: usize, number: u64, table: &[u8; TABLE_BYTES])
+    requires { ⌜ (at + 1 < length (now text)) × (number < 100) × Tabled (now table) ⌝ }
+    ensures { λ r. ⌜ now (text .exit) ≡ sets (now (text .entry)) at (twoDigits number) ⌝ }
+{
+    let from = 2 * number as usize;
+    text[at] = table[from];
+    text[at + 1] = table[from + 1];
+}
+
+// Puts a number at a place, in decimal. It counts the digits, and then puts them where they belong,
+// from the last two to the first one or two.
+fn put_decimal(text: &mut [u8], at: usize, number: u64, table: &[u8; TABLE_BYTES]) -> usize
+    requires { ⌜ (at + length (decimal number) ≤ length (now text)) × Tabled (now table) ⌝ }
     ensures { λ r. ⌜ (r ≡ at + length (decimal number)) × (now (text .exit) ≡ sets (now (text .entry)) at (decimal number)) ⌝ }
 {
-    let mut digits = [0u8; MOST_DIGITS];
-    let from = spell(number, &mut digits);
-    put_bytes(text, at, &digits[from..])
+    let end = at + digit_count(number);
+    let mut rest = number;
+    let mut to = end;
+    while 99 < rest {
+        to -= 2;
+        put_two(text, to, rest % 100, table);
+        rest /= 100;
+    }
+    if rest < 10 {
+        text[at] = (48 + rest) as u8;
+        return end;
+    }
+    put_two(text, at, rest, table);
+    end
 }
 
-// A number is put at a place, in decimal, and a byte behind it.
-pub(crate) fn put_field(text: &mut [u8], at: usize, number: u64, behind: u8) -> usize
-    requires { ⌜ at + length (decimal number) < length (now text) ⌝ }
-    ensures { λ r. ⌜ (r ≡ at + length (decimal number ++ behind ∷ []))
-        × (now (text .exit) ≡ sets (now (text .entry)) at (decimal number ++ behind ∷ [])) ⌝ }
+// Puts a number at a place, in decimal, and a byte after it.
+pub(crate) fn put_field(
+    text: &mut [u8],
+    at: usize,
+    number: u64,
+    after: u8,
+    table: &[u8; TABLE_BYTES],
+) -> usize
+    requires { ⌜ (at + length (decimal number) < length (now text)) × Tabled (now table) ⌝ }
+    ensures { λ r. ⌜ (r ≡ at + length (decimal number ++ after ∷ []))
+        × (now (text .exit) ≡ sets (now (text .entry)) at (decimal number ++ after ∷ [])) ⌝ }
 {
-    let to = put_decimal(text, at, number);
-    put_byte(text, to, behind)
+    let to = put_decimal(text, at, number, table);
+    put_byte(text, to, after)
 }
 
-// A word is put at a place without its blanks.
+// Puts a word at a place, without its blanks.
 pub(crate) fn put_unfilled(text: &mut [u8], at: usize, letters: &[u8]) -> usize
     requires { ⌜ at + length (now letters) ≤ length (now text) ⌝ }
     ensures { λ r. ⌜ (r ≡ at + length (unfilled (now (letters .entry))))

@@ -25,10 +25,13 @@ ghost use Rattle.pairs.specs.Page.{handedOut, pageOf};
 ghost use Rattle.lines.specs.Line.{LINE-BYTES, pairLine};
 ghost use Rattle.printing.specs.Print.{PAGE-PAIRS};
 
-// How many pairs are printed at a time: a full page is written in one block of six to thirty-three thousand bytes.
-const PAGE_PAIRS: usize = 1024;
+// How many pairs are printed at a time: a full page is written in one block of 49 to 270 thousand
+// bytes. Each page checks both lists again, so larger ones cost less. This size takes 532,480 bytes
+// of stack, out of 724,993 for all arrays of the program and under 740,000 for the whole program.
+const PAGE_PAIRS: usize = 8192;
 
-// A proved loop has to end. No run uses up so many pages: a listing of 4,096 descendants in 63 ancestors each has 252.
+// A proved loop has to end. No run uses up so many pages: a listing of 4,096 descendants in 63
+// ancestors each has 32.
 const MOST_PAGES: u64 = 4294967295;
 
 // A page of a listing, and how many bytes its lines have.

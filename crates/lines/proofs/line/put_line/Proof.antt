@@ -35,7 +35,7 @@ put-field-requires : tie.Need-put-field-requires
 put-field-requires c κs =
     let x = c .before .before .before .args .ancestor in
     let few = digits-32 (x .document) (omega arith) in
-    omega arith
+    (omega arith, c .before .before .before .pre .1)
 
 cast-put-field-2 : tie.Need-cast-put-field-2
 cast-put-field-2 c = search needs
@@ -45,7 +45,7 @@ put-field-requires-2 c κs =
     let x = c .before .before .before .before .before .before .before .before .args .ancestor in
     let few = field-32 (x .document) BLANK (omega arith) in
     let more = digits-32 (x .start) (omega arith) in
-    omega arith
+    (omega arith, c .before .before .before .before .before .before .before .before .pre .1)
 
 cast-put-field-3 : tie.Need-cast-put-field-3
 cast-put-field-3 c = search needs
@@ -56,7 +56,7 @@ put-field-requires-3 c κs =
     let few = field-32 (a .ancestor .document) BLANK (omega arith) in
     let more = field-32 (a .ancestor .start) BLANK (omega arith) in
     let last = digits-32 (a .descendant .start) (omega arith) in
-    omega arith
+    (omega arith, c .before .before .before .before .before .before .before .before .before .before .before .before .before .pre .1)
 
 same-length : tie.Need-same-length
 same-length c = search needs

@@ -16,6 +16,7 @@ use Rattle.lines.specs.Line.{LINE-BYTES, pairOf, pairLine, linesFor}
 use Rattle.lines.proofs.Putting.{Put, put-next, put-written}
 use Rattle.lines.proofs.PairLines.{firstLines, lines-none, lines-more, lines-fit, lines-all}
 use Rattle.lines.proofs.Fields.{line-few}
+use Rattle.lines.proofs.TwoDigits.{tabled}
 use Rattle.lines.proofs.line.put_lines.Statement.{statement}
 use Rattle.lines.proofs.line.put_lines.Tie as tie
 
@@ -62,10 +63,10 @@ module _ (pairs before : List ℕ) where
         put-written before (linesFor pairs before) (omega arith) (subst (λ us. Put before 0 us after to) e (p .puts))
 
 abbrev Inv-loop : tie.InvT-loop
-Inv-loop pairs text₀ room to₀ index₀ text to index = Lined pairs text₀ index text to
+Inv-loop pairs text₀ table room to₀ index₀ text to index = Lined pairs text₀ index text to
 
 abbrev μ-loop : tie.MeasureT-loop
-μ-loop pairs text₀ room to₀ index₀ text to index = count pairs / 2 - index
+μ-loop pairs text₀ table room to₀ index₀ text to index = count pairs / 2 - index
 
 loop-holds : tie.Need-loop-holds Inv-loop μ-loop
 loop-holds c = starts _ _
@@ -90,10 +91,10 @@ node-at-requires-2 c κs = search needs
 
 put-line-requires : tie.Need-put-line-requires Inv-loop μ-loop
 put-line-requires c κs =
-    let l = c .before .before .before .before .before .before .loop in
-    let a = c .before .before .before .before .before .before .before .before .before .args in
-    let h : l .index < length (now (a .text)) / LINE-BYTES = ltb-true _ _ (c .before .before .before .if2 .taken) in
-    omega arith
+    let l = c .before .before .before .before .before .before .before .loop in
+    let a = c .before .before .before .before .before .before .before .before .before .before .args in
+    let h : l .index < length (now (a .text)) / LINE-BYTES = ltb-true _ _ (c .before .before .before .before .if2 .taken) in
+    (omega arith, tabled _ refl)
 
 add-index : tie.Need-add-index Inv-loop μ-loop
 add-index c = search needs
@@ -103,11 +104,11 @@ loop-less c = search needs
 
 loop-again : tie.Need-loop-again Inv-loop μ-loop
 loop-again c =
-    let l = c .before .before .before .before .before .before .before .before .before .loop in
-    let a = c .before .before .before .before .before .before .before .before .before .before .before .before .args in
-    let x = c .before .before .before .before .node-at in
-    let y = c .before .before .before .node-at2 in
-    let h : l .index < length (now (a .text)) / LINE-BYTES = ltb-true _ _ (c .before .before .before .before .before .before .if2 .taken) in
+    let l = c .before .before .before .before .before .before .before .before .before .before .loop in
+    let a = c .before .before .before .before .before .before .before .before .before .before .before .before .before .args in
+    let x = c .before .before .before .before .before .node-at in
+    let y = c .before .before .before .before .node-at2 in
+    let h : l .index < length (now (a .text)) / LINE-BYTES = ltb-true _ _ (c .before .before .before .before .before .before .before .if2 .taken) in
     let few = line-few (x .result) (y .result) (omega arith) (omega arith) (omega arith) in
     one-more (now (a .pairs)) (now (a .text)) (l .inv) (x .result) (y .result) (omega arith) h (x .ensures) (y .ensures) few
     (c .before .before .put-line .ensures)

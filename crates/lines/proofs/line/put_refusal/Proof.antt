@@ -1,7 +1,7 @@
 -- The word and its blank are eight bytes, the number's field at most eleven and the name at most eight, so the line has room.
 -- Another number, or a name with its blanks, falls at the return.
 use borrow.Author.Needs.{needs}
-use mathlib.Core.Path.{_≡_, subst}
+use mathlib.Core.Path.{_≡_, refl, subst}
 use mathlib.Core.List.{List, [], _∷_, _++_}
 use Prim.Native.Nat.{ℕ, _+_, _<_}
 use native.Mathlib.Omega.{arith}
@@ -16,6 +16,7 @@ use Rattle.lines.proofs.Blanks.{unfilled-few}
 use Rattle.lines.proofs.Digits.{digits-32}
 use Rattle.lines.proofs.Putting.{Put, put-first, put-next, put-parted, put-written}
 use Rattle.lines.proofs.Fields.{field-32, put-field}
+use Rattle.lines.proofs.TwoDigits.{tabled}
 use Rattle.lines.proofs.line.put_refusal.Statement.{statement}
 use Rattle.lines.proofs.line.put_refusal.Tie as tie
 
@@ -46,9 +47,9 @@ put-bytes-requires c κs = search needs
 
 put-field-requires : tie.Need-put-field-requires
 put-field-requires c κs =
-    let n = c .before .before .before .before .args .answer in
+    let n = c .before .before .before .before .before .args .answer in
     let few = digits-32 n (omega arith) in
-    omega (arith, c .put-field-arg .given)
+    (omega (arith, c .before .put-field-arg .given), tabled _ refl)
 
 name-of-requires : tie.Need-name-of-requires
 name-of-requires c κs = search needs
@@ -58,27 +59,27 @@ slice-aggregate-put-unfilled c = search needs
 
 put-unfilled-requires : tie.Need-put-unfilled-requires
 put-unfilled-requires c κs =
-    let n = c .before .before .before .before .before .before .before .before .args .answer in
+    let n = c .before .before .before .before .before .before .before .before .before .args .answer in
     let few = field-32 n BLANK (omega arith) in
     omega (arith, c .before .put-unfilled-arg .given)
 
 put-byte-requires : tie.Need-put-byte-requires
 put-byte-requires c κs =
-    let n = c .before .before .before .before .before .before .before .before .before .before .args .answer in
+    let n = c .before .before .before .before .before .before .before .before .before .before .before .args .answer in
     let few = field-32 n BLANK (omega arith) in
     let fewer = unfilled-few (c .before .before .before .before .name-of .result) in
     omega (arith, c .put-byte-arg .given)
 
 returns : tie.Need-returns
 returns c =
-    let a = c .before .before .before .before .before .before .before .before .before .before .before .args in
+    let a = c .before .before .before .before .before .before .before .before .before .before .before .before .args in
     let n = c .before .before .before .before .before .name-of in
     whole (now (a .text)) (a .answer) (n .result) _ _ _ _ _ _ _ _
     (omega arith)
-    (omega (arith, c .before .before .before .before .before .before .before .before .before .before .put-bytes-arg .given))
+    (omega (arith, c .before .before .before .before .before .before .before .before .before .before .before .put-bytes-arg .given))
     (omega arith)
     (n .ensures)
-    (c .before .before .before .before .before .before .before .before .put-bytes .ensures)
+    (c .before .before .before .before .before .before .before .before .before .put-bytes .ensures)
     (c .before .before .before .before .before .before .put-field .ensures)
     (c .before .before .put-unfilled .ensures)
     (c .put-byte .ensures)

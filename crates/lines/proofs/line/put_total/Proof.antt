@@ -1,7 +1,7 @@
 -- The word and its blank are six bytes, and the number's field behind them has at most twenty-one, so the line has room.
 -- Another word, or a line without its line feed, falls at the return.
 use borrow.Author.Needs.{needs}
-use mathlib.Core.Path.{_≡_}
+use mathlib.Core.Path.{_≡_, refl}
 use mathlib.Core.List.{List, [], _∷_, _++_}
 use Prim.Native.Nat.{ℕ, _+_, _<_}
 use native.Mathlib.Omega.{arith}
@@ -15,6 +15,7 @@ use Rattle.lines.specs.Line.{BLANK, LINE-FEED, decimal, word, unfilled, 
 use Rattle.lines.proofs.Digits.{digits-64}
 use Rattle.lines.proofs.Putting.{put-first, put-written}
 use Rattle.lines.proofs.Fields.{field-64, put-field}
+use Rattle.lines.proofs.TwoDigits.{tabled}
 use Rattle.lines.proofs.line.put_total.Statement.{statement}
 use Rattle.lines.proofs.line.put_total.Tie as tie
 
@@ -36,15 +37,15 @@ put-bytes-requires c κs = search needs
 
 put-field-requires : tie.Need-put-field-requires
 put-field-requires c κs =
-    let n = c .before .before .before .before .args .count in
+    let n = c .before .before .before .before .before .args .count in
     let few = digits-64 n (omega arith) in
-    omega (arith, c .put-field-arg .given)
+    (omega (arith, c .before .put-field-arg .given), tabled _ refl)
 
 returns : tie.Need-returns
 returns c =
-    let a = c .before .before .before .before .before .args in
-    whole (now (a .text)) (a .count) _ _ _ _ (omega arith) (omega (arith, c .before .before .before .before .put-bytes-arg .given))
-    (c .before .before .put-bytes .ensures)
+    let a = c .before .before .before .before .before .before .args in
+    whole (now (a .text)) (a .count) _ _ _ _ (omega arith) (omega (arith, c .before .before .before .before .before .put-bytes-arg .given))
+    (c .before .before .before .put-bytes .ensures)
     (c .put-field .ensures)
 
 pub put-total-spec : {M : Type 1} → statement M

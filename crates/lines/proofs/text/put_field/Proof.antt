@@ -1,4 +1,4 @@
--- The byte is put right behind the number's digits.
+-- The byte is put right after the number's digits.
 -- A byte put one place off falls at the return.
 use borrow.Author.Needs.{needs}
 use mathlib.Core.List.{[], _∷_}
@@ -21,7 +21,7 @@ returns : tie.Need-returns
 returns c =
     let a = c .before .before .before .before .before .before .before .before .before .args in
     let p = put-first (now (a .text)) (a .at) (decimal (a .number)) (c .before .before .before .before .before .before .put-decimal .ensures) in
-    put-told (put-next p (a .behind ∷ []) (c .before .before .put-byte .ensures))
+    put-told (put-next p (a .after ∷ []) (c .before .before .put-byte .ensures))
 
 pub put-field-spec : {M : Type 1} → statement M
 put-field-spec = tie.close (tie.spec put-decimal-requires put-byte-requires same-length returns)
