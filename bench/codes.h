@@ -1,14 +1,14 @@
-/* The codes that are measured side by side: the archive and four builds of the twin. The archive is left out where WITHOUT_ARCHIVE is defined, for
-   a processor that it has no code for. */
+/* The codes that are measured side by side: the archive, and three forms of the twin by two compilers.
+   The archive is left out where WITHOUT_ARCHIVE is defined, for a processor that it has no code for. */
 #ifndef CODES_H
 #define CODES_H
 
 #include "calls.h"
 
 #ifdef WITHOUT_ARCHIVE
-enum { CODES = 4 };
+enum { CODES = 6 };
 #else
-enum { CODES = 5 };
+enum { CODES = 7 };
 #endif
 
 struct code {

@@ -7,8 +7,8 @@ enum { BOOK_LISTS = 2, OUT_WORDS = MOST_PAIRS * BELFRY_PAIR_WORDS };
 
 struct shape shape;
 static uint32_t out[OUT_WORDS];
-static uint8_t book[BELFRY_BOOK_BYTES(BOOK_LISTS, BOOK_LISTS * BELFRY_MOST_NODES)];
-static size_t book_bytes;
+uint8_t book[BELFRY_BOOK_BYTES(BOOK_LISTS, BOOK_LISTS * BELFRY_MOST_NODES)];
+size_t book_bytes;
 
 void fail(const char *why)
 {
@@ -16,7 +16,7 @@ void fail(const char *why)
     exit(2);
 }
 
-/* Puts numbers behind the book's end, as they lie in memory: x86-64 keeps them as a book does. */
+/* Puts numbers after the book's last, as they lie in memory: x86-64 keeps them as a book does. */
 static void put_numbers(const uint32_t *numbers, size_t count)
 {
     memcpy(book + book_bytes, numbers, count * sizeof numbers[0]);

@@ -16,8 +16,10 @@ struct measure {
     size_t room;
 };
 
-/* The sizes of the shape that was prepared last. */
+/* The shape that was prepared last, and the book of its two lists. */
 extern struct shape shape;
+extern uint8_t book[];
+extern size_t book_bytes;
 
 /* Prepares a measure by its name on a shape with at most so many nodes in each list, or on a document with at most so many marks; it answers 0
    where there is no such measure or shape. The names are check, links, number, book, and RELATION-ORDER-ROOM with the relation inside or
