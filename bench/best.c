@@ -1,5 +1,6 @@
-/* The twin in its best form: the shapes that took the fewest instructions of all we tried, written
-   by hand. It does nothing that a proof would forbid, so it shows what the proofs cost. */
+/* The twin in its best form: the algorithms that took the fewest instructions of all that we tried,
+   written by hand. Beside it the archive shows what verification costs against the best C that we
+   can write. */
 #include "twin.h"
 
 /* The check of two lists. It goes document by document, and in a document by runs: the nodes of one
@@ -69,9 +70,10 @@ static inline int are_identical(const struct node *x, const struct node *y)
     return x->end == y->end && x->level == y->level;
 }
 
-/* Passes the nodes of a document. One that stands in both lists is passed over in the second, and then
-   passed in the first. It says whether all are right. */
-static inline int pass_document(struct open *stack, struct stand *x, struct stand *y, uint32_t document)
+/* Passes the nodes of a document. One that stands in both lists is passed over in the second, and
+   then passed in the first. It says whether all are right. */
+static inline int pass_document(struct open *stack, struct stand *x, struct stand *y,
+                                uint32_t document)
 {
     struct open *top = stack;
     for (;;) {
@@ -98,10 +100,12 @@ static inline uint64_t document_of(const struct stand *s)
 static int are_right(struct lists l)
 {
     struct open stack[STACK_NODES];
-    struct stand x = {l.ancestor, l.ancestors_end, PAST}, y = {l.descendant, l.descendants_end, PAST};
+    struct stand x = {l.ancestor, l.ancestors_end, PAST};
+    struct stand y = {l.descendant, l.descendants_end, PAST};
     stack[0] = (struct open){PAST, 0};
     for (;;) {
-        uint64_t first = document_of(&x), second = document_of(&y), document = first < second ? first : second;
+        uint64_t first = document_of(&x), second = document_of(&y);
+        uint64_t document = first < second ? first : second;
         if (document == PAST)
             return 1;
         x.start = first == document ? x.next->start : PAST;
@@ -122,7 +126,8 @@ static belfry_verdict check_one(const uint32_t *list, size_t words)
 static belfry_verdict check_both(const uint32_t *ancestors, size_t ancestor_words,
                                  const uint32_t *descendants, size_t descendant_words)
 {
-    if (word_fault(ancestor_words) == BELFRY_TAKEN && word_fault(descendant_words) == BELFRY_TAKEN &&
+    if (word_fault(ancestor_words) == BELFRY_TAKEN &&
+        word_fault(descendant_words) == BELFRY_TAKEN &&
         are_right(lists_of(ancestors, ancestor_words, descendants, descendant_words)))
         return verdict_of(BELFRY_TAKEN);
     return three_passes(ancestors, ancestor_words, descendants, descendant_words);
@@ -131,7 +136,8 @@ static belfry_verdict check_both(const uint32_t *ancestors, size_t ancestor_word
 /* The listings. A pair has a leader, by which the order goes first, and a follower. */
 
 /* The first leader at the ticket's place or past it, by halving. */
-static const struct node *first_leader(const belfry_ticket *t, const struct node *n, const struct node *end)
+static const struct node *first_leader(const belfry_ticket *t, const struct node *n,
+                                       const struct node *end)
 {
     const struct node place = {t->document, t->first, 0, 0};
     if (!t->placed)
@@ -146,9 +152,10 @@ static const struct node *first_leader(const belfry_ticket *t, const struct node
     return n;
 }
 
-/* From which start on the followers of the first leader lie past the ticket's place: 0, which is all
-   of them, unless that leader is the place's own. */
-static uint64_t first_start(const belfry_ticket *t, const struct node *leader, const struct node *end)
+/* From which start on the followers of the first leader lie past the ticket's place: 0, which is
+   all of them, unless that leader is the place's own. */
+static uint64_t first_start(const belfry_ticket *t, const struct node *leader,
+                            const struct node *end)
 {
     if (!t->placed || leader == end || leader->document != t->document || leader->start != t->first)
         return 0;
@@ -156,7 +163,8 @@ static uint64_t first_start(const belfry_ticket *t, const struct node *leader, c
 }
 
 /* The first node of a row that starts there or later. */
-static inline const struct node *from_start(const struct node *n, const struct node *end, uint64_t start)
+static inline const struct node *from_start(const struct node *n, const struct node *end,
+                                            uint64_t start)
 {
     if (start > 0)
         while (n < end && n->start < start)
@@ -164,15 +172,33 @@ static inline const struct node *from_start(const struct node *n, const struct n
     return n;
 }
 
-static inline void put_pair(struct pair *out, uint32_t order, struct node leader, struct node follower)
+/* Writes one pair. */
+static inline void put_pair(struct pair *out, uint32_t order, const struct node *leader,
+                            const struct node *follower)
 {
-    out->ancestor = order == BELFRY_ANCESTOR_ORDER ? leader : follower;
-    out->descendant = order == BELFRY_ANCESTOR_ORDER ? follower : leader;
+    out->ancestor = order == BELFRY_ANCESTOR_ORDER ? *leader : *follower;
+    out->descendant = order == BELFRY_ANCESTOR_ORDER ? *follower : *leader;
 }
 
-/* Writes the pairs of a leader with a row of followers, as many as fit. It says whether all did. Many
-   rows are of one pair, so the first is written by itself; the others are counted, and then copied
-   with no test between them. */
+/* Writes the pairs of a leader with so many followers. The leader is held in a copy, which C can
+   keep in a register: the output might overlap the list for all it knows. */
+static inline void put_pairs(struct pair *out, uint32_t order, const struct node *leader,
+                             const struct node *row, size_t count)
+{
+    const struct node held = *leader;
+    for (size_t i = 0; i < count; i++)
+        if (order == BELFRY_ANCESTOR_ORDER) {
+            out[i].ancestor = held;
+            out[i].descendant = row[i];
+        } else {
+            out[i].ancestor = row[i];
+            out[i].descendant = held;
+        }
+}
+
+/* Writes the pairs of a leader with a row of followers, as many as fit. It says whether all did.
+   Many rows are of one pair, so the first is written by itself; the others are counted, and then
+   copied with no test between them. */
 static inline int put_row(struct writing *w, uint32_t order, const struct node *leader,
                           const struct node *row, const struct node *row_end)
 {
@@ -181,20 +207,18 @@ static inline int put_row(struct writing *w, uint32_t order, const struct node *
         return 1;
     if (out == w->end)
         return 0;
-    put_pair(out, order, *leader, *row);
+    put_pair(out, order, leader, row);
     w->out = out + 1;
     if (row + 1 == row_end)
         return 1;
-    const struct node held = *leader;
     size_t room = w->end - out, count = row_end - row, fitting = count < room ? count : room;
-    for (size_t i = 1; i < fitting; i++)
-        put_pair(&out[i], order, held, row[i]);
+    put_pairs(out + 1, order, leader, row + 1, fitting - 1);
     w->out = out + fitting;
     return fitting == count;
 }
 
-/* Puts the ancestors onto the stack that start before the descendant and are open at it. All that lie
-   there are open at it too, so none is taken off. */
+/* Puts the ancestors onto the stack that start before the descendant and are open at it. All that
+   lie there are open at it too, so none is taken off. */
 static inline struct node *open_before(struct node *top, struct lists *l, const struct node *d)
 {
     for (; l->ancestor < l->ancestors_end; l->ancestor++) {
@@ -246,8 +270,9 @@ static inline int is_open_at(const struct node *a, const struct node *n, const s
     return n < end && is_open(a, n);
 }
 
-/* Where the run of descendants ends that begins with one at which the ancestor is open. Most runs are
-   of one. Then a guess is tried, and the descendant before it; then the run is followed by strides. */
+/* Where the run of descendants ends that begins with one at which the ancestor is open. Most runs
+   are of one. Then a guess is tried, and the descendant before it; then the run is followed by
+   strides. */
 static inline const struct node *run_end(const struct node *a, const struct node *d,
                                          const struct node *d_end, const struct node *guess)
 {
@@ -268,8 +293,9 @@ static inline const struct node *run_end(const struct node *a, const struct node
     return d;
 }
 
-/* The descendant of a run to look at after one that isn't one level deeper. Where that one lies in the
-   zone after the ancestor, all in that zone are passed: the rest, the rest but one, or by strides. */
+/* The descendant of a run to look at after one that isn't one level deeper. Where that one lies in
+   the zone after the ancestor, all in that zone are passed: the rest, the rest but one, or by
+   strides. */
 static inline const struct node *past_inner(const struct node *d, const struct node *run_end,
                                             const struct node *inner)
 {
@@ -284,8 +310,8 @@ static inline const struct node *past_inner(const struct node *d, const struct n
     return d + 1;
 }
 
-/* Writes the pairs of an ancestor with those of its run that are one level deeper, as many as fit. It
-   says whether all did. */
+/* Writes the pairs of an ancestor with those of its run that are one level deeper, as many as fit.
+   It says whether all did. */
 static inline int put_children(struct writing *w, const struct node *a, const struct node *a_end,
                                const struct node *d, const struct node *run_end)
 {
@@ -297,7 +323,7 @@ static inline int put_children(struct writing *w, const struct node *a, const st
         if (d->level == level) {
             if (w->out == w->end)
                 return 0;
-            put_pair(w->out++, BELFRY_ANCESTOR_ORDER, *a, *d);
+            put_pair(w->out++, BELFRY_ANCESTOR_ORDER, a, d);
             d++;
         } else
             d = d->start < reach ? past_inner(d, run_end, inner) : d + 1;
@@ -337,9 +363,10 @@ struct kin {
     uint32_t parent, elder;
 };
 
-/* The kin of a node. The way up from the node before, along the parents already written, leads to the
-   parent; the last node passed on it is the elder sibling. The document is tested once. */
-static inline struct kin kin_of(const struct node *nodes, uint32_t i, uint32_t (*links)[BELFRY_LINK_WORDS])
+/* The kin of a node. The way up from the node before, along the parents already written, leads to
+   the parent; the last node passed on it is the elder sibling. The document is tested once. */
+static inline struct kin kin_of(const struct node *nodes, uint32_t i,
+                                uint32_t (*links)[BELFRY_LINK_WORDS])
 {
     uint32_t parent = i - 1, elder = BELFRY_NONE;
     if (i == 0 || nodes[parent].document != nodes[i].document)

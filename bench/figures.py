@@ -9,7 +9,8 @@ from functools import lru_cache
 
 MADE = os.environ["BENCH_MADE"]
 EMULATOR = os.environ["BELFRYCHEST_EMULATOR"]
-CODES = ("archive", "clang-three", "clang-fused", "clang-best", "gcc-three", "gcc-fused", "gcc-best")
+CODES = ("archive", "clang-three", "clang-fused", "clang-best", "gcc-three", "gcc-fused",
+         "gcc-best")
 SHAPES = ("flat", "nests", "between", "random", "eight-zones", "few-samples")
 ALL_SHAPES = (*SHAPES, "documents", "twice", "fields", "side")
 MOST_NODES = 4096
@@ -21,15 +22,15 @@ EMPTY_BOOK = struct.pack("<7I", 2, 2, CONTENTS_BYTES, 0, 3, CONTENTS_BYTES, 0)
 
 
 def emulated(program, *words, options=()):
-    """The command that runs a built program for x86-64 from its folder, under the emulator where that
-    is needed, with options of it."""
+    """The command that runs a built program for x86-64 from its folder, under the emulator where
+    that is needed, with options of it."""
     return ([EMULATOR, *options] if EMULATOR else []) + [f"./{program}", *map(str, words)]
 
 
 def run(program, *words, text=True):
     """What a program for x86-64 prints."""
-    ran = subprocess.run(emulated(program, *words), cwd=MADE, check=True, stdout=subprocess.PIPE, text=text)
-    return ran.stdout
+    return subprocess.run(emulated(program, *words), cwd=MADE, check=True, stdout=subprocess.PIPE,
+                          text=text).stdout
 
 
 def run_counted(program, *words, given=b""):
@@ -40,7 +41,8 @@ def run_counted(program, *words, given=b""):
     if EMULATOR:
         command, line = emulated(program, *words, options=("-plugin", "./count.so")), rb"^(\d+)$"
     else:
-        command = ["valgrind", "--tool=callgrind", "--callgrind-out-file=/dev/null", *emulated(program, *words)]
+        callgrind = ("valgrind", "--tool=callgrind", "--callgrind-out-file=/dev/null")
+        command = [*callgrind, *emulated(program, *words)]
         line = rb"Collected : (\d+)"
     ran = subprocess.run(command, cwd=MADE, env={}, capture_output=True, input=given)
     found = re.findall(line, ran.stderr, re.M)
@@ -68,7 +70,7 @@ def instructions(code, measure, shape, nodes=MOST_NODES):
     not at all."""
     if measure == "print":
         return printing(shape, min(int(nodes), PRINTED_NODES))
-    once, never = (counted("driver", "count", code, measure, shape, nodes, times) for times in (1, 0))
+    once, never = (counted("driver", "count", code, measure, shape, nodes, made) for made in (1, 0))
     return once - never
 
 

@@ -1,13 +1,10 @@
 #include "shapes.h"
 #include <string.h>
 
-const char *const shape_names[SHAPES] = {"flat",        "nests",     "between", "random", "eight-zones",
-                                         "few-samples", "documents", "twice",   "fields", "side"};
-
 enum { ROOT_TAG = 1, DEEPEST_RANDOM = 20, FIELD_ZONES = 64 };
 
-/* A shape that is being built: how many nodes each list may have, the document and the next position
-   in it, and where each open element's end is to be written. */
+/* A shape that is being built: how many nodes each list may have, the document and the next
+   position in it, and where each open element's end is to be written. */
 struct building {
     struct shape *shape;
     size_t most;
@@ -192,31 +189,35 @@ static void build_side(struct building *b)
     }
 }
 
+static void build_eight_zones(struct building *b)
+{
+    build_some(b, 8, b->most / 8);
+}
+
+static void build_few_samples(struct building *b)
+{
+    build_some(b, 16, 1);
+}
+
+const char *const shape_names[SHAPES] = {
+    "flat",        "nests",     "between", "random", "eight-zones",
+    "few-samples", "documents", "twice",   "fields", "side",
+};
+
+/* How each of them is built. */
+static void (*const builders[SHAPES])(struct building *b) = {
+    build_flat,        build_nests,     build_between, build_random, build_eight_zones,
+    build_few_samples, build_documents, build_twice,   build_fields, build_side,
+};
+
 static int build(struct building *b, const char *name)
 {
-    if (strcmp(name, "flat") == 0)
-        build_flat(b);
-    else if (strcmp(name, "nests") == 0)
-        build_nests(b);
-    else if (strcmp(name, "between") == 0)
-        build_between(b);
-    else if (strcmp(name, "random") == 0)
-        build_random(b);
-    else if (strcmp(name, "eight-zones") == 0)
-        build_some(b, 8, b->most / 8);
-    else if (strcmp(name, "few-samples") == 0)
-        build_some(b, 16, 1);
-    else if (strcmp(name, "documents") == 0)
-        build_documents(b);
-    else if (strcmp(name, "twice") == 0)
-        build_twice(b);
-    else if (strcmp(name, "fields") == 0)
-        build_fields(b);
-    else if (strcmp(name, "side") == 0)
-        build_side(b);
-    else
-        return 0;
-    return 1;
+    for (size_t i = 0; i < SHAPES; i++)
+        if (strcmp(shape_names[i], name) == 0) {
+            builders[i](b);
+            return 1;
+        }
+    return 0;
 }
 
 int build_shape(struct shape *shape, const char *name, size_t nodes)

@@ -9,7 +9,8 @@ enum { SHAPES = 10, ZONE_TAG = 2, SAMPLE_TAG = 3 };
 
 struct shape {
     size_t zones, samples, marks;
-    uint32_t zone[BELFRY_MOST_NODES * BELFRY_NODE_WORDS], sample[BELFRY_MOST_NODES * BELFRY_NODE_WORDS], mark[4 * BELFRY_MOST_NODES + 2];
+    uint32_t zone[BELFRY_MOST_NODES * BELFRY_NODE_WORDS],
+        sample[BELFRY_MOST_NODES * BELFRY_NODE_WORDS], mark[4 * BELFRY_MOST_NODES + 2];
 };
 
 extern const char *const shape_names[SHAPES];

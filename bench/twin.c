@@ -1,5 +1,5 @@
-/* The twin as a careful C programmer would write it, in two forms: with FUSED set to 0 the checks of
-   two lists are three passes; with FUSED set to 1 one pass settles the good case, and the three
+/* The twin as a careful C programmer would write it, in two forms: with FUSED set to 0 the checks
+   of two lists are three passes; with FUSED set to 1 one pass settles the good case, and the three
    passes only say what is wrong. */
 #include "twin.h"
 
@@ -9,7 +9,9 @@ static belfry_verdict check_one(const uint32_t *list, size_t words)
 }
 
 #if FUSED
-/* Whether nothing is wrong with two lists, alone and together: one pass. */
+/* Whether nothing is wrong with two lists, alone and together: one pass. The loops are those of
+   are_agreeing, written out: shared, they take both compilers three or four instructions a node
+   more. */
 static int are_taken(struct lists l)
 {
     struct node stack[STACK_NODES], *top = stack;
@@ -29,10 +31,12 @@ static int are_taken(struct lists l)
 }
 #endif
 
-static belfry_verdict check_both(const uint32_t *ancestors, size_t ancestor_words, const uint32_t *descendants, size_t descendant_words)
+static belfry_verdict check_both(const uint32_t *ancestors, size_t ancestor_words,
+                                 const uint32_t *descendants, size_t descendant_words)
 {
 #if FUSED
-    if (word_fault(ancestor_words) == BELFRY_TAKEN && word_fault(descendant_words) == BELFRY_TAKEN &&
+    if (word_fault(ancestor_words) == BELFRY_TAKEN &&
+        word_fault(descendant_words) == BELFRY_TAKEN &&
         are_taken(lists_of(ancestors, ancestor_words, descendants, descendant_words)))
         return verdict_of(BELFRY_TAKEN);
 #endif
@@ -40,7 +44,8 @@ static belfry_verdict check_both(const uint32_t *ancestors, size_t ancestor_word
 }
 
 /* Writes the pairs of ancestors with one descendant, as many as fit. It says whether all did. */
-static inline int pair_ancestors(struct writing *w, const struct node *ancestors, size_t count, const struct node *descendant)
+static inline int pair_ancestors(struct writing *w, const struct node *ancestors, size_t count,
+                                 const struct node *descendant)
 {
     const struct node d = *descendant;
     struct pair *out = w->out;
@@ -53,9 +58,10 @@ static inline int pair_ancestors(struct writing *w, const struct node *ancestors
     return fitting == count;
 }
 
-/* Writes the pairs of an ancestor with the descendants that start in it, or with those of them only that are one level deeper, as many as fit.
-   It says whether all did. */
-static inline int pair_run(struct writing *w, const struct node *a, const struct node *d, const struct node *d_end, int directly)
+/* Writes the pairs of an ancestor with the descendants that start in it, or with those of them only
+   that are one level deeper, as many as fit. It says whether all did. */
+static inline int pair_run(struct writing *w, const struct node *a, const struct node *d,
+                           const struct node *d_end, int directly)
 {
     uint32_t document = a->document, end = a->end, level = a->level + 1;
     struct pair *out = w->out, *out_end = w->end;
@@ -71,7 +77,8 @@ static inline int pair_run(struct writing *w, const struct node *a, const struct
     return 1;
 }
 
-/* Puts the ancestors onto the stack that start before the descendant and are open at it, and takes the others off. */
+/* Puts the ancestors onto the stack that start before the descendant and are open at it, and takes
+   the others off. */
 static inline struct node *open_ancestors(struct node *stack, struct node *top, struct lists *l)
 {
     const struct node *d = l->descendant;
@@ -83,8 +90,8 @@ static inline struct node *open_ancestors(struct node *stack, struct node *top, 
     return open_at(stack, top, d);
 }
 
-/* Pairs each descendant with the ancestors open at it, past the ticket's place. Directly inside it can only lie in the innermost. It says whether
-   all found room. */
+/* Pairs each descendant with the ancestors open at it, past the ticket's place. Directly inside it
+   can only lie in the innermost. It says whether all found room. */
 static int sweep_descendants(struct lists l, const belfry_ticket *ticket, struct writing *w)
 {
     const struct node place = {ticket->document, ticket->first, 0, 0};
@@ -108,7 +115,8 @@ static int sweep_descendants(struct lists l, const belfry_ticket *ticket, struct
     return 1;
 }
 
-/* Pairs each ancestor with the run of descendants that start in it, past the ticket's place. It says whether all found room. */
+/* Pairs each ancestor with the run of descendants that start in it, past the ticket's place. It
+   says whether all found room. */
 static int sweep_ancestors(struct lists l, const belfry_ticket *ticket, struct writing *w)
 {
     const struct node place = {ticket->document, ticket->first, 0, 0};
@@ -122,9 +130,11 @@ static int sweep_ancestors(struct lists l, const belfry_ticket *ticket, struct w
             l.descendant++;
         const struct node *d = l.descendant;
         if (a == resumed && !is_before(&place, resumed))
-            while (d < l.descendants_end && d->document == a->document && d->start <= ticket->second)
+            while (d < l.descendants_end && d->document == a->document &&
+                   d->start <= ticket->second)
                 d++;
-        if (!(ticket->relation ? pair_run(w, a, d, l.descendants_end, 1) : pair_run(w, a, d, l.descendants_end, 0)))
+        if (!(ticket->relation ? pair_run(w, a, d, l.descendants_end, 1)
+                               : pair_run(w, a, d, l.descendants_end, 0)))
             return 0;
     }
     return 1;
@@ -135,7 +145,8 @@ static inline int has_ended(const struct node *earlier, const struct node *n)
     return earlier->document != n->document || earlier->end < n->start;
 }
 
-/* The links of a list that was taken. The last node left on the way to a node's parent is its elder sibling, if it is of the same document. */
+/* The links of a list that was taken. The last node left on the way to a node's parent is its elder
+   sibling, if it is of the same document. */
 static void link_nodes(const struct node *nodes, size_t count, uint32_t (*links)[BELFRY_LINK_WORDS])
 {
     uint32_t open[BELFRY_MOST_LEVELS];

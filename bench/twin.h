@@ -14,7 +14,10 @@
 
 DECLARE_CALLS(PREFIX)
 
-enum { NODE_BYTES = BELFRY_NUMBER_BYTES * BELFRY_NODE_WORDS, ENTRY_BYTES = BELFRY_NUMBER_BYTES * BELFRY_CONTENTS_NUMBERS };
+enum {
+    NODE_BYTES = BELFRY_NUMBER_BYTES * BELFRY_NODE_WORDS,
+    ENTRY_BYTES = BELFRY_NUMBER_BYTES * BELFRY_CONTENTS_NUMBERS
+};
 
 struct node {
     uint32_t document, start, end, level;
@@ -29,14 +32,17 @@ struct lists {
     const struct node *ancestor, *ancestors_end, *descendant, *descendants_end;
 };
 
-static struct lists lists_of(const uint32_t *ancestors, size_t ancestor_words, const uint32_t *descendants, size_t descendant_words)
+static struct lists lists_of(const uint32_t *ancestors, size_t ancestor_words,
+                             const uint32_t *descendants, size_t descendant_words)
 {
     const struct node *a = (const struct node *)ancestors, *d = (const struct node *)descendants;
-    return (struct lists){a, a + ancestor_words / BELFRY_NODE_WORDS, d, d + descendant_words / BELFRY_NODE_WORDS};
+    return (struct lists){a, a + ancestor_words / BELFRY_NODE_WORDS, d,
+                          d + descendant_words / BELFRY_NODE_WORDS};
 }
 
-/* The nodes that are open where a check stands are kept on a stack, the innermost on top, which is the last node passed. Each lies inside the one
-   below it and has a higher level. At the bottom lies one that holds everything. */
+/* The nodes that are open where a check stands are kept on a stack, the innermost on top, which is
+   the last node passed. Each lies inside the one below it and has a higher level. At the bottom
+   lies one that holds everything. */
 enum { STACK_NODES = BELFRY_MOST_LEVELS + 1 };
 
 static const struct node EVERYTHING = {0, 0, UINT32_MAX, 0};
@@ -72,7 +78,8 @@ static inline uint32_t check_node(struct node *stack, struct node **top, const s
         return BELFRY_LEVEL;
     if (n->end < n->start)
         return BELFRY_SPAN;
-    if (n->document < last->document || (n->document == last->document && n->start <= last->start && last > stack))
+    if (n->document < last->document ||
+        (n->document == last->document && n->start <= last->start && last > stack))
         return BELFRY_ORDER;
     return open_node(stack, top, n);
 }
@@ -108,7 +115,8 @@ static belfry_verdict check_list(const uint32_t *list, size_t words)
 
 static inline int is_same(const struct node *x, const struct node *y)
 {
-    return x->document == y->document && x->start == y->start && x->end == y->end && x->level == y->level;
+    return x->document == y->document && x->start == y->start && x->end == y->end &&
+           x->level == y->level;
 }
 
 static inline int is_before(const struct node *x, const struct node *y)
@@ -116,8 +124,8 @@ static inline int is_before(const struct node *x, const struct node *y)
     return x->document < y->document || (x->document == y->document && x->start < y->start);
 }
 
-/* The next node of two lists that both have more, in start order; NULL where each has another at the same start, and where both have the same,
-   it is taken once. */
+/* The next node of two lists that both have more, in start order; NULL where each has another at
+   the same start, and where both have the same, it is taken once. */
 static inline const struct node *next_node(struct lists *l)
 {
     if (is_before(l->ancestor, l->descendant))
@@ -147,7 +155,8 @@ static int are_agreeing(struct lists l)
 }
 
 /* All three passes. */
-static belfry_verdict three_passes(const uint32_t *ancestors, size_t ancestor_words, const uint32_t *descendants, size_t descendant_words)
+static belfry_verdict three_passes(const uint32_t *ancestors, size_t ancestor_words,
+                                   const uint32_t *descendants, size_t descendant_words)
 {
     belfry_verdict verdict = check_list(ancestors, ancestor_words);
     if (verdict.answer != BELFRY_TAKEN)
@@ -157,7 +166,10 @@ static belfry_verdict three_passes(const uint32_t *ancestors, size_t ancestor_wo
         verdict.list = BELFRY_DESCENDANTS;
         return verdict;
     }
-    return verdict_of(are_agreeing(lists_of(ancestors, ancestor_words, descendants, descendant_words)) ? BELFRY_TAKEN : BELFRY_JOINT);
+    return verdict_of(
+        are_agreeing(lists_of(ancestors, ancestor_words, descendants, descendant_words))
+            ? BELFRY_TAKEN
+            : BELFRY_JOINT);
 }
 
 /* A page that is being written: where the next pair goes, and where the room ends. */
@@ -177,7 +189,8 @@ static int sweep_descendants(struct lists l, const belfry_ticket *ticket, struct
 static int sweep_ancestors(struct lists l, const belfry_ticket *ticket, struct writing *w);
 
 /* Writes the links of a list that was taken. */
-static void link_nodes(const struct node *nodes, size_t count, uint32_t (*links)[BELFRY_LINK_WORDS]);
+static void link_nodes(const struct node *nodes, size_t count,
+                       uint32_t (*links)[BELFRY_LINK_WORDS]);
 
 /* What is the same in all forms: the calls. */
 
@@ -186,7 +199,8 @@ belfry_verdict TWIN(check)(const uint32_t *list, size_t words)
     return check_one(list, words);
 }
 
-belfry_verdict TWIN(check_two)(const uint32_t *ancestors, size_t ancestor_words, const uint32_t *descendants, size_t descendant_words)
+belfry_verdict TWIN(check_two)(const uint32_t *ancestors, size_t ancestor_words,
+                               const uint32_t *descendants, size_t descendant_words)
 {
     return check_both(ancestors, ancestor_words, descendants, descendant_words);
 }
@@ -201,8 +215,9 @@ static belfry_ticket ticket_after(belfry_ticket ticket, const struct pair *last)
     return ticket;
 }
 
-belfry_page TWIN(list)(const uint32_t *ancestors, size_t ancestor_words, const uint32_t *descendants, size_t descendant_words,
-                       belfry_ticket ticket, uint32_t *out, size_t out_words)
+belfry_page TWIN(list)(const uint32_t *ancestors, size_t ancestor_words,
+                       const uint32_t *descendants, size_t descendant_words, belfry_ticket ticket,
+                       uint32_t *out, size_t out_words)
 {
     belfry_verdict v = check_both(ancestors, ancestor_words, descendants, descendant_words);
     if (v.answer != BELFRY_TAKEN)
@@ -210,7 +225,8 @@ belfry_page TWIN(list)(const uint32_t *ancestors, size_t ancestor_words, const u
     struct lists lists = lists_of(ancestors, ancestor_words, descendants, descendant_words);
     struct pair *pairs = (struct pair *)out;
     struct writing w = {pairs, pairs + out_words / BELFRY_PAIR_WORDS};
-    int done = ticket.order ? sweep_ancestors(lists, &ticket, &w) : sweep_descendants(lists, &ticket, &w);
+    int done =
+        ticket.order ? sweep_ancestors(lists, &ticket, &w) : sweep_descendants(lists, &ticket, &w);
     if (w.out > pairs)
         ticket = ticket_after(ticket, w.out - 1);
     return (belfry_page){BELFRY_TAKEN, 0, 0, done, w.out - pairs, ticket};
@@ -257,7 +273,8 @@ static uint32_t check_marks(const uint32_t *marks, size_t count, size_t *rows)
 }
 
 /* The rows of marks that were taken. An element's end is filled in at its close. */
-static void write_rows(uint32_t document, const uint32_t *marks, size_t count, uint32_t (*row)[BELFRY_ROW_WORDS])
+static void write_rows(uint32_t document, const uint32_t *marks, size_t count,
+                       uint32_t (*row)[BELFRY_ROW_WORDS])
 {
     uint32_t *ends[BELFRY_MOST_LEVELS];
     size_t depth = 0;
@@ -278,10 +295,12 @@ static void write_rows(uint32_t document, const uint32_t *marks, size_t count, u
     }
 }
 
-belfry_result TWIN(number)(uint32_t document, const uint32_t *marks, size_t mark_words, uint32_t *out, size_t out_words)
+belfry_result TWIN(number)(uint32_t document, const uint32_t *marks, size_t mark_words,
+                           uint32_t *out, size_t out_words)
 {
     size_t rows = 0;
-    uint32_t fault = mark_words > BELFRY_MOST_NODES ? BELFRY_LONG : check_marks(marks, mark_words, &rows);
+    uint32_t fault =
+        mark_words > BELFRY_MOST_NODES ? BELFRY_LONG : check_marks(marks, mark_words, &rows);
     if (fault == BELFRY_TAKEN && out_words / BELFRY_ROW_WORDS < rows)
         fault = BELFRY_ROOM;
     if (fault != BELFRY_TAKEN)
@@ -368,7 +387,8 @@ belfry_body TWIN(book_body)(const uint8_t *book, size_t bytes, uint32_t tag)
     for (uint32_t i = 0; i < b.lists; i++) {
         struct entry entry = entry_at(book, i);
         if (entry.tag == tag)
-            return (belfry_body){BELFRY_TAKEN, 0, 0, entry.offset, NODE_BYTES * (size_t)entry.count};
+            return (belfry_body){BELFRY_TAKEN, 0, 0, entry.offset,
+                                 NODE_BYTES * (size_t)entry.count};
     }
     return (belfry_body){BELFRY_ABSENT, 0, 0, 0, 0};
 }
