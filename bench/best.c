@@ -271,10 +271,10 @@ static inline int is_open_at(const struct node *a, const struct node *n, const s
 }
 
 /* Where the run of descendants ends that begins with one at which the ancestor is open. Most runs
-   are of one. Then a guess is tried, and the descendant before it; then the run is followed by
-   strides. */
-static inline const struct node *run_end(const struct node *a, const struct node *d,
-                                         const struct node *d_end, const struct node *guess)
+   are of one, so the next is tried first, then a guess and the descendant before it. After that the
+   run is followed by strides. */
+static inline const struct node *end_of_run(const struct node *a, const struct node *d,
+                                            const struct node *d_end, const struct node *guess)
 {
     if (!is_open_at(a, ++d, d_end))
         return d;
@@ -294,8 +294,8 @@ static inline const struct node *run_end(const struct node *a, const struct node
 }
 
 /* The descendant of a run to look at after one that isn't one level deeper. Where that one lies in
-   the zone after the ancestor, all in that zone are passed: the rest, the rest but one, or by
-   strides. */
+   the inner zone, which comes after the ancestor, all that lie there are passed: the rest of the
+   run, the rest but one, or what strides reach. */
 static inline const struct node *past_inner(const struct node *d, const struct node *run_end,
                                             const struct node *inner)
 {
@@ -331,8 +331,8 @@ static inline int put_children(struct writing *w, const struct node *a, const st
     return 1;
 }
 
-/* Pairs each ancestor with the run of descendants that start in it. Where the next run begins only
-   moves on. */
+/* Pairs each ancestor with the run of descendants that start in it. Where a run begins only moves
+   on; where it ends is the guess for the next. */
 static int sweep_ancestors(struct lists l, const belfry_ticket *ticket, struct writing *w)
 {
     const struct node *a = first_leader(ticket, l.ancestor, l.ancestors_end), *d = l.descendant;
@@ -345,7 +345,7 @@ static int sweep_ancestors(struct lists l, const belfry_ticket *ticket, struct w
         if (d == d_end)
             return 1;
         if (is_open(a, d)) {
-            guess = run_end(a, d, d_end, guess);
+            guess = end_of_run(a, d, d_end, guess);
             const struct node *first = from_start(d, guess, start);
             if (!(directly ? put_children(w, a, l.ancestors_end, first, guess)
                            : put_row(w, BELFRY_ANCESTOR_ORDER, a, first, guess)))

@@ -356,7 +356,8 @@ def print_printing():
     say("The program as a process. It reads a book, checks it and prints the pairs inside in "
         f"descendant order. The book is that of a shape with at most {PRINTED_NODES:,} nodes in "
         "each list, which is as much as the program takes. Taken off are the instructions on a "
-        "book of two empty lists: those of starting and ending a process.")
+        "book of two empty lists: those of starting and ending a process. A few are the C "
+        "library's, which may take others on another processor.")
     table(("shape", "nodes", "pairs printed", "instructions", "a pair"),
           [printed_row(shape) for shape in ALL_SHAPES])
 
