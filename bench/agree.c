@@ -1,5 +1,6 @@
-/* Whether every twin answers and writes as the archive does: on the six shapes, on lists at the limits and on random small lists, most of which are
-   damaged. agree CASES says how many random ones. A difference is printed and ends it with 1. */
+/* Whether every twin answers and writes as the archive does: on all shapes, on lists at the limits
+   and on random small lists, most of which are damaged. agree CASES says how many random ones. A
+   difference is printed and ends it with 1. */
 #include "codes.h"
 #include "shapes.h"
 #include <stdio.h>
@@ -46,7 +47,7 @@ static void note_answer(struct notes *notes, uint32_t answer, uint32_t list, uin
     note(notes, index);
 }
 
-/* The output before a call; some words behind its end are part of it, which no call may alter. */
+/* The output before a call; some words after its end are part of it, which no call may alter. */
 static void clear_out(size_t words)
 {
     for (size_t i = 0; i < words + BELFRY_PAIR_WORDS; i++)
@@ -75,19 +76,22 @@ static void note_checks(struct notes *notes, const struct code *code, const stru
 {
     belfry_verdict one = code->check(in->ancestors, in->ancestor_words);
     belfry_verdict other = code->check(in->descendants, in->descendant_words);
-    belfry_verdict two = code->check_two(in->ancestors, in->ancestor_words, in->descendants, in->descendant_words);
+    belfry_verdict two =
+        code->check_two(in->ancestors, in->ancestor_words, in->descendants, in->descendant_words);
     note_answer(notes, one.answer, one.list, one.index);
     note_answer(notes, other.answer, other.list, other.index);
     note_answer(notes, two.answer, two.list, two.index);
 }
 
 /* Page after page with one room, from a ticket on, until one is done or nothing is written. */
-static void note_pages(struct notes *notes, const struct code *code, const struct input *in, belfry_ticket ticket, size_t room_words)
+static void note_pages(struct notes *notes, const struct code *code, const struct input *in,
+                       belfry_ticket ticket, size_t room_words)
 {
     belfry_page page;
     do {
         clear_out(room_words);
-        page = code->list(in->ancestors, in->ancestor_words, in->descendants, in->descendant_words, ticket, out, room_words);
+        page = code->list(in->ancestors, in->ancestor_words, in->descendants, in->descendant_words,
+                          ticket, out, room_words);
         note_answer(notes, page.answer, page.list, page.index);
         note(notes, page.done);
         note(notes, page.count);
@@ -121,9 +125,11 @@ static void note_others(struct notes *notes, const struct code *code, const stru
 {
     for (size_t i = 0; i < 2; i++) {
         clear_out(in->rooms[i]);
-        note_written(notes, code->links(in->ancestors, in->ancestor_words, out, in->rooms[i]), in->rooms[i]);
+        note_written(notes, code->links(in->ancestors, in->ancestor_words, out, in->rooms[i]),
+                     in->rooms[i]);
         clear_out(in->rooms[i]);
-        note_written(notes, code->number(in->tag, in->marks, in->mark_words, out, in->rooms[i]), in->rooms[i]);
+        note_written(notes, code->number(in->tag, in->marks, in->mark_words, out, in->rooms[i]),
+                     in->rooms[i]);
     }
     belfry_book book = code->book_check(in->book, in->book_bytes);
     belfry_body body = code->book_body(in->book, in->book_bytes, in->tag);
@@ -148,12 +154,14 @@ static void compare(const struct input *in, const char *name, unsigned long numb
     note_all(&expected, &codes[0], in);
     for (size_t i = 1; i < CODES; i++) {
         note_all(&found, &codes[i], in);
-        if (found.count == expected.count && memcmp(found.note, expected.note, found.count * sizeof found.note[0]) == 0)
+        if (found.count == expected.count &&
+            memcmp(found.note, expected.note, found.count * sizeof found.note[0]) == 0)
             continue;
         size_t at = 0;
         while (at < found.count && at < expected.count && found.note[at] == expected.note[at])
             at++;
-        printf("%s differs from %s in %s %lu at number %zu of what it answered\n", codes[i].name, codes[0].name, name, number, at);
+        printf("%s differs from %s in %s %lu at number %zu of what it answered\n", codes[i].name,
+               codes[0].name, name, number, at);
         exit(1);
     }
 }
@@ -165,7 +173,12 @@ static uint32_t below(uint32_t limit)
     return random_number(&state) % limit;
 }
 
-enum { MOST_SMALL = 24, SMALL_MARKS = 200, SMALL_LISTS = 2, CONTENTS_BYTES = BELFRY_BOOK_BYTES(SMALL_LISTS, 0) };
+enum {
+    MOST_SMALL = 24,
+    SMALL_MARKS = 200,
+    SMALL_LISTS = 2,
+    CONTENTS_BYTES = BELFRY_BOOK_BYTES(SMALL_LISTS, 0)
+};
 
 /* A random case. */
 struct small {
@@ -174,7 +187,8 @@ struct small {
     uint8_t book[BELFRY_BOOK_BYTES(SMALL_LISTS, SMALL_LISTS * MOST_SMALL) + 1];
 };
 
-static void put_node(struct small *s, size_t list, uint32_t document, uint32_t start, uint32_t end, uint32_t level)
+static void put_node(struct small *s, size_t list, uint32_t document, uint32_t start, uint32_t end,
+                     uint32_t level)
 {
     uint32_t node[BELFRY_NODE_WORDS] = {document, start, end, level};
     if (s->words[list] == BELFRY_NODE_WORDS * MOST_SMALL)
@@ -183,11 +197,13 @@ static void put_node(struct small *s, size_t list, uint32_t document, uint32_t s
     s->words[list] += BELFRY_NODE_WORDS;
 }
 
-/* A random forest between two positions: each of its nodes goes to one list, to both or to none, and levels may jump. */
+/* A random forest between two positions: each of its nodes goes to one list, to both or to none,
+   and levels may jump. */
 static void grow(struct small *s, uint32_t document, uint32_t from, uint32_t to, uint32_t level)
 {
     while (from <= to && to - from < UINT32_MAX / 2 && level <= BELFRY_MOST_LEVELS) {
-        uint32_t start = from + below(to - from + 1) / 2, end = start + below(to - start + 1), lists = below(4);
+        uint32_t start = from + below(to - from + 1) / 2, end = start + below(to - start + 1);
+        uint32_t lists = below(4);
         for (size_t list = 0; list < SMALL_LISTS; list++)
             if (lists >> list & 1)
                 put_node(s, list, document, start, end, level);
@@ -201,7 +217,8 @@ static void grow(struct small *s, uint32_t document, uint32_t from, uint32_t to,
 
 static void fill_lists(struct small *s)
 {
-    uint32_t width = 1 + below(24), from = below(4) ? below(3) : UINT32_MAX - width, document = below(4) ? below(3) : UINT32_MAX - 2;
+    uint32_t width = 1 + below(24), from = below(4) ? below(3) : UINT32_MAX - width;
+    uint32_t document = below(4) ? below(3) : UINT32_MAX - 2;
     s->words[0] = s->words[1] = 0;
     for (uint32_t i = below(3); i < 3; i++)
         grow(s, document + i, from, from + width, below(4) ? 1 : 58 + below(6));
@@ -222,17 +239,21 @@ static void damage_list(uint32_t *list, size_t *words)
         list[at] += below(5) - 2;
 }
 
-/* Marks that open, close and stand for texts at random, most often all closed at the end; some have one mark changed. */
+/* Marks that open, close and stand for texts at random, most often all closed at the end; some have
+   one mark changed. */
 static void fill_marks(struct small *s)
 {
-    static const uint32_t others[] = {BELFRY_CLOSE, 1, BELFRY_TEXT - 1, BELFRY_TEXT, BELFRY_TEXT + 1, UINT32_MAX};
+    static const uint32_t others[] = {BELFRY_CLOSE,    1,         BELFRY_TEXT - 1, BELFRY_TEXT,
+                                      BELFRY_TEXT + 1, UINT32_MAX};
     size_t depth = 0, wanted = below(24);
     s->marks = 0;
     for (size_t i = below(8) ? 1 : 60 + below(6); i > 0; i--, depth++)
         s->mark[s->marks++] = 1 + below(3);
     for (size_t i = 0; i < wanted && depth > 0; i++) {
         uint32_t choice = below(3);
-        s->mark[s->marks++] = choice == 0 ? BELFRY_CLOSE : choice == 1 ? BELFRY_TEXT : 1 + below(BELFRY_TEXT - 1);
+        s->mark[s->marks++] = choice == 0   ? BELFRY_CLOSE
+                              : choice == 1 ? BELFRY_TEXT
+                                            : 1 + below(BELFRY_TEXT - 1);
         depth += choice == 2 ? 1 : choice == 0 ? -1 : 0;
     }
     for (; depth > 0; depth--)
@@ -249,7 +270,8 @@ static void put_number(uint8_t *at, uint32_t number)
         at[i] = number >> 8 * i;
 }
 
-/* The book of both lists under the tags of zones and samples; some have a byte changed, are cut short or go on. */
+/* The book of both lists under the tags of zones and samples; some have a byte changed, are cut
+   short or go on. */
 static void fill_book(struct small *s)
 {
     size_t end = CONTENTS_BYTES;
@@ -281,10 +303,20 @@ static void compare_random(unsigned long number)
     fill_marks(&s);
     fill_book(&s);
     struct input in = {
-        .ancestors = s.list[0], .ancestor_words = s.words[0], .descendants = s.list[1], .descendant_words = s.words[1],
-        .marks = s.mark, .mark_words = s.marks, .book = s.book, .book_bytes = s.bytes, .tag = 1 + below(4),
+        .ancestors = s.list[0],
+        .ancestor_words = s.words[0],
+        .descendants = s.list[1],
+        .descendant_words = s.words[1],
+        .marks = s.mark,
+        .mark_words = s.marks,
+        .book = s.book,
+        .book_bytes = s.bytes,
+        .tag = 1 + below(4),
         .rooms = {below(200), below(40)},
-        .ticket = {.placed = below(4), .document = below(3), .first = below(24), .second = below(24)},
+        .ticket = {.placed = below(4),
+                   .document = below(3),
+                   .first = below(24),
+                   .second = below(24)},
     };
     compare(&in, "random case", number);
 }
@@ -296,29 +328,46 @@ static void compare_shape(const char *name)
     build_shape(&lists, name, BELFRY_MOST_NODES);
     build_document(&document, name, BELFRY_MOST_NODES);
     struct input in = {
-        .ancestors = lists.zone, .ancestor_words = BELFRY_NODE_WORDS * lists.zones, .descendants = lists.sample,
-        .descendant_words = BELFRY_NODE_WORDS * lists.samples, .marks = document.mark, .mark_words = document.marks,
-        .book = book, .book_bytes = sizeof book, .rooms = {BELFRY_PAIR_WORDS * (MOST_PAIRS - 1), BELFRY_PAIR_WORDS * 5000 + 3},
-        .ticket = {.placed = 1, .document = 1, .first = lists.zone[BELFRY_NODE_WORDS * (lists.zones / 2) + 1],
+        .ancestors = lists.zone,
+        .ancestor_words = BELFRY_NODE_WORDS * lists.zones,
+        .descendants = lists.sample,
+        .descendant_words = BELFRY_NODE_WORDS * lists.samples,
+        .marks = document.mark,
+        .mark_words = document.marks,
+        .book = book,
+        .book_bytes = sizeof book,
+        .rooms = {BELFRY_PAIR_WORDS * (MOST_PAIRS - 1), BELFRY_PAIR_WORDS * 5000 + 3},
+        .ticket = {.placed = 1,
+                   .document = lists.zone[BELFRY_NODE_WORDS * (lists.zones / 2)],
+                   .first = lists.zone[BELFRY_NODE_WORDS * (lists.zones / 2) + 1],
                    .second = lists.zone[BELFRY_NODE_WORDS * (lists.zones / 3) + 1]},
     };
     compare(&in, name, BELFRY_MOST_NODES);
 }
 
-/* Lists and marks of as many words as are given, whose nodes are siblings, or a nest as deep as levels go. */
+/* Lists and marks of as many words as are given, whose nodes are siblings, or a nest as deep as
+   levels go. */
 static void compare_limit(size_t words, size_t mark_words, int nested)
 {
     static uint32_t list[BELFRY_NODE_WORDS * (BELFRY_MOST_NODES + 1)], mark[BELFRY_MOST_NODES + 1];
     static uint8_t book[CONTENTS_BYTES];
     for (uint32_t i = 0; i < words / BELFRY_NODE_WORDS; i++) {
-        uint32_t node[BELFRY_NODE_WORDS] = {5, 1 + 2 * i, nested ? UINT32_MAX - i : 2 + 2 * i, nested ? 1 + i : 1};
+        uint32_t node[BELFRY_NODE_WORDS] = {5, 1 + 2 * i, nested ? UINT32_MAX - i : 2 + 2 * i,
+                                            nested ? 1 + i : 1};
         memcpy(&list[BELFRY_NODE_WORDS * i], node, sizeof node);
     }
     for (size_t i = 0; i < mark_words; i++)
         mark[i] = i == 0 ? 1 : i == mark_words - 1 ? BELFRY_CLOSE : BELFRY_TEXT;
     struct input in = {
-        .ancestors = list, .ancestor_words = words, .descendants = list, .descendant_words = words, .marks = mark, .mark_words = mark_words,
-        .book = book, .book_bytes = sizeof book, .rooms = {BELFRY_ROW_WORDS * (BELFRY_MOST_NODES + 1), BELFRY_ROW_WORDS * (mark_words - 2)},
+        .ancestors = list,
+        .ancestor_words = words,
+        .descendants = list,
+        .descendant_words = words,
+        .marks = mark,
+        .mark_words = mark_words,
+        .book = book,
+        .book_bytes = sizeof book,
+        .rooms = {BELFRY_ROW_WORDS * (BELFRY_MOST_NODES + 1), BELFRY_ROW_WORDS * (mark_words - 2)},
     };
     compare(&in, "the limits", words);
 }
@@ -351,7 +400,9 @@ int main(int argc, char **argv)
         compare_limit(BELFRY_NODE_WORDS * nodes, nodes, 1);
     for (unsigned long i = 0; i < cases; i++)
         compare_random(i);
-    printf("%d twins answered and wrote as the archive did: %d shapes, 5 cases at the limits, %lu random cases.\n", CODES - 1, SHAPES, cases);
+    printf("%d twins answered and wrote as the archive did: %d shapes, 5 cases at the limits, %lu "
+           "random cases.\n",
+           CODES - 1, SHAPES, cases);
     printf("Answers by number:");
     for (size_t i = 0; i < ANSWERS; i++)
         printf(" %zu:%lu", i, seen[i]);

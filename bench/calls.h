@@ -1,4 +1,5 @@
-/* The calls that the archive and each build of the twin have. The archive's are in its header; a twin's have the same types and another prefix. */
+/* The calls that the archive and each build of the twin have. The archive's are in its header; a
+   twin's have the same types and another prefix. */
 #ifndef CALLS_H
 #define CALLS_H
 
@@ -6,11 +7,15 @@
 
 #define TWIN_CALLS(prefix) \
     belfry_verdict prefix##_check(const uint32_t *list, size_t words); \
-    belfry_verdict prefix##_check_two(const uint32_t *ancestors, size_t ancestor_words, const uint32_t *descendants, size_t descendant_words); \
-    belfry_page prefix##_list(const uint32_t *ancestors, size_t ancestor_words, const uint32_t *descendants, size_t descendant_words, \
+    belfry_verdict prefix##_check_two(const uint32_t *ancestors, size_t ancestor_words, \
+                                      const uint32_t *descendants, size_t descendant_words); \
+    belfry_page prefix##_list(const uint32_t *ancestors, size_t ancestor_words, \
+                              const uint32_t *descendants, size_t descendant_words, \
                               belfry_ticket ticket, uint32_t *out, size_t out_words); \
-    belfry_result prefix##_links(const uint32_t *list, size_t words, uint32_t *out, size_t out_words); \
-    belfry_result prefix##_number(uint32_t document, const uint32_t *marks, size_t mark_words, uint32_t *out, size_t out_words); \
+    belfry_result prefix##_links(const uint32_t *list, size_t words, uint32_t *out, \
+                                 size_t out_words); \
+    belfry_result prefix##_number(uint32_t document, const uint32_t *marks, size_t mark_words, \
+                                  uint32_t *out, size_t out_words); \
     belfry_book prefix##_book_check(const uint8_t *book, size_t bytes); \
     belfry_body prefix##_book_body(const uint8_t *book, size_t bytes, uint32_t tag);
 

@@ -3,11 +3,14 @@
 
 TWIN_CALLS(twin_clang_three)
 TWIN_CALLS(twin_clang_fused)
+TWIN_CALLS(twin_clang_best)
 TWIN_CALLS(twin_gcc_three)
 TWIN_CALLS(twin_gcc_fused)
+TWIN_CALLS(twin_gcc_best)
 
 #define CODE(name, prefix) \
-    {name, prefix##_check, prefix##_check_two, prefix##_list, prefix##_links, prefix##_number, prefix##_book_check, prefix##_book_body}
+    {name,            prefix##_check,  prefix##_check_two,  prefix##_list, \
+     prefix##_links,  prefix##_number, prefix##_book_check, prefix##_book_body}
 
 const struct code codes[CODES] = {
 #ifndef WITHOUT_ARCHIVE
@@ -15,8 +18,10 @@ const struct code codes[CODES] = {
 #endif
     CODE("clang-three", twin_clang_three),
     CODE("clang-fused", twin_clang_fused),
+    CODE("clang-best", twin_clang_best),
     CODE("gcc-three", twin_gcc_three),
     CODE("gcc-fused", twin_gcc_fused),
+    CODE("gcc-best", twin_gcc_best),
 };
 
 const struct code *code_named(const char *name)

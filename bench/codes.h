@@ -1,24 +1,28 @@
-/* The codes that are measured side by side: the archive and four builds of the twin. The archive is left out where WITHOUT_ARCHIVE is defined, for
-   a processor that it has no code for. */
+/* The codes that are measured side by side: the archive, and three forms of the twin by two
+   compilers. The archive is left out where WITHOUT_ARCHIVE is defined, for a processor that it has
+   no code for. */
 #ifndef CODES_H
 #define CODES_H
 
 #include "calls.h"
 
 #ifdef WITHOUT_ARCHIVE
-enum { CODES = 4 };
+enum { CODES = 6 };
 #else
-enum { CODES = 5 };
+enum { CODES = 7 };
 #endif
 
 struct code {
     const char *name;
     belfry_verdict (*check)(const uint32_t *list, size_t words);
-    belfry_verdict (*check_two)(const uint32_t *ancestors, size_t ancestor_words, const uint32_t *descendants, size_t descendant_words);
-    belfry_page (*list)(const uint32_t *ancestors, size_t ancestor_words, const uint32_t *descendants, size_t descendant_words,
-                        belfry_ticket ticket, uint32_t *out, size_t out_words);
+    belfry_verdict (*check_two)(const uint32_t *ancestors, size_t ancestor_words,
+                                const uint32_t *descendants, size_t descendant_words);
+    belfry_page (*list)(const uint32_t *ancestors, size_t ancestor_words,
+                        const uint32_t *descendants, size_t descendant_words, belfry_ticket ticket,
+                        uint32_t *out, size_t out_words);
     belfry_result (*links)(const uint32_t *list, size_t words, uint32_t *out, size_t out_words);
-    belfry_result (*number)(uint32_t document, const uint32_t *marks, size_t mark_words, uint32_t *out, size_t out_words);
+    belfry_result (*number)(uint32_t document, const uint32_t *marks, size_t mark_words,
+                            uint32_t *out, size_t out_words);
     belfry_book (*book_check)(const uint8_t *book, size_t bytes);
     belfry_body (*book_body)(const uint8_t *book, size_t bytes, uint32_t tag);
 };

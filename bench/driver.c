@@ -1,11 +1,17 @@
 /* The bench's figures, one at a time.
 
-   driver count CODE MEASURE SHAPE NODES TIMES   runs a measure so many times and prints nothing: the instructions of a run with one time less
-                                                 those of a run with none are those of the measure
-   driver time MEASURE SHAPE NODES               prints each code and its median time in nanoseconds, the codes taking turns
-   driver sizes SHAPE NODES                      prints how many zones and samples the shape has, how many pairs inside and directly inside, and
-                                                 how many marks the document that is numbered
-   driver lists SHAPE NODES                      prints the zones, an empty line and the samples, a node to a line */
+   driver count CODE MEASURE SHAPE NODES TIMES
+       runs a measure so many times and prints nothing: the instructions of a run with one time less
+       those of a run with none are those of the measure
+   driver time MEASURE SHAPE NODES
+       prints each code and its median time in nanoseconds, the codes taking turns
+   driver sizes SHAPE NODES
+       prints how many zones and samples the shape has, how many pairs inside and directly inside,
+       and how many marks the document that is numbered
+   driver lists SHAPE NODES
+       prints the zones, an empty line and the samples, a node to a line
+   driver book SHAPE NODES
+       writes the book of both lists */
 #include "measures.h"
 #include "timing.h"
 #include <stdio.h>
@@ -17,7 +23,8 @@ static struct measure measure;
 static void prepare(const char *name, const char *shape_name, const char *nodes)
 {
     size_t count = strtoul(nodes, NULL, 10);
-    if (count == 0 || count > BELFRY_MOST_NODES || !prepare_measure(&measure, name, shape_name, count))
+    if (count < 2 || count > BELFRY_MOST_NODES ||
+        !prepare_measure(&measure, name, shape_name, count))
         fail("no such measure, shape or number of nodes");
 }
 
@@ -54,7 +61,8 @@ static void print_sizes(const char *shape_name, const char *nodes)
 {
     prepare("number", shape_name, nodes);
     size_t marks = shape.marks;
-    size_t inside = pairs_of("inside-descendant-all", shape_name, nodes), directly = pairs_of("directly-descendant-all", shape_name, nodes);
+    size_t inside = pairs_of("inside-descendant-all", shape_name, nodes),
+           directly = pairs_of("directly-descendant-all", shape_name, nodes);
     printf("%zu %zu %zu %zu %zu\n", shape.zones, shape.samples, inside, directly, marks);
 }
 
@@ -72,6 +80,13 @@ static void print_lists(const char *shape_name, const char *nodes)
     print_list(shape.sample, shape.samples);
 }
 
+static void write_book(const char *shape_name, const char *nodes)
+{
+    prepare("book", shape_name, nodes);
+    if (fwrite(book, 1, book_bytes, stdout) != book_bytes)
+        fail("the book can't be written");
+}
+
 int main(int argc, char **argv)
 {
     if (argc == 7 && strcmp(argv[1], "count") == 0) {
@@ -84,7 +99,10 @@ int main(int argc, char **argv)
         print_sizes(argv[2], argv[3]);
     else if (argc == 4 && strcmp(argv[1], "lists") == 0)
         print_lists(argv[2], argv[3]);
+    else if (argc == 4 && strcmp(argv[1], "book") == 0)
+        write_book(argv[2], argv[3]);
     else
-        fail("usage: driver count CODE MEASURE SHAPE NODES TIMES | time MEASURE SHAPE NODES | sizes SHAPE NODES | lists SHAPE NODES");
+        fail("usage: driver count CODE MEASURE SHAPE NODES TIMES | time MEASURE SHAPE NODES | "
+             "sizes SHAPE NODES | lists SHAPE NODES | book SHAPE NODES");
     return 0;
 }

@@ -1,52 +1,84 @@
-"""The instructions that a run executes, counted; one figure is printed by this file itself, as bench/figure says."""
+"""The instructions that a run executes, counted; one figure is printed by this file itself, as
+bench/figure says."""
 import os
 import re
+import struct
 import subprocess
 import sys
 from functools import lru_cache
 
 MADE = os.environ["BENCH_MADE"]
 EMULATOR = os.environ["BELFRYCHEST_EMULATOR"]
-CODES = ("archive", "clang-three", "clang-fused", "gcc-three", "gcc-fused")
+CODES = ("archive", "clang-three", "clang-fused", "clang-best", "gcc-three", "gcc-fused",
+         "gcc-best")
 SHAPES = ("flat", "nests", "between", "random", "eight-zones", "few-samples")
+ALL_SHAPES = (*SHAPES, "documents", "twice", "fields", "side")
 MOST_NODES = 4096
+
+# The program takes a book of so many bytes, which has room for so many nodes in each of two lists.
+BOOK_BYTES, CONTENTS_BYTES, NODE_BYTES = 61440, 28, 16
+PRINTED_NODES = (BOOK_BYTES - CONTENTS_BYTES) // NODE_BYTES // 2
+EMPTY_BOOK = struct.pack("<7I", 2, 2, CONTENTS_BYTES, 0, 3, CONTENTS_BYTES, 0)
 
 
 def emulated(program, *words, options=()):
-    """The command that runs a program for x86-64 here, under the emulator where that is needed, with options of it."""
-    return ([EMULATOR, *options] if EMULATOR else []) + [f"{MADE}/{program}", *map(str, words)]
+    """The command that runs a built program for x86-64 from its folder, under the emulator where
+    that is needed, with options of it."""
+    return ([EMULATOR, *options] if EMULATOR else []) + [f"./{program}", *map(str, words)]
 
 
-def run(program, *words):
+def run(program, *words, text=True):
     """What a program for x86-64 prints."""
-    return subprocess.run(emulated(program, *words), check=True, stdout=subprocess.PIPE, text=True).stdout
+    return subprocess.run(emulated(program, *words), cwd=MADE, check=True, stdout=subprocess.PIPE,
+                          text=text).stdout
+
+
+def run_counted(program, *words, given=b""):
+    """How many instructions a program for x86-64 executes from its start to its end, and what it
+    prints: as callgrind counts them where the machine is one, else as bench/count.c does under the
+    emulator. Its environment is empty and its path always the same, since both lie on its stack and
+    move what comes after them."""
+    if EMULATOR:
+        command, line = emulated(program, *words, options=("-plugin", "./count.so")), rb"^(\d+)$"
+    else:
+        callgrind = ("valgrind", "--tool=callgrind", "--callgrind-out-file=/dev/null")
+        command = [*callgrind, *emulated(program, *words)]
+        line = rb"Collected : (\d+)"
+    ran = subprocess.run(command, cwd=MADE, env={}, capture_output=True, input=given)
+    found = re.findall(line, ran.stderr, re.M)
+    if ran.returncode != 0 or len(found) != 1:
+        raise SystemExit(f"{program} {words} was not counted: {ran.stderr.decode()}")
+    return int(found[0]), ran.stdout
 
 
 def counted(program, *words):
-    """How many instructions a program for x86-64 executes from its start to its end: as callgrind counts them where the machine is one, else as
-    bench/count.c does under the emulator."""
-    if EMULATOR:
-        command, line = emulated(program, *words, options=("-plugin", f"{MADE}/count.so")), r"^(\d+)$"
-    else:
-        command, line = ["valgrind", "--tool=callgrind", "--callgrind-out-file=/dev/null", *emulated(program, *words)], r"Collected : (\d+)"
-    said = subprocess.run(command, capture_output=True, text=True)
-    found = re.findall(line, said.stderr, re.M)
-    if said.returncode != 0 or len(found) != 1:
-        raise SystemExit(f"{program} {words} was not counted: {said.stderr}")
-    return int(found[0])
+    return run_counted(program, *words)[0]
+
+
+def printing(shape, nodes):
+    """The instructions of the printing program on the book of a shape, less those on a book of two
+    empty lists, which are those of starting and ending a process."""
+    taken, printed = run_counted("belfry", given=run("driver", "book", shape, nodes, text=False))
+    if not printed.endswith(b"\npairs %d\n" % sizes(shape, nodes)["inside"]):
+        raise SystemExit(f"the program printed something else of {shape}: {printed[-40:]}")
+    return taken - run_counted("belfry", given=EMPTY_BOOK)[0]
 
 
 @lru_cache(maxsize=None)
 def instructions(code, measure, shape, nodes=MOST_NODES):
-    """The instructions of a measure: of a run that makes it once, less those of a run that makes it not at all."""
-    once, never = (counted("driver", "count", code, measure, shape, nodes, times) for times in (1, 0))
+    """The instructions of a measure: of a run that makes it once, less those of a run that makes it
+    not at all."""
+    if measure == "print":
+        return printing(shape, min(int(nodes), PRINTED_NODES))
+    once, never = (counted("driver", "count", code, measure, shape, nodes, made) for made in (1, 0))
     return once - never
 
 
 @lru_cache(maxsize=None)
 def sizes(shape, nodes=MOST_NODES):
     """The shape's sizes by what they count."""
-    return dict(zip(("zones", "samples", "inside", "directly", "marks"), map(int, run("driver", "sizes", shape, nodes).split())))
+    counts = map(int, run("driver", "sizes", shape, nodes).split())
+    return dict(zip(("zones", "samples", "inside", "directly", "marks"), counts))
 
 
 def unit_of(measure):
@@ -55,9 +87,11 @@ def unit_of(measure):
 
 def units(measure, shape, nodes=MOST_NODES):
     """How many nodes, marks or pairs the measure's cost is shared by."""
+    if measure == "print":
+        return sizes(shape, min(int(nodes), PRINTED_NODES))["inside"]
     size = sizes(shape, nodes)
-    counts = {"check": size["zones"] + size["samples"], "links": size["zones"], "number": size["marks"]}
-    counts["book"] = counts["check"]
+    both = size["zones"] + size["samples"]
+    counts = {"check": both, "book": both, "links": size["zones"], "number": size["marks"]}
     return counts[measure] if measure in counts else size[measure.split("-")[0]]
 
 

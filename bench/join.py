@@ -1,4 +1,5 @@
-"""The same listing in Python: all pairs tested, and a sweep along the sorted lists, timed. Nothing is checked."""
+"""The same listing in Python: all pairs tested, and a sweep along the sorted lists, timed. Nothing
+is checked."""
 import time
 from statistics import median
 
@@ -47,10 +48,11 @@ BY_ORDER = {"descendant": (sweep_samples, all_pairs), "ancestor": (sweep_zones,)
 
 
 def timed(join, zones, samples, pairs):
-    """The median processor time in nanoseconds of a join that has to find so many pairs: of a few rounds at least, and of more until a second
-    has passed."""
+    """The median processor time in nanoseconds of a join that has to find so many pairs: of a few
+    rounds at least, and of more until a second has passed."""
     times = []
-    while len(times) < LEAST_ROUNDS or (len(times) < MOST_ROUNDS and sum(times) < ENOUGH_NANOSECONDS):
+    while (len(times) < LEAST_ROUNDS
+           or (len(times) < MOST_ROUNDS and sum(times) < ENOUGH_NANOSECONDS)):
         before = time.process_time_ns()
         found = len(join(zones, samples))
         times.append(time.process_time_ns() - before)

@@ -7,8 +7,8 @@ enum { BOOK_LISTS = 2, OUT_WORDS = MOST_PAIRS * BELFRY_PAIR_WORDS };
 
 struct shape shape;
 static uint32_t out[OUT_WORDS];
-static uint8_t book[BELFRY_BOOK_BYTES(BOOK_LISTS, BOOK_LISTS * BELFRY_MOST_NODES)];
-static size_t book_bytes;
+uint8_t book[BELFRY_BOOK_BYTES(BOOK_LISTS, BOOK_LISTS * BELFRY_MOST_NODES)];
+size_t book_bytes;
 
 void fail(const char *why)
 {
@@ -16,7 +16,7 @@ void fail(const char *why)
     exit(2);
 }
 
-/* Puts numbers behind the book's end, as they lie in memory: x86-64 keeps them as a book does. */
+/* Puts numbers after the book's last, as they lie in memory: x86-64 keeps them as a book does. */
 static void put_numbers(const uint32_t *numbers, size_t count)
 {
     memcpy(book + book_bytes, numbers, count * sizeof numbers[0]);
@@ -26,8 +26,11 @@ static void put_numbers(const uint32_t *numbers, size_t count)
 /* The book of the shape's two lists. */
 static void build_book(void)
 {
-    uint32_t zones_at = BELFRY_BOOK_BYTES(BOOK_LISTS, 0), samples_at = BELFRY_BOOK_BYTES(BOOK_LISTS, shape.zones);
-    uint32_t contents[] = {BOOK_LISTS, ZONE_TAG, zones_at, shape.zones, SAMPLE_TAG, samples_at, shape.samples};
+    uint32_t zones_at = BELFRY_BOOK_BYTES(BOOK_LISTS, 0);
+    uint32_t samples_at = BELFRY_BOOK_BYTES(BOOK_LISTS, shape.zones);
+    uint32_t contents[] = {
+        BOOK_LISTS, ZONE_TAG, zones_at, shape.zones, SAMPLE_TAG, samples_at, shape.samples,
+    };
     book_bytes = 0;
     put_numbers(contents, sizeof contents / sizeof contents[0]);
     put_numbers(shape.zone, BELFRY_NODE_WORDS * shape.zones);
@@ -40,14 +43,16 @@ static int prepare_listing(struct measure *measure, const char *name)
     if (sscanf(name, "%15[^-]-%15[^-]-%15s", relation, order, room) != 3)
         return 0;
     measure->kind = LISTING;
-    measure->ticket = (belfry_ticket){.relation = strcmp(relation, "inside") != 0, .order = strcmp(order, "descendant") != 0};
+    measure->ticket = (belfry_ticket){.relation = strcmp(relation, "inside") != 0,
+                                      .order = strcmp(order, "descendant") != 0};
     measure->room = strcmp(room, "all") == 0 ? MOST_PAIRS : strtoul(room, NULL, 10);
     return 0 < measure->room && measure->room <= MOST_PAIRS;
 }
 
 int prepare_measure(struct measure *measure, const char *name, const char *shape_name, size_t nodes)
 {
-    static const char *const names[] = {[CHECK] = "check", [LINKS] = "links", [NUMBER] = "number", [BOOK] = "book"};
+    static const char *const names[] = {
+        [CHECK] = "check", [LINKS] = "links", [NUMBER] = "number", [BOOK] = "book"};
     int named = 0;
     for (enum kind kind = CHECK; kind <= BOOK; kind++)
         if (names[kind] && strcmp(names[kind], name) == 0) {
@@ -70,7 +75,8 @@ static size_t list_all(const struct measure *measure, const struct code *code)
     belfry_ticket ticket = measure->ticket;
     size_t pairs = 0;
     for (;;) {
-        belfry_page page = code->list(shape.zone, BELFRY_NODE_WORDS * shape.zones, shape.sample, BELFRY_NODE_WORDS * shape.samples, ticket, out,
+        belfry_page page = code->list(shape.zone, BELFRY_NODE_WORDS * shape.zones, shape.sample,
+                                      BELFRY_NODE_WORDS * shape.samples, ticket, out,
                                       BELFRY_PAIR_WORDS * measure->room);
         if (page.answer != 0)
             fail("a listing was refused");
@@ -90,7 +96,8 @@ static size_t taken(uint32_t answer, size_t count)
 
 static size_t check_two(const struct code *code)
 {
-    belfry_verdict verdict = code->check_two(shape.zone, BELFRY_NODE_WORDS * shape.zones, shape.sample, BELFRY_NODE_WORDS * shape.samples);
+    belfry_verdict verdict = code->check_two(shape.zone, BELFRY_NODE_WORDS * shape.zones,
+                                             shape.sample, BELFRY_NODE_WORDS * shape.samples);
     return taken(verdict.answer, shape.zones + shape.samples);
 }
 

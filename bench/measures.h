@@ -9,22 +9,28 @@ enum { MOST_PAIRS = 262144 };
 
 enum kind { CHECK, LISTING, LINKS, NUMBER, BOOK };
 
-/* A measure that was prepared: the shape's words and bytes, and the output, lie in memory that all measures share. */
+/* A measure that was prepared: the shape's words and bytes, and the output, lie in memory that all
+   measures share. */
 struct measure {
     enum kind kind;
     belfry_ticket ticket;
     size_t room;
 };
 
-/* The sizes of the shape that was prepared last. */
+/* The shape that was prepared last, and the book of its two lists. */
 extern struct shape shape;
+extern uint8_t book[];
+extern size_t book_bytes;
 
-/* Prepares a measure by its name on a shape with at most so many nodes in each list, or on a document with at most so many marks; it answers 0
-   where there is no such measure or shape. The names are check, links, number, book, and RELATION-ORDER-ROOM with the relation inside or
+/* Prepares a measure by its name on a shape with at most so many nodes in each list, or on a
+   document with at most so many marks; it answers 0 where there is no such measure or shape. The
+   names are check, links, number, book, and RELATION-ORDER-ROOM with the relation inside or
    directly, the order descendant or ancestor, and as room the pairs of a page, or all. */
-int prepare_measure(struct measure *measure, const char *name, const char *shape_name, size_t nodes);
+int prepare_measure(struct measure *measure, const char *name, const char *shape_name,
+                    size_t nodes);
 
-/* Runs the measure once, and answers how many pairs, nodes, link triples, rows or lists came of it. A refusal ends the program. */
+/* Runs the measure once, and answers how many pairs, nodes, link triples, rows or lists came of it.
+   A refusal ends the program. */
 size_t run_measure(const struct measure *measure, const struct code *code);
 
 /* Ends the program with a message. */

@@ -6,19 +6,27 @@ import platform
 import subprocess
 import sys
 import textwrap
+from functools import lru_cache, partial
 from pathlib import Path
 
 import join
-from figures import CODES, EMULATOR, MADE, MOST_NODES, SHAPES, counted, emulated, instructions, run, sizes, units
+from figures import (ALL_SHAPES, CODES, EMULATOR, MADE, MOST_NODES, PRINTED_NODES, SHAPES, counted,
+                     emulated, instructions, run, sizes, units)
 
 CASES = 100_000
-WIDTH = 150
+WIDTH = 100
 ORDERS = ("descendant", "ancestor")
 LISTINGS = ("inside-descendant", "inside-ancestor", "directly-descendant", "directly-ancestor")
-GROWTH = (64, 256, 1024, MOST_NODES)
-CODES_HERE = CODES[1:] if EMULATOR else CODES
-THREE_PASSES = ("clang-three", "gcc-three")
-MOST_CHECK, MOST_SWEEP = 80, {"inside-descendant": 12, "inside-ancestor": 16}
+PAGE_ROOMS = (256, MOST_NODES)
+GROWTH = (64, 1024, MOST_NODES)
+TWINS = CODES[1:]
+CODES_HERE = TWINS if EMULATOR else CODES
+OTHER_SHAPES = ALL_SHAPES[len(SHAPES):]
+
+# The bars: the most that the archive may take beside a twin, for a node and of the stack.
+MOST_RATIOS = {"clang-three": 0.95, "gcc-three": 0.95, "clang-fused": 1.15}
+MOST_SHARP, SHARP_LISTING, SHARP_SHAPES = 0.5, "directly-ancestor", ("nests", "between")
+MOST_CHECK, MOST_LINKS, MOST_STACK = 80, 80, 2584
 
 SHAPE_WORDS = {
     "flat": "zones side by side, a sample in each",
@@ -27,6 +35,11 @@ SHAPE_WORDS = {
     "random": "a random tree, at most 20 deep, half of it zones and half samples",
     "eight-zones": "4,096 zones side by side, eight of which hold all samples",
     "few-samples": "4,096 zones side by side, sixteen of which hold a sample",
+    "documents": "4,096 documents of a zone with a sample in it",
+    "twice": "the random tree's zones, given as zones and as samples",
+    "fields": "63 fields: a zone that holds 64 zones side by side, a sample in each",
+    "side": "33 nests of 62 zones; in each zone a small zone with a sample comes before the next "
+            "zone, and 62 samples end the innermost",
 }
 
 
@@ -37,6 +50,12 @@ def progress(what):
 def say(text):
     """A paragraph."""
     print("\n" + textwrap.fill(text, WIDTH, break_on_hyphens=False))
+
+
+def item(text):
+    """An item of a list."""
+    print(textwrap.fill(text, WIDTH, initial_indent="- ", subsequent_indent="  ",
+                        break_on_hyphens=False))
 
 
 def table(head, rows):
@@ -51,75 +70,88 @@ def said_by(*command):
 
 
 def processor():
-    found = [line.split(":")[1].strip() for line in subprocess.run(["lscpu"], capture_output=True, text=True).stdout.splitlines()
-             if line.startswith("Model name")]
+    lines = subprocess.run(["lscpu"], capture_output=True, text=True).stdout.splitlines()
+    found = [line.split(":")[1].strip() for line in lines if line.startswith("Model name")]
     return found[0] if found else "unknown processor"
 
 
-times_taken = {}
-
-
+@lru_cache(maxsize=None)
 def times(measure, shape):
-    """The median nanoseconds of each code, all from one run in which they take turns; none where the machine isn't an x86-64."""
+    """The median nanoseconds of each code, all from one run in which they take turns; none where
+    the machine isn't an x86-64."""
     if EMULATOR:
         return {}
-    if (measure, shape) not in times_taken:
-        lines = run("driver", "time", measure, shape, MOST_NODES).splitlines()
-        times_taken[measure, shape] = {code: float(time) for code, time in map(str.split, lines)}
-    return times_taken[measure, shape]
+    lines = run("driver", "time", measure, shape, MOST_NODES).splitlines()
+    return {code: float(time) for code, time in map(str.split, lines)}
 
 
-def cell(code, measure, shape, shared_by):
-    """Instructions and nanoseconds, shared by so many."""
+def cell(code, measure, shape):
+    """Instructions, and microseconds where they were taken."""
     taken = times(measure, shape)
-    time = f"{taken[code] / shared_by:.1f}" if taken else "-"
-    return f"{instructions(code, measure, shape) / shared_by:.1f}; {time}"
+    time = f"; {taken[code] / 1000:,.1f}" if taken else ""
+    return f"{instructions(code, measure, shape):,}{time}"
 
 
-def measured(title, measure, shared_by):
-    """A table of a measure: a row for each shape and a column for each code."""
+def has_many(pairs, nodes):
+    """Whether there are enough pairs for a figure of one to say something."""
+    return 3 * pairs >= nodes
+
+
+def shared(measure, shape):
+    """The archive's instructions for a node, mark or pair; nothing where there are few pairs."""
+    count = units(measure, shape)
+    if "-" in measure and not has_many(count, units("check", shape)):
+        return ""
+    return f"{instructions('archive', measure, shape) / count:,.1f}"
+
+
+def measured(title, measure, unit, shapes=ALL_SHAPES):
+    """A table of a measure: a row for each shape, a column for each code, and what the archive's
+    figure comes to for a unit."""
     progress(title)
     print(f"\n### {title}")
-    table(("shape", *CODES), [(shape, *(cell(code, measure, shape, shared_by(shape)) for code in CODES)) for shape in SHAPES])
-
-
-def input_nodes(shape):
-    return units("check", shape)
+    table(("shape", *CODES, f"archive, {unit}"),
+          [(shape, *(cell(code, measure, shape) for code in CODES), shared(measure, shape))
+           for shape in shapes])
 
 
 # What is printed before the figures.
 
+def described(path):
+    """How long a file is, and which."""
+    content = Path(path).read_bytes()
+    return f"{len(content):,} bytes, SHA-256 {hashlib.sha256(content).hexdigest()[:16]}"
+
+
 def print_head():
-    archive = Path(os.environ["BENCH_ARCHIVE"]).read_bytes()
-    counter = said_by(EMULATOR, "--version") + ", plugin bench/count.c" if EMULATOR else said_by("valgrind", "--version") + ", callgrind"
+    now = datetime.datetime.now(datetime.timezone.utc)
+    compilers = [said_by(name, "--version") for name in ("clang", os.environ["BENCH_COMPILER"])]
     print("# What the archive costs beside an unverified C twin")
-    print(f"\nPrinted by `bench/run` on {datetime.datetime.now(datetime.timezone.utc):%Y-%m-%d, %H:%M} UTC.\n")
-    print(f"- Machine: {platform.system()} {platform.release()} {platform.machine()}, {processor()}")
-    print(f"- Archive: {len(archive)} bytes, SHA-256 {hashlib.sha256(archive).hexdigest()[:16]}")
-    print(f"- Twins: {said_by('clang', '--version')}; {said_by(os.environ['BENCH_COMPILER'], '--version')}; both at -O2")
-    print(f"- Instructions counted by: {counter}")
+    print(f"\nPrinted by `bench/run` on {now:%Y-%m-%d, %H:%M} UTC.\n")
+    item(f"Machine: {platform.system()} {platform.machine()}, {processor()}")
+    item(f"Archive: {described(os.environ['BENCH_ARCHIVE'])}")
+    item(f"Program: {described(f'{MADE}/belfry')}")
+    item(f"Twins: {'; '.join(compilers)}; both at -O2")
     if EMULATOR:
-        print("- Times: none. This machine is no x86-64, and a time under emulation says nothing about one, so each time is given as -.")
+        item(f"Instructions counted by: {said_by(EMULATOR, '--version')}, plugin bench/count.c")
+        item("Times: none. This machine is no x86-64, and a time under emulation says nothing "
+             "about one.")
     else:
-        print("- Times: processor time, medians of 5 to 201 rounds, in each of which all five codes take their turn")
+        item(f"Instructions counted by: {said_by('valgrind', '--version')}, callgrind")
+        item("Times: microseconds of processor time, medians of 5 to 201 rounds, in each of which "
+             f"all {len(CODES)} codes take their turn. A cell is instructions; microseconds.")
 
 
 def print_agreement():
     """Ends the bench where a twin answers or writes anything that the archive doesn't."""
     progress(f"every twin is held against the archive on {CASES} random cases")
-    agreed = subprocess.run(emulated("agree", CASES), stdout=subprocess.PIPE, text=True)
+    agreed = subprocess.run(emulated("agree", CASES), cwd=MADE, stdout=subprocess.PIPE, text=True)
     if agreed.returncode != 0:
-        raise SystemExit(f"{agreed.stdout}the twins don't do what the archive does, so nothing is measured")
+        raise SystemExit(f"{agreed.stdout}the twins don't do what the archive does, so nothing is "
+                         "measured")
     print("\n## Do the twins do the same?")
     for line in agreed.stdout.splitlines():
         say(line)
-
-
-def print_shapes():
-    print("\n## Shapes")
-    say(f"Each list has at most {MOST_NODES:,} nodes. Zones are the ancestors and samples the descendants.")
-    table(("shape", "what it is", "zones", "samples", "pairs inside", "directly inside"),
-          [(shape, SHAPE_WORDS[shape], *(f"{sizes(shape)[size]:,}" for size in ("zones", "samples", "inside", "directly"))) for shape in SHAPES])
 
 
 def check_counter():
@@ -128,121 +160,110 @@ def check_counter():
         return
     figure = ("archive", "directly-ancestor-all", "random", 256)
     options = ("-singlestep", "-d", "nochain,exec", "-D", "/dev/stdout")
-    runs = [emulated("driver", "count", *figure, made, options=options) for made in (1, 0)]
-    once, never = (subprocess.run(command, check=True, stdout=subprocess.PIPE).stdout.count(b"Trace") for command in runs)
+    runs = [subprocess.run(emulated("driver", "count", *figure, made, options=options), cwd=MADE,
+                           check=True, stdout=subprocess.PIPE) for made in (1, 0)]
+    once, never = (ran.stdout.count(b"Trace") for ran in runs)
     if once - never != instructions(*figure):
-        raise SystemExit(f"the plugin counts {instructions(*figure)} instructions, and there are {once - never} single steps")
-    say(f"The counter was held against single steps on one figure: {once - never:,} instructions both ways.")
+        raise SystemExit(f"the plugin counts {instructions(*figure)} instructions, and there are "
+                         f"{once - never} single steps")
+    say(f"The counter was held against single steps on one figure: {once - never:,} instructions "
+        "both ways.")
 
 
-# The figures.
-
-def print_checks():
-    print("\n## Checks and listings")
-    say("A cell is instructions; nanoseconds. The whole call of a listing has room for all pairs and checks both lists too.")
-    measured("Checks of two lists, an input node", "check", input_nodes)
-
-
-def title_of(listing):
-    relation, order = listing.split("-")
-    return f"{'Inside' if relation == 'inside' else 'Directly inside'}, {order} order"
-
-
-def pairs_in(listing):
-    """How many pairs a listing has on a shape."""
-    return lambda shape: sizes(shape)[listing.split("-")[0]]
+def print_codes():
+    print("\n## Codes")
+    say("Every call checks what it is given. The twins differ in how they check two lists, list "
+        "pairs and link nodes; they number marks and check books in one way.")
+    print()
+    item("archive: the proved library")
+    item("three: ordinary C that checks two lists in three passes, over each list and then over "
+         "both (bench/twin.c)")
+    item("fused: the same, with one pass for the good case (bench/twin.c)")
+    item("best: the best C that we can write, with the algorithms that took the fewest "
+         "instructions (bench/best.c)")
 
 
-def print_listings():
-    for listing in LISTINGS:
-        measured(f"{title_of(listing)}, whole call, a pair", f"{listing}-all", pairs_in(listing))
-        measured(f"{title_of(listing)}, whole call, an input node", f"{listing}-all", input_nodes)
-        print(f"\n### {title_of(listing)}, beyond the checks, a pair, instructions")
-        table(("shape", *CODES), [(shape, *(f"{sweep(code, listing, shape):.1f}" for code in CODES)) for shape in SHAPES])
-
-
-def print_pages():
-    print("\n## Pages")
-    say("All pages of a listing, each a call that checks both lists again.")
-    for room in (256, MOST_NODES):
-        for listing in LISTINGS:
-            measured(f"{title_of(listing)}, pages of {room:,} pairs, a pair", f"{listing}-{room}", pairs_in(listing))
-
-
-def print_others():
-    print("\n## Links, numbering, books")
-    say(f"Links are those of the zones. What is numbered is a document of the shape's kind with at most {MOST_NODES:,} marks. The book that is "
-        "checked holds both lists.")
-    measured("Links, a node", "links", lambda shape: units("links", shape))
-    measured("Numbering, a mark", "number", lambda shape: units("number", shape))
-    measured("Checking a book, a node", "book", input_nodes)
-
-
-def print_growth():
-    progress("growth")
-    print("\n## How the cost grows")
-    say("The archive's instructions for an input node, with so many nodes in each list.")
-    for title, measure in (("Checks", "check"), ("The listing inside, descendant order", "inside-descendant-all"),
-                           ("The listing inside, ancestor order", "inside-ancestor-all")):
-        print(f"\n### {title}")
-        table(("shape", *(f"{nodes:,}" for nodes in GROWTH)),
-              [(shape, *(f"{instructions('archive', measure, shape, nodes) / units('check', shape, nodes):.1f}" for nodes in GROWTH))
-               for shape in SHAPES])
-
-
-def print_stack():
-    progress("stack")
-    print("\n## Stack")
-    say("The most bytes of stack that a call took on the six shapes, taken and refused, its arguments, its answer and the way back included.")
-    rows = [line.split(";") for line in run("stack").splitlines()]
-    table(("call", *CODES), [(name, *(f"{int(b):,}" if b != "0" else "" for b in taken)) for name, *taken in rows])
+def print_shapes():
+    print("\n## Shapes")
+    say(f"Each list has at most {MOST_NODES:,} nodes. Zones are the ancestors and samples the "
+        f"descendants. The bars are about the first {len(SHAPES)} shapes.")
+    counts = ("zones", "samples", "inside", "directly")
+    table(("shape", "what it is", "zones", "samples", "pairs inside", "directly inside"),
+          [(shape, SHAPE_WORDS[shape], *(f"{sizes(shape)[count]:,}" for count in counts))
+           for shape in ALL_SHAPES])
 
 
 # The bars.
+
+@lru_cache(maxsize=None)
+def stacks():
+    """The most bytes of stack that each call took, by the call's name: a number for each code."""
+    rows = [line.split(";") for line in run("stack").splitlines()]
+    return {name: [int(number) for number in taken] for name, *taken in rows}
+
 
 def verdict(holds):
     return "pass" if holds else "miss"
 
 
-def sweep(code, listing, shape):
-    """A listing's instructions for a pair beyond the checks."""
-    beyond = instructions(code, f"{listing}-all", shape) - instructions(code, "check", shape)
-    return beyond / pairs_in(listing)(shape)
+def worst(measure):
+    """What the archive takes most for a unit on one of the first shapes, and on which."""
+    return max((instructions("archive", measure, shape) / units(measure, shape), shape)
+               for shape in SHAPES)
 
 
-def ratios(code, listing, shape):
-    """The archive's whole call to a twin's: instructions, and time where it was taken."""
-    measure = f"{listing}-all"
-    found = [instructions("archive", measure, shape) / instructions(code, measure, shape)]
-    taken = times(measure, shape)
-    return found + ([taken["archive"] / taken[code]] if taken else [])
+def bar_on_worst(title, measure, most):
+    taken, shape = worst(measure)
+    return title, f"{taken:.1f}", shape, most, verdict(taken <= most)
 
 
 def print_simple_bars():
-    rows = []
-    for shape in SHAPES:
-        each = instructions("archive", "check", shape) / input_nodes(shape)
-        rows.append((f"checks of two lists, {shape}", f"{each:.1f} an input node", MOST_CHECK, verdict(each <= MOST_CHECK)))
-    for listing, most in MOST_SWEEP.items():
-        alone = sweep("archive", listing, "nests")
-        whole = instructions("archive", f"{listing}-all", "nests") / sizes("nests")["inside"]
-        rows.append((f"{listing} on the nests, beyond the checks", f"{alone:.1f} a pair ({whole:.1f} with them)", most, verdict(alone <= most)))
-    table(("bar", "archive, instructions", "at most", ""), rows)
+    stack = max(taken[0] for call, taken in stacks().items() if call.startswith("list"))
+    rows = [bar_on_worst("checks of two lists, instructions a node", "check", MOST_CHECK),
+            bar_on_worst("links, instructions a node", "links", MOST_LINKS),
+            ("stack of a listing, bytes", f"{stack:,}", "", f"{MOST_STACK:,}",
+             verdict(stack <= MOST_STACK))]
+    table(("bar", "archive", "worst shape", "at most", ""), rows)
     return [row[-1] for row in rows]
+
+
+def ratio(code, listing, shape):
+    """The archive's whole call to a twin's, in instructions."""
+    measure = f"{listing}-all"
+    return instructions("archive", measure, shape) / instructions(code, measure, shape)
+
+
+def ratio_cell(code, listing, shape):
+    taken = times(f"{listing}-all", shape)
+    time = f"; {taken['archive'] / taken[code]:.2f}" if taken else ""
+    return f"{ratio(code, listing, shape):.2f}{time}"
+
+
+def holds_beside(code, listing, shape):
+    """Whether the bar beside a twin holds, if there is one."""
+    most = MOST_RATIOS.get(code)
+    if listing == SHARP_LISTING and shape in SHARP_SHAPES and code.endswith("three"):
+        most = MOST_SHARP
+    return most is None or ratio(code, listing, shape) <= most
+
+
+def twin_bar(listing, shape):
+    missed = [code for code in TWINS if not holds_beside(code, listing, shape)]
+    return (listing, shape, *(ratio_cell(code, listing, shape) for code in TWINS),
+            "miss: " + ", ".join(missed) if missed else "pass")
 
 
 def print_twin_bars():
     progress("bars")
-    say("The archive's whole call, checks included, to each twin's: instructions; time. A bar holds where neither is above 1 beside both twins of "
-        "three passes, clang's and gcc's. The fused twins are faster and no bar.")
-    rows = []
-    for listing in LISTINGS:
-        for shape in SHAPES:
-            compared = {code: ratios(code, listing, shape) for code in CODES[1:]}
-            holds = all(ratio <= 1 for code in THREE_PASSES for ratio in compared[code])
-            cells = ["; ".join(f"{ratio:.2f}" for ratio in compared[code]) + ("" if times(f"{listing}-all", shape) else "; -") for code in CODES[1:]]
-            rows.append((listing, shape, *cells, verdict(holds)))
-    table(("listing", "shape", *CODES[1:], ""), rows)
+    in_what = "in instructions" if EMULATOR else "in instructions; in time"
+    say(f"The archive's whole call, checks included, to each twin's, {in_what}. A bar holds where "
+        f"the instructions are at most {MOST_RATIOS['clang-three']} of those of both three-pass "
+        f"twins and at most {MOST_RATIOS['clang-fused']} of clang-fused's. For {SHARP_LISTING} on "
+        f"{' and '.join(SHARP_SHAPES)} they have to be at most {MOST_SHARP} of the three-pass "
+        "twins'. Beside the best twins there is no bar: these ratios are what verification costs "
+        "so far.")
+    rows = [twin_bar(listing, shape) for listing in LISTINGS for shape in SHAPES]
+    table(("listing", "shape", *TWINS, ""), rows)
     return [row[-1] for row in rows]
 
 
@@ -252,17 +273,133 @@ def print_bars():
     say(f"{held.count('pass')} of {len(held)} bars hold.")
 
 
+def bounds(ratios):
+    """The least and the greatest of ratios, to two places or two digits."""
+    return tuple(f"{bound:.2f}" if bound >= 0.1 else f"{bound:.2g}"
+                 for bound in (min(ratios), max(ratios)))
+
+
+def bounds_row(name, ratio_of, kinds):
+    """The bounds over the first shapes and over the others, of all kinds of listing."""
+    found = [bounds([ratio_of(kind, shape) for kind in kinds for shape in shapes])
+             for shapes in (SHAPES, OTHER_SHAPES)]
+    return name, *found[0], *found[1]
+
+
+def sqlite_ratio(order, shape):
+    return instructions("archive", f"inside-{order}-all", shape) / sqlite_instructions(order, shape)
+
+
+def print_ratios():
+    """The table that README shows besides one of the whole calls."""
+    progress("ratios")
+    print("\n### The archive's whole call to the others'")
+    say("The least and the greatest ratio of instructions over all listings, four on each shape. "
+        "SQLite lists what is inside only, and checks nothing.")
+    rows = [bounds_row(code, partial(ratio, code), LISTINGS) for code in TWINS]
+    rows.append(bounds_row("SQLite", sqlite_ratio, ORDERS))
+    table(("archive to", f"first {len(SHAPES)} shapes, least", "most",
+           f"other {len(OTHER_SHAPES)} shapes, least", "most"), rows)
+
+
+# The figures.
+
+def title_of(listing):
+    relation, order = listing.split("-")
+    return f"{'Inside' if relation == 'inside' else 'Directly inside'}, {order} order"
+
+
+def print_whole_calls():
+    print("\n## Whole calls")
+    say("The instructions of one call. A listing checks both lists and has room for all pairs. The "
+        "last column is the archive's figure for a node or a pair; it is empty where there is less "
+        "than one pair for three nodes.")
+    measured("Checks of two lists", "check", "a node")
+    for listing in LISTINGS:
+        measured(title_of(listing), f"{listing}-all", "a pair")
+
+
+def print_pages():
+    print("\n## Pages")
+    say("All pages of a listing, each a call that checks both lists again. A shape whose pairs fit "
+        "on one page is left out: there the page is the whole call.")
+    for room in PAGE_ROOMS:
+        for listing in LISTINGS:
+            relation = listing.split("-")[0]
+            shapes = [shape for shape in ALL_SHAPES if sizes(shape)[relation] > room]
+            if shapes:
+                title = f"{title_of(listing)}, pages of {room:,} pairs"
+                measured(title, f"{listing}-{room}", "a pair", shapes)
+
+
+def print_others():
+    print("\n## Links, numbering, books")
+    say("Links are those of the zones. What is numbered is a document of the shape's kind with at "
+        f"most {MOST_NODES:,} marks; a document of the shape `documents` has two nodes only and is "
+        "left out. The book that is checked holds both lists.")
+    measured("Links", "links", "a node")
+    measured("Numbering", "number", "a mark", [s for s in ALL_SHAPES if s != "documents"])
+    measured("Checking a book", "book", "a node")
+
+
+def printed_row(shape):
+    size = sizes(shape, PRINTED_NODES)
+    nodes, pairs = size["zones"] + size["samples"], size["inside"]
+    total = instructions("archive", "print", shape)
+    one = f"{total / pairs:,.1f}" if has_many(pairs, nodes) else ""
+    return shape, f"{nodes:,}", f"{pairs:,}", f"{total:,}", one
+
+
+def print_printing():
+    progress("the printing program")
+    print("\n## The printing program")
+    say("The program as a process. It reads a book, checks it and prints the pairs inside in "
+        f"descendant order. The book is that of a shape with at most {PRINTED_NODES:,} nodes in "
+        "each list, which is as much as the program takes. Taken off are the instructions on a "
+        "book of two empty lists: those of starting and ending a process. A few are the C "
+        "library's, which may take others on another processor.")
+    table(("shape", "nodes", "pairs printed", "instructions", "a pair"),
+          [printed_row(shape) for shape in ALL_SHAPES])
+
+
+def growth_row(shape, measures):
+    each = [instructions("archive", measure, shape, nodes) / units("check", shape, nodes)
+            for measure in measures for nodes in GROWTH]
+    return shape, *(f"{number:.1f}" for number in each)
+
+
+def print_growth():
+    progress("growth")
+    print("\n## How the cost grows")
+    say("The archive's instructions for an input node, with at most so many nodes in each list. "
+        "Those of a listing inside are shared by the nodes too, however many pairs it writes.")
+    measures = {"checks": "check", "descendant order": "inside-descendant-all",
+                "ancestor order": "inside-ancestor-all"}
+    table(("shape", *(f"{name}, {nodes:,}" for name in measures for nodes in GROWTH)),
+          [growth_row(shape, measures.values()) for shape in ALL_SHAPES])
+
+
+def print_stack():
+    print("\n## Stack")
+    say("The most bytes of stack that a call took on all shapes, taken and refused, its arguments, "
+        "its answer and the way back included. A twin has no such call where there is no number.")
+    table(("call", *CODES), [(name, *(f"{number:,}" if number else "" for number in taken))
+                             for name, taken in stacks().items()])
+
+
 # The same join elsewhere.
 
 def lists_of(shape):
     """The two lists as Python's tuples."""
     zones, samples = run("driver", "lists", shape, MOST_NODES).split("\n\n")
-    return [[tuple(map(int, line.split())) for line in nodes.splitlines()] for nodes in (zones, samples)]
+    return [[tuple(map(int, line.split())) for line in nodes.splitlines()]
+            for nodes in (zones, samples)]
 
 
 def here(program, *words):
     """What a program for this machine's own processor prints."""
-    return subprocess.run([f"{MADE}/{program}-here", *map(str, words)], check=True, stdout=subprocess.PIPE, text=True).stdout
+    command = [f"{MADE}/{program}-here", *map(str, words)]
+    return subprocess.run(command, check=True, stdout=subprocess.PIPE, text=True).stdout
 
 
 def sqlite_time(order, shape):
@@ -272,30 +409,21 @@ def sqlite_time(order, shape):
     return float(time)
 
 
-def microseconds(nanoseconds):
-    return f"{nanoseconds / 1000:,.0f}"
+@lru_cache(maxsize=None)
+def sqlite_instructions(order, shape):
+    once, never = (counted("sqlite", "count", order, shape, MOST_NODES, made) for made in (1, 0))
+    return once - never
 
 
 def times_here(order, shape):
     """The row of a shape in the table of times."""
     progress(f"SQLite and Python, {order} order, {shape}")
-    codes = dict(map(str.split, here("driver", "time", f"inside-{order}-all", shape, MOST_NODES).splitlines()))
+    lines = here("driver", "time", f"inside-{order}-all", shape, MOST_NODES).splitlines()
+    codes = dict(map(str.split, lines))
     pairs, (zones, samples) = sizes(shape)["inside"], lists_of(shape)
     row = [float(codes[code]) for code in CODES_HERE] + [sqlite_time(order, shape)]
     row += [join.timed(by, zones, samples, pairs) for by in join.BY_ORDER[order]]
-    return (shape, *map(microseconds, row))
-
-
-def print_elsewhere():
-    print("\n## The same listing in SQLite and in Python")
-    say("The whole listing inside. SQLite and Python check nothing; filling SQLite's tables isn't measured.")
-    print(f"\n### Microseconds of processor time: {platform.machine()}, {processor()}; SQLite {sqlite_version()}, Python {platform.python_version()}")
-    if EMULATOR:
-        say("This is the machine's own processor, and the archive has no code for it; the twin, compiled for it, stands in for the scale.")
-    for order in ORDERS:
-        head = (f"{order} order", *CODES_HERE, "SQLite", *(f"Python, {by.__name__}" for by in join.BY_ORDER[order]))
-        table(head, [times_here(order, shape) for shape in SHAPES])
-        say("How SQLite goes about it: " + ", ".join(here("sqlite", "plan", order, "flat", MOST_NODES).splitlines()) + ".")
+    return shape, *(f"{nanoseconds / 1000:,.0f}" for nanoseconds in row)
 
 
 def sqlite_version():
@@ -303,32 +431,57 @@ def sqlite_version():
     return header.split('#define SQLITE_VERSION        "')[1].split('"')[0]
 
 
-def print_sqlite_instructions():
-    print("\n### Instructions on x86-64, counted, a pair")
+def print_elsewhere():
+    print("\n## The same listing in SQLite and in Python")
+    say("The whole listing inside. SQLite and Python check nothing; filling SQLite's tables isn't "
+        "measured.")
+    print(f"\n### Microseconds of processor time: {platform.machine()}, {processor()}; SQLite "
+          f"{sqlite_version()}, Python {platform.python_version()}")
+    if EMULATOR:
+        say("This is the machine's own processor, and the archive has no code for it. The twins, "
+            "compiled for it, stand in for the scale.")
     for order in ORDERS:
-        progress(f"SQLite's instructions, {order} order")
-        rows = []
-        for shape in SHAPES:
-            once, never = (counted("sqlite", "count", order, shape, MOST_NODES, made) for made in (1, 0))
-            archive, pairs = instructions("archive", f"inside-{order}-all", shape), sizes(shape)["inside"]
-            rows.append((shape, f"{archive / pairs:,.1f}", f"{(once - never) / pairs:,.1f}", f"{(once - never) / archive:,.0f}"))
-        table((f"{order} order", "archive", "SQLite", "times as many"), rows)
+        by_python = (f"Python, {by.__name__}" for by in join.BY_ORDER[order])
+        table((f"{order} order", *CODES_HERE, "SQLite", *by_python),
+              [times_here(order, shape) for shape in ALL_SHAPES])
+        plan = here("sqlite", "plan", order, "flat", MOST_NODES).splitlines()
+        say(f"How SQLite goes about it: {', '.join(plan)}.")
+
+
+def sqlite_cells(order, shape):
+    archive = instructions("archive", f"inside-{order}-all", shape)
+    sqlite = sqlite_instructions(order, shape)
+    return f"{archive:,}", f"{sqlite:,}", f"{sqlite / archive:,.0f}"
+
+
+def print_sqlite_instructions():
+    progress("SQLite's instructions")
+    print("\n### Instructions on x86-64")
+    head, rows = ["shape"], [[shape] for shape in ALL_SHAPES]
+    for order in ORDERS:
+        head += [f"{order} order, archive", "SQLite", "times as many"]
+        for row in rows:
+            row += sqlite_cells(order, row[0])
+    table(head, rows)
 
 
 def main():
     print_head()
     print_agreement()
     check_counter()
+    print_codes()
     print_shapes()
     print_bars()
-    print_checks()
-    print_listings()
+    print_ratios()
+    print_whole_calls()
     print_pages()
     print_others()
+    print_printing()
     print_growth()
     print_stack()
     print_elsewhere()
     print_sqlite_instructions()
 
 
-main()
+if __name__ == "__main__":
+    main()

@@ -1,15 +1,14 @@
 #include "shapes.h"
 #include <string.h>
 
-const char *const shape_names[SHAPES] = {"flat", "nests", "between", "random", "eight-zones", "few-samples"};
+enum { ROOT_TAG = 1, DEEPEST_RANDOM = 20, FIELD_ZONES = 64 };
 
-enum { ROOT_TAG = 1, DEEPEST_RANDOM = 20 };
-
-/* A shape that is being built: how many nodes each list may have, the next position, and where each open element's end is to be written. */
+/* A shape that is being built: how many nodes each list may have, the document and the next
+   position in it, and where each open element's end is to be written. */
 struct building {
     struct shape *shape;
     size_t most;
-    uint32_t position;
+    uint32_t document, position;
     size_t depth;
     uint32_t *ends[BELFRY_MOST_LEVELS];
 };
@@ -22,7 +21,7 @@ static void put_mark(struct building *b, uint32_t mark)
 
 static void open_element(struct building *b, uint32_t *node, uint32_t tag)
 {
-    node[0] = 1;
+    node[0] = b->document;
     node[1] = b->position;
     node[3] = ++b->depth;
     b->ends[b->depth - 1] = &node[2];
@@ -58,17 +57,22 @@ static int has_room(const struct building *b, size_t zones, size_t samples)
     return b->shape->zones + zones <= b->most && b->shape->samples + samples <= b->most;
 }
 
+static void put_zone_with_sample(struct building *b)
+{
+    open_zone(b);
+    put_samples(b, 1);
+    close_element(b);
+}
+
 /* Zones side by side, a sample in each. */
 static void build_flat(struct building *b)
 {
-    while (has_room(b, 1, 1)) {
-        open_zone(b);
-        put_samples(b, 1);
-        close_element(b);
-    }
+    while (has_room(b, 1, 1))
+        put_zone_with_sample(b);
 }
 
-/* Nests of as many zones as there are levels but one, and as many samples in the innermost zone of each. */
+/* Nests of as many zones as there are levels but one, and as many samples in the innermost zone of
+   each. */
 static void build_nests(struct building *b)
 {
     size_t deep = BELFRY_MOST_LEVELS - 1 - b->depth;
@@ -135,35 +139,97 @@ static void build_some(struct building *b, size_t holders, size_t samples)
     }
 }
 
+/* Documents of a zone with a sample in it. Within a root there is one. */
+static void build_documents(struct building *b)
+{
+    put_zone_with_sample(b);
+    while (b->depth == 0 && has_room(b, 1, 1)) {
+        b->document++;
+        b->position = 1;
+        put_zone_with_sample(b);
+    }
+}
+
+/* The random tree's zones, as samples too. */
+static void build_twice(struct building *b)
+{
+    struct shape *s = b->shape;
+    build_random(b);
+    memcpy(s->sample, s->zone, s->zones * BELFRY_NODE_WORDS * sizeof s->zone[0]);
+    s->samples = s->zones;
+}
+
+/* Fields: zones that hold zones side by side, a sample in each. */
+static void build_fields(struct building *b)
+{
+    size_t wide = b->most <= FIELD_ZONES ? b->most - 1 : FIELD_ZONES;
+    while (has_room(b, wide + 1, wide)) {
+        open_zone(b);
+        for (size_t i = 0; i < wide; i++)
+            put_zone_with_sample(b);
+        close_element(b);
+    }
+}
+
+/* Nests in each zone of which a small zone with a sample comes first and then the next zone of the
+   nest; as many samples as the nest is deep come last in the innermost one. */
+static void build_side(struct building *b)
+{
+    size_t deep = BELFRY_MOST_LEVELS - 2 - b->depth;
+    if (deep > b->most / 2)
+        deep = b->most / 2;
+    while (has_room(b, 2 * deep, 2 * deep)) {
+        for (size_t i = 0; i < deep; i++) {
+            open_zone(b);
+            put_zone_with_sample(b);
+        }
+        put_samples(b, deep);
+        for (size_t i = 0; i < deep; i++)
+            close_element(b);
+    }
+}
+
+static void build_eight_zones(struct building *b)
+{
+    build_some(b, 8, b->most / 8);
+}
+
+static void build_few_samples(struct building *b)
+{
+    build_some(b, 16, 1);
+}
+
+const char *const shape_names[SHAPES] = {
+    "flat",        "nests",     "between", "random", "eight-zones",
+    "few-samples", "documents", "twice",   "fields", "side",
+};
+
+/* How each of them is built. */
+static void (*const builders[SHAPES])(struct building *b) = {
+    build_flat,        build_nests,     build_between, build_random, build_eight_zones,
+    build_few_samples, build_documents, build_twice,   build_fields, build_side,
+};
+
 static int build(struct building *b, const char *name)
 {
-    if (strcmp(name, "flat") == 0)
-        build_flat(b);
-    else if (strcmp(name, "nests") == 0)
-        build_nests(b);
-    else if (strcmp(name, "between") == 0)
-        build_between(b);
-    else if (strcmp(name, "random") == 0)
-        build_random(b);
-    else if (strcmp(name, "eight-zones") == 0)
-        build_some(b, 8, b->most / 8);
-    else if (strcmp(name, "few-samples") == 0)
-        build_some(b, 16, 1);
-    else
-        return 0;
-    return 1;
+    for (size_t i = 0; i < SHAPES; i++)
+        if (strcmp(shape_names[i], name) == 0) {
+            builders[i](b);
+            return 1;
+        }
+    return 0;
 }
 
 int build_shape(struct shape *shape, const char *name, size_t nodes)
 {
-    struct building b = {.shape = shape, .most = nodes, .position = 1};
+    struct building b = {.shape = shape, .most = nodes, .document = 1, .position = 1};
     shape->zones = shape->samples = shape->marks = 0;
     return build(&b, name);
 }
 
 int build_document(struct shape *shape, const char *name, size_t marks)
 {
-    struct building b = {.shape = shape, .most = marks / 4 - 1, .position = 1};
+    struct building b = {.shape = shape, .most = marks / 4 - 1, .document = 1, .position = 1};
     uint32_t root[BELFRY_NODE_WORDS];
     shape->zones = shape->samples = shape->marks = 0;
     open_element(&b, root, ROOT_TAG);

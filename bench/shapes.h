@@ -1,26 +1,30 @@
-/* The shapes that are measured: two lists of one document, zones as ancestors and samples as descendants, and the marks of that document. */
+/* The shapes that are measured: two lists, zones as ancestors and samples as descendants, and the
+   marks of a document that has them. */
 #ifndef SHAPES_H
 #define SHAPES_H
 
 #include "../bindings/c/belfrychest.h"
 
-enum { SHAPES = 6, ZONE_TAG = 2, SAMPLE_TAG = 3 };
+enum { SHAPES = 10, ZONE_TAG = 2, SAMPLE_TAG = 3 };
 
 struct shape {
     size_t zones, samples, marks;
-    uint32_t zone[BELFRY_MOST_NODES * BELFRY_NODE_WORDS], sample[BELFRY_MOST_NODES * BELFRY_NODE_WORDS], mark[4 * BELFRY_MOST_NODES + 2];
+    uint32_t zone[BELFRY_MOST_NODES * BELFRY_NODE_WORDS],
+        sample[BELFRY_MOST_NODES * BELFRY_NODE_WORDS], mark[4 * BELFRY_MOST_NODES + 2];
 };
 
 extern const char *const shape_names[SHAPES];
 
-/* Builds the shape of a name with at most so many nodes in each list; it answers 0 where there is no such shape. The lists need no root,
-   so the outermost zones have level 1. */
+/* Builds the shape of a name with at most so many nodes in each list; it answers 0 where there is
+   no such shape. The lists need no root, so the outermost zones have level 1. */
 int build_shape(struct shape *shape, const char *name, size_t nodes);
 
-/* Builds the same within a root, so that the marks are those of one document and at most so many; a nest has one zone less. */
+/* Builds the same within a root, so that the marks are those of one document and at most so many; a
+   nest has one zone less. Of a shape with many documents it builds one. */
 int build_document(struct shape *shape, const char *name, size_t marks);
 
-/* The next random number after a state that begins with any number and is the same each time. It is below 2 to the 31. */
+/* The next random number after a state, which may begin with any number. The same state gives the
+   same number, which is below 2 to the 31. */
 uint32_t random_number(uint64_t *state);
 
 #endif

@@ -1,10 +1,14 @@
-/* The same listing by SQLite, put as well for it as we know: the two lists are tables in memory, document and start together are each table's
-   integer key, and one query joins them in the order asked for, the zones in the outer loop. Nothing is checked, and filling the tables is not
+/* The same listing by SQLite, put as well for it as we know: the two lists are tables in memory,
+   document and start together are each table's integer key, and one query joins them in the order
+   asked for, the zones in the outer loop. Nothing is checked, and filling the tables is not
    measured; all rows are read into an output as the page call writes it.
 
-   sqlite count ORDER SHAPE NODES TIMES   runs the query so many times and prints nothing
-   sqlite time ORDER SHAPE NODES          prints the query's median time in nanoseconds, and how many rows it has
-   sqlite plan ORDER SHAPE NODES          prints how SQLite goes about it */
+   sqlite count ORDER SHAPE NODES TIMES
+       runs the query so many times and prints nothing
+   sqlite time ORDER SHAPE NODES
+       prints the query's median time in nanoseconds, and how many rows it has
+   sqlite plan ORDER SHAPE NODES
+       prints how SQLite goes about it */
 #include "shapes.h"
 #include "timing.h"
 #include <sqlite3.h>
@@ -42,7 +46,10 @@ static sqlite3_int64 place_of(const uint32_t *node, size_t position)
 static void fill(const char *table, const uint32_t *nodes, size_t count)
 {
     char text[256];
-    snprintf(text, sizeof text, "CREATE TABLE %s (first INTEGER PRIMARY KEY, last INT, document INT, start INT, end INT, level INT)", table);
+    snprintf(text, sizeof text,
+             "CREATE TABLE %s (first INTEGER PRIMARY KEY, last INT,"
+             " document INT, start INT, end INT, level INT)",
+             table);
     need(sqlite3_exec(database, text, NULL, NULL, NULL) == SQLITE_OK, text);
     snprintf(text, sizeof text, "INSERT INTO %s VALUES (?, ?, ?, ?, ?, ?)", table);
     sqlite3_stmt *insert = prepared(text);
@@ -58,13 +65,14 @@ static void fill(const char *table, const uint32_t *nodes, size_t count)
     sqlite3_finalize(insert);
 }
 
-/* The query for the listing inside in an order. That a sample starts before its zone ends follows from how it ends; it lets the key end the
-   search. */
+/* The query for the listing inside in an order. That a sample starts before its zone ends follows
+   from how it ends; it lets the key end the search. */
 static sqlite3_stmt *query(const char *order, const char *before)
 {
     char text[512];
     snprintf(text, sizeof text,
-             "%s SELECT z.document, z.start, z.end, z.level, s.document, s.start, s.end, s.level FROM zones z CROSS JOIN samples s"
+             "%s SELECT z.document, z.start, z.end, z.level, s.document, s.start, s.end, s.level"
+             " FROM zones z CROSS JOIN samples s"
              " ON s.first > z.first AND s.first < z.last AND s.last < z.last ORDER BY %s",
              before, strcmp(order, "ancestor") == 0 ? "z.first, s.first" : "s.first, z.first");
     return prepared(text);
@@ -104,7 +112,8 @@ static void print_plan(const char *order)
 
 int main(int argc, char **argv)
 {
-    need(argc >= 5 && build_shape(&shape, argv[3], strtoul(argv[4], NULL, 10)), "usage: sqlite count|time|plan ORDER SHAPE NODES [TIMES]");
+    need(argc >= 5 && build_shape(&shape, argv[3], strtoul(argv[4], NULL, 10)),
+         "usage: sqlite count|time|plan ORDER SHAPE NODES [TIMES]");
     need(sqlite3_open(":memory:", &database) == SQLITE_OK, "open");
     fill("zones", shape.zone, shape.zones);
     fill("samples", shape.sample, shape.samples);

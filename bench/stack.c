@@ -1,5 +1,6 @@
-/* How much stack each call takes, its arguments, its answer and the way back included: the most over the six shapes, taken and refused. A call runs
-   on a stack of its own that was painted before, and what lost its paint is counted, less what an empty function leaves. A line is printed for
+/* How much stack each call takes, its arguments, its answer and the way back included: the most
+   over all shapes, taken and refused. A call runs on a stack of its own that was painted before,
+   and what lost its paint is counted, less what an empty function leaves. A line is printed for
    each call: its name, and the bytes for each code, 0 where the twin has no such call. */
 #include "codes.h"
 #include "shapes.h"
@@ -9,10 +10,12 @@
 
 enum { AREA_BYTES = 1 << 18, OUT_WORDS = 1 << 21, CALLS = 13, PAINTS = 2, WORD_BYTES = 8 };
 
-/* What the calls are given: a shape's lists, a document's marks and table, and a book of the zones, with the entry and the bytes that it has. */
+/* What the calls are given: a shape's lists, a document's marks and table, and a book of the zones,
+   with the entry and the bytes that it has. */
 static struct shape lists, document;
 static size_t zone_words, sample_words, table_words, book_bytes;
-static uint32_t table[BELFRY_ROW_WORDS * BELFRY_MOST_NODES], entry[2], book[4 + BELFRY_NODE_WORDS * BELFRY_MOST_NODES], out[OUT_WORDS];
+static uint32_t table[BELFRY_ROW_WORDS * BELFRY_MOST_NODES], entry[2],
+    book[4 + BELFRY_NODE_WORDS * BELFRY_MOST_NODES], out[OUT_WORDS];
 
 static void call_nothing(const struct code *code)
 {
@@ -128,7 +131,8 @@ static void make_call(void)
 }
 
 /* The bytes that a call leaves without paint. */
-static size_t unpainted(void (*make)(const struct code *code), const struct code *code, unsigned char paint)
+static size_t unpainted(void (*make)(const struct code *code), const struct code *code,
+                        unsigned char paint)
 {
     size_t left = 0;
     memset(area, paint, sizeof area);
@@ -145,7 +149,8 @@ static size_t unpainted(void (*make)(const struct code *code), const struct code
     return sizeof area - left;
 }
 
-/* The stack of a call, in whole words of it. A byte that happens to be written in the paint's colour has another colour the second time. */
+/* The stack of a call, in whole words of it. A byte that happens to be written in the paint's
+   colour has another colour the second time. */
 static size_t stack_of(void (*make)(const struct code *code), const struct code *code)
 {
     static const unsigned char paints[PAINTS] = {0xa5, 0x5a};
@@ -164,7 +169,9 @@ static void prepare(const char *shape_name)
     build_document(&document, shape_name, BELFRY_MOST_NODES);
     zone_words = BELFRY_NODE_WORDS * lists.zones;
     sample_words = BELFRY_NODE_WORDS * lists.samples;
-    table_words = BELFRY_ROW_WORDS * codes[0].number(1, document.mark, document.marks, table, BELFRY_ROW_WORDS * BELFRY_MOST_NODES).count;
+    size_t room = BELFRY_ROW_WORDS * BELFRY_MOST_NODES;
+    belfry_result rows = codes[0].number(1, document.mark, document.marks, table, room);
+    table_words = BELFRY_ROW_WORDS * rows.count;
     entry[0] = ZONE_TAG;
     entry[1] = lists.zones;
     uint32_t contents[4] = {1, entry[0], sizeof contents, entry[1]};
@@ -176,7 +183,9 @@ static void prepare(const char *shape_name)
 /* The last node of each list, and of the book, gets a level that is too high. */
 static void damage(void)
 {
-    lists.zone[zone_words - 1] = lists.sample[sample_words - 1] = book[book_bytes / 4 - 1] = BELFRY_MOST_LEVELS + 1;
+    lists.zone[zone_words - 1] = BELFRY_MOST_LEVELS + 1;
+    lists.sample[sample_words - 1] = BELFRY_MOST_LEVELS + 1;
+    book[book_bytes / 4 - 1] = BELFRY_MOST_LEVELS + 1;
 }
 
 int main(void)

@@ -1,0 +1,396 @@
+/* What the forms of the twin share. The twin is what a C programmer would write in place of the
+   archive: the same calls with the same answers, and no proof. Nodes are read where they lie;
+   nothing is allocated. Each form is a source file that includes this one first, defines what is
+   declared under "What each form does in its own way", and is built with PREFIX set to what its
+   calls are to begin with. */
+#ifndef TWIN_H
+#define TWIN_H
+
+#include "calls.h"
+
+#define PASTE(prefix, name) prefix##_##name
+#define NAMED(prefix, name) PASTE(prefix, name)
+#define TWIN(name) NAMED(PREFIX, name)
+
+DECLARE_CALLS(PREFIX)
+
+enum {
+    NODE_BYTES = BELFRY_NUMBER_BYTES * BELFRY_NODE_WORDS,
+    ENTRY_BYTES = BELFRY_NUMBER_BYTES * BELFRY_CONTENTS_NUMBERS
+};
+
+struct node {
+    uint32_t document, start, end, level;
+};
+
+struct pair {
+    struct node ancestor, descendant;
+};
+
+/* Two lists that are to be joined: where each begins and ends. */
+struct lists {
+    const struct node *ancestor, *ancestors_end, *descendant, *descendants_end;
+};
+
+static struct lists lists_of(const uint32_t *ancestors, size_t ancestor_words,
+                             const uint32_t *descendants, size_t descendant_words)
+{
+    const struct node *a = (const struct node *)ancestors, *d = (const struct node *)descendants;
+    return (struct lists){a, a + ancestor_words / BELFRY_NODE_WORDS, d,
+                          d + descendant_words / BELFRY_NODE_WORDS};
+}
+
+/* The nodes that are open where a check stands are kept on a stack, the innermost on top, which is
+   the last node passed. Each lies inside the one below it and has a higher level. At the bottom
+   lies one that holds everything. */
+enum { STACK_NODES = BELFRY_MOST_LEVELS + 1 };
+
+static const struct node EVERYTHING = {0, 0, UINT32_MAX, 0};
+
+/* The top of the stack once those are taken off that ended before the node. */
+static inline struct node *open_at(struct node *stack, struct node *top, const struct node *n)
+{
+    if (n->document != top->document)
+        return stack;
+    while (top->end < n->start)
+        top--;
+    return top;
+}
+
+/* Puts the node on top of what is open at it. It is CROSS or DEPTH where that doesn't allow it. */
+static inline uint32_t open_node(struct node *stack, struct node **top, const struct node *n)
+{
+    struct node *t = open_at(stack, *top, n);
+    if (t->end <= n->end && t > stack)
+        return BELFRY_CROSS;
+    if (t->level >= n->level)
+        return BELFRY_DEPTH;
+    *++t = *n;
+    *top = t;
+    return BELFRY_TAKEN;
+}
+
+/* What is wrong with a node. */
+static inline uint32_t check_node(struct node *stack, struct node **top, const struct node *n)
+{
+    const struct node *last = *top;
+    if (n->level - 1 >= BELFRY_MOST_LEVELS)
+        return BELFRY_LEVEL;
+    if (n->end < n->start)
+        return BELFRY_SPAN;
+    if (n->document < last->document ||
+        (n->document == last->document && n->start <= last->start && last > stack))
+        return BELFRY_ORDER;
+    return open_node(stack, top, n);
+}
+
+static uint32_t word_fault(size_t words)
+{
+    if (words % BELFRY_NODE_WORDS != 0)
+        return BELFRY_RAGGED;
+    return words / BELFRY_NODE_WORDS > BELFRY_MOST_NODES ? BELFRY_LONG : BELFRY_TAKEN;
+}
+
+static belfry_verdict verdict_of(uint32_t answer)
+{
+    return (belfry_verdict){answer, 0, 0};
+}
+
+/* One list alone: the first pass, and the second. */
+static belfry_verdict check_list(const uint32_t *list, size_t words)
+{
+    const struct node *nodes = (const struct node *)list, *end = nodes + words / BELFRY_NODE_WORDS;
+    struct node stack[STACK_NODES], *top = stack;
+    uint32_t fault = word_fault(words);
+    if (fault != BELFRY_TAKEN)
+        return verdict_of(fault);
+    *top = EVERYTHING;
+    for (const struct node *n = nodes; n < end; n++) {
+        fault = check_node(stack, &top, n);
+        if (fault != BELFRY_TAKEN)
+            return (belfry_verdict){fault, 0, n - nodes};
+    }
+    return verdict_of(BELFRY_TAKEN);
+}
+
+static inline int is_same(const struct node *x, const struct node *y)
+{
+    return x->document == y->document && x->start == y->start && x->end == y->end &&
+           x->level == y->level;
+}
+
+static inline int is_before(const struct node *x, const struct node *y)
+{
+    return x->document < y->document || (x->document == y->document && x->start < y->start);
+}
+
+/* The next node of two lists that both have more, in start order; NULL where each has another at
+   the same start, and where both have the same, it is taken once. */
+static inline const struct node *next_node(struct lists *l)
+{
+    if (is_before(l->ancestor, l->descendant))
+        return l->ancestor++;
+    if (!is_before(l->descendant, l->ancestor) && !is_same(l->ancestor++, l->descendant))
+        return NULL;
+    return l->descendant++;
+}
+
+/* Whether two lists that were taken alone agree: the third pass. */
+static int are_agreeing(struct lists l)
+{
+    struct node stack[STACK_NODES], *top = stack;
+    *top = EVERYTHING;
+    while (l.ancestor < l.ancestors_end && l.descendant < l.descendants_end) {
+        const struct node *n = next_node(&l);
+        if (!n || open_node(stack, &top, n) != BELFRY_TAKEN)
+            return 0;
+    }
+    for (; l.ancestor < l.ancestors_end; l.ancestor++)
+        if (open_node(stack, &top, l.ancestor) != BELFRY_TAKEN)
+            return 0;
+    for (; l.descendant < l.descendants_end; l.descendant++)
+        if (open_node(stack, &top, l.descendant) != BELFRY_TAKEN)
+            return 0;
+    return 1;
+}
+
+/* All three passes. */
+static belfry_verdict three_passes(const uint32_t *ancestors, size_t ancestor_words,
+                                   const uint32_t *descendants, size_t descendant_words)
+{
+    belfry_verdict verdict = check_list(ancestors, ancestor_words);
+    if (verdict.answer != BELFRY_TAKEN)
+        return verdict;
+    verdict = check_list(descendants, descendant_words);
+    if (verdict.answer != BELFRY_TAKEN) {
+        verdict.list = BELFRY_DESCENDANTS;
+        return verdict;
+    }
+    return verdict_of(
+        are_agreeing(lists_of(ancestors, ancestor_words, descendants, descendant_words))
+            ? BELFRY_TAKEN
+            : BELFRY_JOINT);
+}
+
+/* A page that is being written: where the next pair goes, and where the room ends. */
+struct writing {
+    struct pair *out, *end;
+};
+
+/* What each form does in its own way. */
+
+/* Whether a list is taken, and two lists together. */
+static belfry_verdict check_one(const uint32_t *list, size_t words);
+static belfry_verdict check_both(const uint32_t *ancestors, size_t ancestor_words,
+                                 const uint32_t *descendants, size_t descendant_words);
+
+/* Write the pairs past the ticket's place. They say whether all found room. */
+static int sweep_descendants(struct lists l, const belfry_ticket *ticket, struct writing *w);
+static int sweep_ancestors(struct lists l, const belfry_ticket *ticket, struct writing *w);
+
+/* Writes the links of a list that was taken. */
+static void link_nodes(const struct node *nodes, size_t count,
+                       uint32_t (*links)[BELFRY_LINK_WORDS]);
+
+/* What is the same in all forms: the calls. */
+
+belfry_verdict TWIN(check)(const uint32_t *list, size_t words)
+{
+    return check_one(list, words);
+}
+
+belfry_verdict TWIN(check_two)(const uint32_t *ancestors, size_t ancestor_words,
+                               const uint32_t *descendants, size_t descendant_words)
+{
+    return check_both(ancestors, ancestor_words, descendants, descendant_words);
+}
+
+/* The ticket after a page whose last pair is given. */
+static belfry_ticket ticket_after(belfry_ticket ticket, const struct pair *last)
+{
+    ticket.placed = 1;
+    ticket.document = last->descendant.document;
+    ticket.first = ticket.order ? last->ancestor.start : last->descendant.start;
+    ticket.second = ticket.order ? last->descendant.start : last->ancestor.start;
+    return ticket;
+}
+
+belfry_page TWIN(list)(const uint32_t *ancestors, size_t ancestor_words,
+                       const uint32_t *descendants, size_t descendant_words, belfry_ticket ticket,
+                       uint32_t *out, size_t out_words)
+{
+    belfry_verdict v = check_both(ancestors, ancestor_words, descendants, descendant_words);
+    if (v.answer != BELFRY_TAKEN)
+        return (belfry_page){v.answer, v.list, v.index, 0, 0, ticket};
+    struct lists lists = lists_of(ancestors, ancestor_words, descendants, descendant_words);
+    struct pair *pairs = (struct pair *)out;
+    struct writing w = {pairs, pairs + out_words / BELFRY_PAIR_WORDS};
+    int done =
+        ticket.order ? sweep_ancestors(lists, &ticket, &w) : sweep_descendants(lists, &ticket, &w);
+    if (w.out > pairs)
+        ticket = ticket_after(ticket, w.out - 1);
+    return (belfry_page){BELFRY_TAKEN, 0, 0, done, w.out - pairs, ticket};
+}
+
+static belfry_result result_of(belfry_verdict v, size_t count)
+{
+    return (belfry_result){v.answer, v.list, v.index, count};
+}
+
+belfry_result TWIN(links)(const uint32_t *list, size_t words, uint32_t *out, size_t out_words)
+{
+    belfry_verdict verdict = check_one(list, words);
+    size_t count = words / BELFRY_NODE_WORDS;
+    if (verdict.answer != BELFRY_TAKEN)
+        return result_of(verdict, 0);
+    if (out_words / BELFRY_LINK_WORDS < count)
+        return result_of(verdict_of(BELFRY_ROOM), 0);
+    link_nodes((const struct node *)list, count, (uint32_t(*)[BELFRY_LINK_WORDS])out);
+    return result_of(verdict, count);
+}
+
+/* What is wrong with a document's marks, and how many rows its table has. */
+static uint32_t check_marks(const uint32_t *marks, size_t count, size_t *rows)
+{
+    size_t depth = 0, found = 0;
+    for (size_t i = 0; i < count; i++) {
+        uint32_t mark = marks[i];
+        if (mark > BELFRY_TEXT)
+            return BELFRY_MARK;
+        if (depth == 0 && (i > 0 || mark == BELFRY_CLOSE || mark == BELFRY_TEXT))
+            return BELFRY_STRAY;
+        if (mark == BELFRY_CLOSE) {
+            depth--;
+            continue;
+        }
+        if (depth == BELFRY_MOST_LEVELS)
+            return BELFRY_DEEP;
+        found++;
+        depth += mark != BELFRY_TEXT;
+    }
+    *rows = found;
+    return count == 0 || depth > 0 ? BELFRY_UNCLOSED : BELFRY_TAKEN;
+}
+
+/* The rows of marks that were taken. An element's end is filled in at its close. */
+static void write_rows(uint32_t document, const uint32_t *marks, size_t count,
+                       uint32_t (*row)[BELFRY_ROW_WORDS])
+{
+    uint32_t *ends[BELFRY_MOST_LEVELS];
+    size_t depth = 0;
+    for (uint32_t position = 1; position <= count; position++) {
+        uint32_t mark = marks[position - 1];
+        if (mark == BELFRY_CLOSE) {
+            *ends[--depth] = position;
+            continue;
+        }
+        (*row)[0] = document;
+        (*row)[1] = position;
+        (*row)[2] = position;
+        (*row)[3] = depth + 1;
+        (*row)[4] = mark;
+        if (mark != BELFRY_TEXT)
+            ends[depth++] = &(*row)[2];
+        row++;
+    }
+}
+
+belfry_result TWIN(number)(uint32_t document, const uint32_t *marks, size_t mark_words,
+                           uint32_t *out, size_t out_words)
+{
+    size_t rows = 0;
+    uint32_t fault =
+        mark_words > BELFRY_MOST_NODES ? BELFRY_LONG : check_marks(marks, mark_words, &rows);
+    if (fault == BELFRY_TAKEN && out_words / BELFRY_ROW_WORDS < rows)
+        fault = BELFRY_ROOM;
+    if (fault != BELFRY_TAKEN)
+        return result_of(verdict_of(fault), 0);
+    write_rows(document, marks, mark_words, (uint32_t(*)[BELFRY_ROW_WORDS])out);
+    return result_of(verdict_of(BELFRY_TAKEN), rows);
+}
+
+/* A number of a book, which may lie anywhere. */
+static inline uint32_t number_at(const uint8_t *at)
+{
+    return at[0] | (uint32_t)at[1] << 8 | (uint32_t)at[2] << 16 | (uint32_t)at[3] << 24;
+}
+
+/* An entry of a book's contents. */
+struct entry {
+    uint32_t tag, offset, count;
+};
+
+static inline struct entry entry_at(const uint8_t *book, size_t index)
+{
+    const uint8_t *at = book + BELFRY_NUMBER_BYTES + ENTRY_BYTES * index;
+    return (struct entry){number_at(at), number_at(at + 4), number_at(at + 8)};
+}
+
+/* Whether the contents keep the rules, and how many lists they name. */
+static int are_contents(const uint8_t *book, size_t bytes, uint32_t *lists)
+{
+    if (bytes < BELFRY_NUMBER_BYTES || number_at(book) > BELFRY_MOST_LISTS)
+        return 0;
+    *lists = number_at(book);
+    size_t end = BELFRY_NUMBER_BYTES + ENTRY_BYTES * (size_t)*lists;
+    if (bytes < end)
+        return 0;
+    for (uint32_t i = 0; i < *lists; i++) {
+        struct entry entry = entry_at(book, i);
+        if (entry.offset != end || entry.count > BELFRY_MOST_NODES)
+            return 0;
+        if (i > 0 && entry.tag <= entry_at(book, i - 1).tag)
+            return 0;
+        end += NODE_BYTES * (size_t)entry.count;
+    }
+    return end == bytes;
+}
+
+/* One list alone, out of a book's bytes. */
+static belfry_verdict check_body(const uint8_t *at, uint32_t count)
+{
+    struct node stack[STACK_NODES], *top = stack;
+    *top = EVERYTHING;
+    for (uint32_t i = 0; i < count; i++, at += NODE_BYTES) {
+        struct node n = {number_at(at), number_at(at + 4), number_at(at + 8), number_at(at + 12)};
+        uint32_t fault = check_node(stack, &top, &n);
+        if (fault != BELFRY_TAKEN)
+            return (belfry_verdict){fault, 0, i};
+    }
+    return verdict_of(BELFRY_TAKEN);
+}
+
+static belfry_book check_book(const uint8_t *book, size_t bytes)
+{
+    uint32_t lists = 0;
+    if (!are_contents(book, bytes, &lists))
+        return (belfry_book){BELFRY_CONTENTS, 0, 0, 0};
+    for (uint32_t i = 0; i < lists; i++) {
+        struct entry entry = entry_at(book, i);
+        belfry_verdict verdict = check_body(book + entry.offset, entry.count);
+        if (verdict.answer != BELFRY_TAKEN)
+            return (belfry_book){verdict.answer, i, verdict.index, 0};
+    }
+    return (belfry_book){BELFRY_TAKEN, 0, 0, lists};
+}
+
+belfry_book TWIN(book_check)(const uint8_t *book, size_t bytes)
+{
+    return check_book(book, bytes);
+}
+
+belfry_body TWIN(book_body)(const uint8_t *book, size_t bytes, uint32_t tag)
+{
+    belfry_book b = check_book(book, bytes);
+    if (b.answer != BELFRY_TAKEN)
+        return (belfry_body){b.answer, b.list, b.index, 0, 0};
+    for (uint32_t i = 0; i < b.lists; i++) {
+        struct entry entry = entry_at(book, i);
+        if (entry.tag == tag)
+            return (belfry_body){BELFRY_TAKEN, 0, 0, entry.offset,
+                                 NODE_BYTES * (size_t)entry.count};
+    }
+    return (belfry_body){BELFRY_ABSENT, 0, 0, 0, 0};
+}
+
+#endif
