@@ -8,13 +8,11 @@ use Rattle.nodes.specs.declared.node.Node.{Node}
 use Rattle.nodes.specs.Choose.{keep, firstAt}
 use Rattle.nodes.specs.Words.{wordsOf}
 use Rattle.paging.specs.Key.{aboveb}
-use Rattle.paging.specs.Page.{pastb}
 use Rattle.tickets.specs.declared.ticket.Order.{Order}
 use Rattle.tickets.specs.declared.ticket.Place.{Place}
 use Rattle.tickets.specs.declared.ticket.Place.the-variants.{Fresh, After}
 use Rattle.tickets.specs.declared.ticket.Relation.{Relation}
 use Rattle.tickets.specs.Listing.{Pair, relatedb, pairOf}
-use Rattle.tickets.specs.Ticket.{spotOf}
 
 -- how many words a pair takes: the ancestor's four and then the descendant's
 abbrev pub PAIR-WORDS : ℕ
@@ -40,10 +38,6 @@ row order leader ns = map (pairOf order leader) ns
 -- the followers that have the relation asked for with a leader
 unfoldable pub matches : Relation → Order → Node → List Node → List Node
 matches relation order leader ns = keep (λ n. relatedb relation (pairOf order leader n)) ns
-
--- the pair of a leader and a follower lies past a place: its document and two starts do, the leader's first
-unfoldable pub aheadb : Place → Node → Node → Bool
-aheadb place leader follower = pastb (spotOf place) (leader .document ∷ leader .start ∷ follower .start ∷ [])
 
 -- the start from which on a leader's followers lie past a place, where the leader doesn't stand before the place's own
 unfoldable pub pastFrom : Place → Node → ℕ

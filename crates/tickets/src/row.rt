@@ -1,4 +1,4 @@
-// The rows of a listing: a leader, which is the node that the order sorts by first, with each of its followers.
+// How the rows of a listing lie to a ticket's place. A row is a leader, which is the node that the order sorts by first, with each of its followers.
 use crate::ticket::Place;
 use nodes::node::NODE_WORDS;
 use nodes::node::Node;
