@@ -5,11 +5,11 @@ use mathlib.Core.Path.{_≡_, refl, sym, ap, subst, _∙_}
 use mathlib.Core.Bool.{Bool, true, false}
 use mathlib.Core.List.{List, [], _∷_, _++_, map-append}
 use mathlib.Core.Logic.{_⊎_, inl, inr}
-use native.Mathlib.Nat.{not-suc-le-zero}
+use native.Mathlib.Nat.{not-suc-le-zero, sub-zero, zero-sub}
 use native.Mathlib.Omega.{arith}
 use lib.Dec.{eqb, leb, ltb}
-use lib.ListN.{length, take, drop, length-drop, take-append-drop, drop-of-length-le}
-use lib.Seq.{length-take-le}
+use lib.ListN.{length, take, drop, length-take, length-drop, take-append-drop, drop-of-length-le}
+use lib.Seq.{length-take-le, take-nil, drop-drop}
 use borrow.Author.Tests.{eq-eqb, ne-eqb, ltb-true, ltb-false, le-leb, lt-leb}
 use Rattle.nodes.specs.declared.node.Node.{Node}
 use Rattle.nodes.specs.Choose.{firstAt}
@@ -21,7 +21,8 @@ use Rattle.paging.proofs.Serving.{serve-next, serve-full, serve-on, serve-lengt
 use Rattle.tickets.specs.declared.ticket.Order.{Order}
 use Rattle.tickets.specs.Listing.{pairOf}
 use Rattle.tickets.specs.Row.{PAIR-WORDS, pairWords, room, row}
-use Rattle.pairs.specs.Sweep.{Placed, stretch, startsFrom, servedRow}
+use Rattle.tickets.proofs.First.{first-in}
+use Rattle.pairs.specs.Sweep.{Placed, stretch, startsFrom, fromStart, servedRow}
 
 -- a stretch begins with the node at its first place, and is empty where that isn't before its end
 pub stretch-next : (ws : List ℕ) (from to : ℕ) → Placed ws from → Placed ws to → from < to
@@ -50,7 +51,7 @@ module _ (order : Order) (x : Node) where
   none-fit out n [] r h = absurd (not-suc-le-zero h)
   none-fit out n (y ∷ ys) r h = sym (serve-full pairWords PAIR-WORDS out n (pairOf order x y) (row order x ys) r)
 
-  all-fit : (out : List ℕ) (n : ℕ) (ys : List Node) → ys ≡ [] → _≡_ {A = List ℕ × ℕ × Bool} (out, n, true) (servedRow order out n x ys)
+  pub all-fit : (out : List ℕ) (n : ℕ) (ys : List Node) → ys ≡ [] → _≡_ {A = List ℕ × ℕ × Bool} (out, n, true) (servedRow order out n x ys)
   unfolding row serve
   all-fit out n ys q = rw q refl
 
@@ -183,4 +184,31 @@ module _ (ws : List ℕ) (k to start answer : ℕ) (p : Placed ws k) (q : Placed
   unfolding firstAt
   start-none h =
       let z : firstAt (startsFrom start) (stretch ws k to) ≡ 0 = rw (stretch-none ws k to h) refl in
+      omega arith
+
+-- the first nodes without the first k of them are the first of those after k
+drop-take : (k m : ℕ) (ns : List Node) → drop k (take m ns) ≡ take (m - k) (drop k ns)
+drop-take zero m ns = rw (sub-zero m) refl
+drop-take (suc k) zero ns = rw (zero-sub (suc k)) refl
+drop-take (suc k) (suc m) [] = sym (take-nil (suc m - suc k))
+drop-take (suc k) (suc m) (n ∷ ns) =
+    let less : suc m - suc k ≡ m - k = omega arith in
+    rw less (drop-take k m ns)
+
+later : (ns : List Node) (from to k ahead : ℕ) → ahead ≡ k + from → take (to - ahead) (drop ahead ns) ≡ drop k (take (to - from) (drop from ns))
+later ns from to k ahead q =
+    let less : to - (k + from) ≡ to - from - k = omega arith in
+    let turned : k + from ≡ from + k = omega arith in
+    rw (q, less, turned, drop-take k (to - from) (drop from ns), drop-drop k from ns) refl
+
+-- from the first node that starts late enough on, a stretch is a stretch to the same end
+module _ (ws : List ℕ) (from to ahead past : ℕ) (q : ahead / 4 ≡ firstAt (startsFrom past) (stretch ws from to) + from / 4) where
+  pub stretch-ahead : stretch ws ahead to ≡ fromStart past (stretch ws from to)
+  unfolding fromStart
+  stretch-ahead = later (nodes ws) (from / 4) (to / 4) _ (ahead / 4) q
+
+  pub ahead-in : from ≤ to → to % 4 ≡ 0 → ahead % 4 ≡ 0 → ahead ≤ to
+  ahead-in l m n =
+      let h = first-in (startsFrom past) (stretch ws from to) in
+      let k = length-take (to / 4 - from / 4) (drop (from / 4) (nodes ws)) in
       omega arith

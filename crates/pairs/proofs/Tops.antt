@@ -4,11 +4,10 @@
 use mathlib.Core.Path.{_≡_, refl, ap, sym, _∙_}
 use mathlib.Core.Bool.{true, false, cond}
 use mathlib.Core.List.{List, [], _∷_, reverse}
-use Prim.Native.Nat.{ℕ, zero, suc, _+_, _-_, _/_, _%_, _≤_, _<_}
-use native.Mathlib.Nat.{sub-zero, zero-sub, le-refl}
+use Prim.Native.Nat.{ℕ, _+_, _-_, _/_, _%_, _≤_, _<_}
+use native.Mathlib.Nat.{sub-zero, le-refl}
 use native.Mathlib.Omega.{arith}
-use lib.ListN.{take, drop, length-take}
-use lib.Seq.{take-nil, drop-drop}
+use lib.ListN.{take, drop}
 use Rattle.nodes.specs.declared.node.Node.{Node}
 use Rattle.nodes.specs.Choose.{firstAt, keep}
 use Rattle.nodes.specs.Node.{deeperb}
@@ -20,9 +19,9 @@ use Rattle.tickets.specs.declared.ticket.Order.the-variants.{Descendant}
 use Rattle.tickets.specs.declared.ticket.Relation.{Relation}
 use Rattle.tickets.specs.declared.ticket.Relation.the-variants.{Inside, Directly}
 use Rattle.tickets.specs.Row.{matches}
-use Rattle.tickets.proofs.First.{first-in}
 use Rattle.pairs.specs.Sweep.{Placed, stretch, startsFrom, fromStart}
 use Rattle.pairs.proofs.Matching.{firsts-turned, inside-all, directly-top}
+use Rattle.pairs.proofs.Stretches.{stretch-ahead}
 
 -- from r on up to the top lies what matches
 abbrev pub Stretch : Relation → Node → List ℕ → ℕ → ℕ → Type 0
@@ -67,35 +66,9 @@ module _ (relation : Relation) (d : Node) (ws : List ℕ) (used : ℕ) where
           let none : used / 4 - used / 4 ≡ 0 = omega arith in
           (l .1, le-refl used, rw (q, top-matches, t, none) refl)
 
--- the first nodes without the first k of them are the first of those after k
-drop-take : (k m : ℕ) (ns : List Node) → drop k (take m ns) ≡ take (m - k) (drop k ns)
-drop-take zero m ns = rw (sub-zero m) refl
-drop-take (suc k) zero ns = rw (zero-sub (suc k)) refl
-drop-take (suc k) (suc m) [] = sym (take-nil (suc m - suc k))
-drop-take (suc k) (suc m) (n ∷ ns) =
-    let less : suc m - suc k ≡ m - k = omega arith in
-    rw less (drop-take k m ns)
-
-later : (ns : List Node) (from to k ahead : ℕ) → ahead ≡ k + from → take (to - ahead) (drop ahead ns) ≡ drop k (take (to - from) (drop from ns))
-later ns from to k ahead q =
-    let less : to - (k + from) ≡ to - from - k = omega arith in
-    let turned : k + from ≡ from + k = omega arith in
-    rw (q, less, turned, drop-take k (to - from) (drop from ns), drop-drop k from ns) refl
-
--- from the first node that starts late enough on, a stretch is a stretch to the same end
-module _ (ws : List ℕ) (from to ahead past : ℕ) (q : ahead / 4 ≡ firstAt (startsFrom past) (stretch ws from to) + from / 4) where
-  stretch-ahead : stretch ws ahead to ≡ fromStart past (stretch ws from to)
-  unfolding fromStart
-  stretch-ahead = later (nodes ws) (from / 4) (to / 4) _ (ahead / 4) q
-
-  pub ahead-in : from ≤ to → to % 4 ≡ 0 → ahead % 4 ≡ 0 → ahead ≤ to
-  ahead-in l m n =
-      let h = first-in (startsFrom past) (stretch ws from to) in
-      let k = length-take (to / 4 - from / 4) (drop (from / 4) (nodes ws)) in
-      omega arith
-
-  -- so what is left of what matches lies there
-  pub match-ahead : (relation : Relation) (d e : Node) → e ≡ d → reverse (matches relation Descendant e (opened to ws)) ≡ stretch ws from to
-      → stretch ws ahead to ≡ fromStart past (reverse (matches relation Descendant d (opened to ws)))
-  match-ahead relation d e h m =
-      stretch-ahead ∙ ap (fromStart past) (sym m ∙ ap (λ n. reverse (matches relation Descendant n (opened to ws))) h)
+-- from the first node that starts late enough on lies what is left of what matches
+pub match-ahead : (ws : List ℕ) (from to ahead past : ℕ) → ahead / 4 ≡ firstAt (startsFrom past) (stretch ws from to) + from / 4
+    → (relation : Relation) (d e : Node) → e ≡ d → reverse (matches relation Descendant e (opened to ws)) ≡ stretch ws from to
+    → stretch ws ahead to ≡ fromStart past (reverse (matches relation Descendant d (opened to ws)))
+match-ahead ws from to ahead past q relation d e h m =
+    stretch-ahead ws from to ahead past q ∙ ap (fromStart past) (sym m ∙ ap (λ n. reverse (matches relation Descendant n (opened to ws))) h)

@@ -128,13 +128,23 @@ fn run_end(descendants: &[u32], from: usize, ancestor: Node, guess: usize) -> us
     past_run(descendants, far, ancestor)
 }
 
+// Returns a place up to which a zone holds the descendants from another on. Often these are all that are left of the
+// run, or all but one.
+fn past_held(descendants: &[u32], from: usize, zone: Node, to: usize) -> usize
+    requires { ⌜ (from % NODE-WORDS ≡ 0) × (to % NODE-WORDS ≡ 0) × Running (now descendants) zone (from / NODE-WORDS) ⌝ }
+    ensures { λ r. ⌜ Further (now (descendants .entry)) zone from r ⌝ }
+{
+    let near = past_guess(descendants, from, zone, to);
+    past_strides(descendants, near, zone)
+}
+
 // Returns the next descendant to look at after one that isn't one level deeper than the ancestor whose run is handed
 // out. Where many are left and the next zone holds this one, all that the zone holds are passed: they lie deeper still.
 // A zone that has ended is passed too, so that the next one is looked at.
 fn past_inner(ancestors: &[u32], zone: usize, descendants: &[u32], k: usize, to: usize) -> Passed
     requires { ⌜ (checkTwo (now ancestors) (now descendants) .answer ≡ TAKEN) × Placed (now ancestors) zone
         × Placed (now descendants) k × (k < length (now descendants)) × Placed (now descendants) to ⌝ }
-    ensures { λ r. ⌜ Placed (now (ancestors .entry)) (r .zone) × (zone ≤ r .zone) × (r .next % NODE-WORDS ≡ 0) × (k < r .next)
+    ensures { λ r. ⌜ Placed (now (ancestors .entry)) (r .zone) × (zone ≤ r .zone) × Placed (now (descendants .entry)) (r .next) × (k < r .next)
         × ((j : ℕ) → k / NODE-WORDS < j → j < r .next / NODE-WORDS → (zone / NODE-WORDS < count (now (ancestors .entry)))
         × (insideb (nodeAt (now (descendants .entry)) j) (nodeAt (now (ancestors .entry)) (zone / NODE-WORDS)) ≡ true)) ⌝ }
 {
@@ -163,10 +173,9 @@ fn past_inner(ancestors: &[u32], zone: usize, descendants: &[u32], k: usize, to:
             next: next,
         };
     }
-    let near = past_guess(descendants, next, node_from(ancestors, zone), to);
     Passed {
         zone: zone + NODE_WORDS,
-        next: past_strides(descendants, near, node_from(ancestors, zone)),
+        next: past_held(descendants, next, node_from(ancestors, zone), to),
     }
 }
 

@@ -10,7 +10,8 @@ use Rattle.nodes.specs.Words.{nodeAt}
 use Rattle.lists.specs.Walk.{opened, Upon}
 use Rattle.tickets.specs.declared.ticket.Order.the-variants.{Descendant}
 use Rattle.pairs.specs.Sweep.{servedRow}
-use Rattle.pairs.proofs.Tops.{ahead-in, match-ahead}
+use Rattle.pairs.proofs.Stretches.{ahead-in}
+use Rattle.pairs.proofs.Tops.{match-ahead}
 use Rattle.pairs.proofs.descendants.hand_descendant.Statement.{statement}
 use Rattle.pairs.proofs.descendants.hand_descendant.Tie as tie
 

@@ -1,0 +1,58 @@
+-- All of the run lies inside, so inside it is handed out as it lies; directly inside are the children in it.
+-- The relations exchanged, or a run cut short, fall at a return.
+use borrow.Author.Needs.{needs}
+use Prim.Native.Nat.{_/_}
+use mathlib.Core.Path.{_≡_, sym, ap, _∙_}
+use native.Mathlib.Omega.{arith}
+use lib.ListN.{drop}
+use denote.Ref.{now}
+use Rattle.nodes.specs.Words.{nodes, nodeAt}
+use Rattle.tickets.specs.declared.ticket.Order.the-variants.{Ancestor}
+use Rattle.tickets.specs.Row.{matches}
+use Rattle.pairs.specs.Sweep.{servedRow}
+use Rattle.pairs.proofs.Running.{run-stretch}
+use Rattle.pairs.proofs.ancestors.hand_run.Statement.{statement}
+use Rattle.pairs.proofs.ancestors.hand_run.Tie as tie
+
+enum-told : tie.Need-enum-told
+enum-told c = search needs
+
+hand-descendants-requires : tie.Need-hand-descendants-requires
+hand-descendants-requires c κs = search needs
+
+enum-told-2 : tie.Need-enum-told-2
+enum-told-2 c = search needs
+
+hand-children-requires : tie.Need-hand-children-requires
+hand-children-requires c κs = search needs
+
+same-length : tie.Need-same-length
+same-length c = search needs
+
+returns : tie.Need-returns
+returns c =
+    let a = c .before .before .before .before .before .before .before .before .before .args in
+    let p = c .before .before .before .before .before .before .before .before .before .pre in
+    rw (c .before .before .before .before .enum-told .given .1)
+    (c .before .before .hand-descendants .ensures
+    ∙ ap (servedRow Ancestor (now (a .out)) (a .written) (nodeAt (now (a .ancestors)) (a .i / 4)))
+    (run-stretch (now (a .descendants)) (nodeAt (now (a .ancestors)) (a .i / 4)) (a .from) (a .to) (p .5) (p .6)))
+
+same-length-2 : tie.Need-same-length-2
+same-length-2 c = search needs
+
+returns-2 : tie.Need-returns-2
+returns-2 c = rw (c .before .before .before .before .enum-told2 .given .1) (c .before .before .hand-children .ensures)
+
+pub hand-run-spec : {M : Type 1} → statement M
+hand-run-spec =
+    tie.close
+    (tie.spec
+    enum-told
+    hand-descendants-requires
+    enum-told-2
+    hand-children-requires
+    same-length
+    returns
+    same-length-2
+    returns-2)
