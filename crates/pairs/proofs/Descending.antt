@@ -1,129 +1,150 @@
--- At each descendant the ancestors on the stack that have not ended are all that contain it, and the stack stands for the descendants to come.
--- A zone left for good while descendants are still to come, or one joined only while it is the innermost, would fall here.
-use mathlib.Core.Path.{_≡_, ap, subst, _∙_}
+-- At each descendant the ancestors on the stack are those that started before it and have not
+-- ended, and the stack stands for the descendants to come. A zone left for good while descendants
+-- are still to come, or one joined only while it is the innermost, would fall here.
+use mathlib.Core.Path.{_≡_, refl, ap, subst, _∙_}
 use mathlib.Core.Bool.{true, false}
 use mathlib.Core.List.{List, _++_, reverse}
-use Prim.Native.Nat.{ℕ, _+_, _≤_, _<_, zero-le}
+use Prim.Native.Nat.{ℕ, _+_, _*_, _/_, _%_, _≤_, _<_, zero-le}
 use native.Mathlib.Omega.{arith}
-use lib.ListN.{drop}
+use lib.ListN.{length, drop}
 use Rattle.nodes.specs.declared.node.Node.{Node}
 use Rattle.nodes.specs.Answer.{TAKEN}
 use Rattle.nodes.specs.Choose.{All, Pairs}
-use Rattle.nodes.specs.Node.{afterb}
-use Rattle.nodes.specs.Words.{node, nodes, count, nodeAt}
+use Rattle.nodes.specs.Node.{afterb, openb}
+use Rattle.nodes.specs.Words.{node, nodes, nodeAt}
 use Rattle.nodes.proofs.WordLaws.{length-nodes, nodes-from}
 use Rattle.lists.specs.Check.{checkWords}
 use Rattle.lists.specs.Two.{checkTwo}
-use Rattle.lists.specs.Walk.{firsts, unended, Upon}
+use Rattle.lists.specs.Walk.{firsts, opened, unended, Upon, Fits}
 use Rattle.lists.proofs.Faults.{Sound}
 use Rattle.lists.proofs.Pairing.{two-taken-iff}
-use Rattle.lists.proofs.Taken.{Fine}
+use Rattle.lists.proofs.Taken.{Fine, words-taken-iff}
 use Rattle.paging.specs.Page.{remains}
 use Rattle.tickets.specs.declared.ticket.Order.the-variants.{Descendant}
 use Rattle.tickets.specs.declared.ticket.Place.{Place}
 use Rattle.tickets.specs.declared.ticket.Relation.{Relation}
 use Rattle.tickets.specs.Listing.{sortKey}
-use Rattle.tickets.specs.Row.{row, matches}
+use Rattle.tickets.specs.Row.{row, matches, servedIn}
 use Rattle.tickets.specs.Ticket.{spotOf}
-use Rattle.tickets.proofs.Rows.{rest-of}
-use Rattle.pairs.specs.Sweep.{Opening}
-use Rattle.nodes.proofs.Choices.{all-at, pairs-at}
+use Rattle.tickets.proofs.Rows.{rest-of, row-past}
+use Rattle.pairs.specs.Sweep.{Placed, Opening, fromStart}
+use Rattle.nodes.proofs.Choices.{all-at}
 use Rattle.pairs.proofs.Accepted.{accepted, fine-with}
 use Rattle.pairs.proofs.Matching.{matches-open}
-use Rattle.pairs.proofs.OpenRow.{all-among, upon-left, open-none, open-left, open-later}
+use Rattle.pairs.proofs.OpenRow.{all-among, upon-open, left-open, open-none, open-left, open-later}
 use Rattle.pairs.proofs.Rowing.{matches-rise, rest-row}
+use Rattle.pairs.proofs.Telling.{Tells, served-in, after-next}
 
 module _ (as′ ds : List ℕ) where
-  -- at a descendant: the stack holds the ancestors that are open at it, and no ancestor before it is left
-  pub record At (d : Node) (depth passed : ℕ) (stack : List ℕ) : Type 0 where
-    pub opening : Opening as′ d depth passed stack
-    pub none : All (λ a. afterb d a ≡ false) (drop passed (nodes as′))
-    pub upon : Upon d (firsts depth (nodes stack))
+  -- at a descendant: the stack holds the ancestors that are open at it, and no ancestor before it
+  -- is left
+  pub record At (d : Node) (used passed : ℕ) (stack : List ℕ) : Type 0 where
+    pub opening : Opening as′ d used passed stack
+    pub none : All (λ a. afterb d a ≡ false) (drop (passed / 4) (nodes as′))
+    pub upon : Upon d (opened used stack)
 
   -- the stack stands for the ancestors passed at the descendant to come
-  abbrev pub Ready : ℕ → ℕ → ℕ → List ℕ → Type 0
-  Ready j depth passed stack = j < count ds → Opening as′ (nodeAt ds j) depth passed stack
-
-  pub ready-start : (j : ℕ) (stack : List ℕ) → Ready j 0 0 stack
-  unfolding firsts
-  ready-start j stack l = record { depth-in = zero-le; passed-in = zero-le; row = open-none (nodeAt ds j) }
-
-  pub ready-at : (j : ℕ) (d : Node) (depth passed : ℕ) (stack : List ℕ) → Ready j depth passed stack → j < count ds → d ≡ nodeAt ds j
-      → Opening as′ d depth passed stack
-  ready-at j d depth passed stack r l q = rw q (r l)
+  pub record Ready (j used passed : ℕ) (stack : List ℕ) : Type 0 where
+    pub at : Placed ds j
+    pub stands : j < length ds → Opening as′ (nodeAt ds (j / 4)) used passed stack
 
   module _ (taken : checkTwo as′ ds .answer ≡ TAKEN) where
-    -- the ancestors alone are accepted
-    pub first-taken : checkWords as′ .answer ≡ TAKEN
-    first-taken = two-taken-iff as′ ds .0 taken .0
+    -- each list alone is accepted
+    pub taken-as : checkWords as′ .answer ≡ TAKEN
+    taken-as = two-taken-iff as′ ds .0 taken .0
 
-    module _ (j : ℕ) (d : Node) (l : j < count ds) (q : d ≡ nodeAt ds j) where
-      sound-at : Sound d
+    pub taken-ds : checkWords ds .answer ≡ TAKEN
+    taken-ds = two-taken-iff as′ ds .0 taken .1
+
+    whole : (length as′ % 4 ≡ 0) × (length ds % 4 ≡ 0)
+    whole = (words-taken-iff as′ .0 taken-as .0, words-taken-iff ds .0 taken-ds .0)
+
+    -- before the first descendant that may have pairs past the place nothing is passed
+    pub ready-start : (place : Place) (first : ℕ) (stack : List ℕ) → first ≡ servedIn place (nodes ds) → Ready (4 * first) 0 0 stack
+    unfolding firsts
+    ready-start place first stack q =
+        let w = whole in
+        let h = served-in place ds first q in
+        record {
+          at = (w .1, omega arith, omega arith);
+          stands = λ m. record { used-in = (refl, zero-le); passed-in = (w .0, refl, zero-le); row = open-none _ };
+        }
+
+    module _ (j : ℕ) (l : j < length ds) where
+      sound-at : Sound (nodeAt ds (j / 4))
       unfolding nodeAt
-      sound-at = rw q (all-at Sound (nodes ds) j (node 0 0 0 0) (omega (arith, length-nodes ds)) (accepted as′ ds taken .sound-ds))
+      sound-at =
+          let w = whole in
+          all-at Sound (nodes ds) (j / 4) (node 0 0 0 0) (omega (arith, length-nodes ds)) (accepted as′ ds taken .sound-ds)
 
       -- the ancestors that stand before a descendant are fine with it
-      fine-at : (passed : ℕ) → passed ≤ count as′ → All (λ e. afterb d e ≡ true) (firsts passed (nodes as′))
-          → All (λ e. Fine e d) (firsts passed (nodes as′))
+      fine-at : (passed : ℕ) → passed ≤ length as′ → All (λ e. afterb (nodeAt ds (j / 4)) e ≡ true) (firsts (passed / 4) (nodes as′))
+          → All (λ e. Fine e (nodeAt ds (j / 4))) (firsts (passed / 4) (nodes as′))
       unfolding nodeAt
       fine-at passed p h =
-          rw q
-          (fine-with (nodes as′) (nodes ds) (accepted as′ ds taken .even) passed j (omega (arith, length-nodes as′)) (omega (arith, length-nodes ds))
-          (rw q at h))
+          let w = whole in
+          fine-with (nodes as′) (nodes ds) (accepted as′ ds taken .even) (passed / 4) (j / 4) (omega (arith, length-nodes as′))
+          (omega (arith, length-nodes ds)) h
 
-      -- once those that ended are taken off, the stack holds the ancestors that are open at the descendant
-      pub at-descendant : (depth passed left : ℕ) (stack : List ℕ)
-          → Opening as′ d depth passed stack → All (λ a. afterb d a ≡ false) (drop passed (nodes as′))
-          → left ≤ depth → firsts left (nodes stack) ≡ unended d (firsts depth (nodes stack)) → At d left passed stack
-      at-descendant depth passed left stack o none m e = record {
-        opening = record {
-          depth-in = let h = o .depth-in in omega arith;
-          passed-in = o .passed-in;
-          row = rw e (open-left d _ _ (o .row));
-        };
-        none = none;
-        upon =
-            rw e
-            (upon-left d (firsts depth (nodes stack)) sound-at
-            (all-among (λ f. Fine f d) (o .row) (fine-at passed (o .passed-in) (o .row .behind))));
-      }
+      module _ (d : Node) (q : d ≡ nodeAt ds (j / 4)) where
+        -- once those that ended are taken off, all that are left on the stack are open at the
+        -- descendant
+        pub left-at : (used passed left : ℕ) (stack : List ℕ) → Ready j used passed stack → Fits left
+            → opened left stack ≡ unended d (opened used stack) → Opening as′ d left passed stack × All (λ e. openb d e ≡ true) (opened left stack)
+        left-at used passed left stack r f e =
+            let o : Opening as′ d used passed stack = rw q (r .stands l) in (
+              record { used-in = f; passed-in = o .passed-in; row = rw e (open-left d _ _ (o .row)) },
+              rw e (left-open d (opened used stack) (o .row .stands .chain)),
+            )
 
-      module _ (depth passed : ℕ) (stack : List ℕ) (h : At d depth passed stack) where
+        -- once those that started before it are put on, it lies inside all of the stack
+        pub at-descendant : (used passed : ℕ) (stack : List ℕ) → Opening as′ d used passed stack → All (λ e. openb d e ≡ true) (opened used stack)
+            → All (λ a. afterb d a ≡ false) (drop (passed / 4) (nodes as′)) → At (nodeAt ds (j / 4)) used passed stack
+        at-descendant used passed stack o b none = subst (λ n. At n used passed stack) q (record {
+          opening = o;
+          none = none;
+          upon = upon-open d (opened used stack) (rw q sound-at) (all-among (λ f. Fine f d) (o .row)
+              (rw q (fine-at passed (o .passed-in .2) (rw q at (o .row .behind))))) b;
+        })
+
+      module _ (used passed : ℕ) (stack : List ℕ) (h : At (nodeAt ds (j / 4)) used passed stack) where
         -- what matches among all ancestors matches on the stack, and its starts rise
         at-matches : (relation : Relation)
-            → matches relation Descendant d (nodes as′) ≡ reverse (matches relation Descendant d (firsts depth (nodes stack)))
+            → matches relation Descendant (nodeAt ds (j / 4)) (nodes as′) ≡ reverse (matches relation Descendant (nodeAt ds (j / 4)) (opened used stack))
         at-matches relation =
-            matches-open d relation (nodes as′) passed (firsts depth (nodes stack)) sound-at
+            matches-open (nodeAt ds (j / 4)) relation (nodes as′) (passed / 4) (opened used stack) sound-at
             (let p = h .opening .passed-in in omega (arith, length-nodes as′)) (h .none) (h .opening .row)
 
-        pub at-rises : (relation : Relation)
-            → Pairs (λ x y. x .start < y .start) (reverse (matches relation Descendant d (firsts depth (nodes stack))))
+        at-rises : (relation : Relation)
+            → Pairs (λ x y. x .start < y .start) (reverse (matches relation Descendant (nodeAt ds (j / 4)) (opened used stack)))
         at-rises relation =
             subst (Pairs (λ x y. x .start < y .start)) (at-matches relation)
-            (matches-rise relation Descendant d (nodes as′) (accepted as′ ds taken .fine-as))
+            (matches-rise relation Descendant (nodeAt ds (j / 4)) (nodes as′) (accepted as′ ds taken .fine-as))
 
-        -- the descendant's row comes first of what remains
-        pub descend-row : (relation : Relation) (place : Place)
-            → rest-of relation Descendant place (drop j (nodes ds)) (nodes as′)
-            ≡ remains (sortKey Descendant) (spotOf place) (row Descendant d (reverse (matches relation Descendant d (firsts depth (nodes stack)))))
-            ++ rest-of relation Descendant place (drop (j + 1) (nodes ds)) (nodes as′)
-        descend-row relation place =
-            ap (λ ns. rest-of relation Descendant place ns (nodes as′)) (rw q (nodes-from ds j l))
-            ∙ rest-row relation Descendant d place (drop (j + 1) (nodes ds)) (nodes as′)
-            ∙ ap (λ zs. remains (sortKey Descendant) (spotOf place) (row Descendant d zs) ++ rest-of relation Descendant place
-            (drop (j + 1) (nodes ds)) (nodes as′))
-            (at-matches relation)
+        -- the descendant's row comes first of what remains, from the start on that tells what lies
+        -- past the place
+        pub descend-row : (relation : Relation) (place : Place) (past : ℕ) → Tells place ds past j
+            → rest-of relation Descendant place (drop (j / 4) (nodes ds)) (nodes as′)
+            ≡ row Descendant (nodeAt ds (j / 4)) (fromStart past (reverse (matches relation Descendant (nodeAt ds (j / 4)) (opened used stack))))
+            ++ rest-of relation Descendant place (drop ((j + 4) / 4) (nodes ds)) (nodes as′)
+        unfolding fromStart
+        descend-row relation place past p =
+            let w = whole in
+            let next : (j + 4) / 4 ≡ j / 4 + 1 = omega arith in
+            rw next
+            (ap (λ ns. rest-of relation Descendant place ns (nodes as′)) (nodes-from ds (j / 4) (omega arith))
+            ∙ rest-row relation Descendant (nodeAt ds (j / 4)) place (drop (j / 4 + 1) (nodes ds)) (nodes as′)
+            ∙ ap (λ ps. ps ++ rest-of relation Descendant place (drop (j / 4 + 1) (nodes ds)) (nodes as′))
+            (ap (λ zs. remains (sortKey Descendant) (spotOf place) (row Descendant (nodeAt ds (j / 4)) zs)) (at-matches relation)
+            ∙ row-past Descendant place past (nodeAt ds (j / 4)) _ (p l) (at-rises relation)))
 
         -- and the stack is ready for the next one
-        pub ready-next : Ready (j + 1) depth passed stack
-        unfolding nodeAt
-        ready-next m = record {
-          depth-in = h .opening .depth-in;
-          passed-in = h .opening .passed-in;
-          row =
-              open-later d (nodeAt ds (j + 1)) _ _
-              (rw q
-              (pairs-at Fine (nodes ds) j (j + 1) (node 0 0 0 0) (omega arith) (omega (arith, length-nodes ds))
-              (accepted as′ ds taken .fine-ds) .after))
-              (h .opening .row);
+        pub ready-next : Placed ds j → Ready (j + 4) used passed stack
+        ready-next at = record {
+          at = (at .0, omega arith, omega arith);
+          stands = λ m. record {
+            used-in = h .opening .used-in;
+            passed-in = h .opening .passed-in;
+            row = open-later (nodeAt ds (j / 4)) (nodeAt ds ((j + 4) / 4)) _ _ (after-next ds taken-ds j m) (h .opening .row);
+          };
         }

@@ -13,7 +13,7 @@ use Rattle.nodes.specs.Words.{nodes, count}
 use Rattle.nodes.proofs.Choices.{all-map, all-both, keep-past, keep-pairs}
 use Rattle.nodes.proofs.NodeLaws.{after-starts}
 use Rattle.nodes.proofs.Tests.{either}
-use Rattle.nodes.proofs.WordLaws.{nodes-behind, nodes-part}
+use Rattle.nodes.proofs.WordLaws.{nodes-behind}
 use Rattle.lists.proofs.Taken.{Fine}
 use Rattle.paging.specs.Page.{remains}
 use Rattle.tickets.specs.declared.ticket.Order.{Order}
@@ -23,10 +23,10 @@ use Rattle.tickets.specs.Listing.{relatedb, sortKey, leaders, followers, pairOf
 use Rattle.tickets.specs.Row.{row, matches, servedIn}
 use Rattle.tickets.specs.Ticket.{spotOf}
 use Rattle.tickets.proofs.Listed.{row-document}
-use Rattle.tickets.proofs.Rows.{rowPast, rest-of, rest-next, rest-served, row-ahead}
+use Rattle.tickets.proofs.Rows.{rest-of, rest-next, rest-served}
 
 -- nodes of one document that ascend rise in their starts
-rising : (x : Node) (zs : List Node) → Pairs Fine zs → All (λ z. x .document ≡ z .document) zs → Pairs (λ y z. y .start < z .start) zs
+pub rising : (x : Node) (zs : List Node) → Pairs Fine zs → All (λ z. x .document ≡ z .document) zs → Pairs (λ y z. y .start < z .start) zs
 rising x [] f h = tt
 rising x (z ∷ zs) f h = (all-both (λ n g d. after-starts n z (g .after) (sym (h .0) ∙ d)) zs (f .0) (h .1), rising x zs (f .1) (h .1))
 
@@ -67,10 +67,3 @@ pub sweep-end : (relation : Relation) (order : Order) (place : Place) (ws : List
     → rest-of relation order place (drop i (nodes ws)) ys ≡ []
 unfolding remains keep everyPair
 sweep-end relation order place ws ys i l = rw (nodes-behind ws i l) refl
-
--- of a stretch of words whose starts rise, what comes from the first past the place on is what remains of its row
-pub stretch-past : (order : Order) (place : Place) (x : Node) (zs : List Node) (ws : List ℕ) (from to : ℕ)
-    → Pairs (λ y z. y .start < z .start) zs → zs ≡ take (to - from) (drop from (nodes ws))
-    → rowPast order place x (nodes (take (4 * to - 4 * from) (drop (4 * from) ws))) ≡ remains (sortKey order) (spotOf place) (row order x zs)
-stretch-past order place x zs ws from to rise q =
-    ap (rowPast order place x) (nodes-part ws from to (4 * to - 4 * from) (omega arith) ∙ sym q) ∙ sym (row-ahead order place x zs rise)

@@ -1,74 +1,65 @@
 -- The descendants inside an ancestor are a run: they begin with the first that stands after it and end with the first at which it isn't open.
 -- A run that began late or ended early would leave out a pair, and one that went on would take a node outside; either would fall here.
 use mathlib.Core.Path.{_≡_, refl, ap, sym, subst, _∙_}
-use mathlib.Core.Logic.{inl, inr, ⊎-elim}
-use mathlib.Core.Bool.{true, false, not, cond}
-use mathlib.Core.List.{List, [], _∷_, _++_, map-append}
-use Prim.Native.Nat.{ℕ, zero, suc, _+_, _-_, _*_, _≤_, _<_}
+use mathlib.Core.Logic.{_⊎_, inl, inr, ⊎-elim}
+use mathlib.Core.Bool.{Bool, true, false, not, _&&_}
+use mathlib.Core.List.{List, [], _∷_, _++_}
+use Prim.Native.Nat.{ℕ, zero, suc, _+_, _-_, _*_, _/_, _%_, _≤_, _<_}
 use native.Mathlib.Nat.{not-suc-le-zero}
 use native.Mathlib.Omega.{arith}
+use lib.Dec.{ltb}
 use lib.ListN.{length, getD, take, drop, take-append-drop, length-drop}
 use lib.Seq.{getD-drop, drop-drop}
+use borrow.Author.Tests.{lt-ltb, le-ltb, ltb-true, ltb-false}
 use Rattle.nodes.specs.declared.node.Node.{Node}
-use Rattle.nodes.specs.Answer.{TAKEN}
 use Rattle.nodes.specs.Choose.{All, Pairs, keep, firstAt}
-use Rattle.nodes.specs.Node.{insideb, deeperb, directlyb, afterb, openb}
+use Rattle.nodes.specs.Node.{insideb, afterb, openb}
 use Rattle.nodes.specs.Words.{node, nodes, count, nodeAt}
-use Rattle.nodes.proofs.Choices.{all-map, all-both, keep-append, keep-none, all-at, pairs-at}
+use Rattle.nodes.proofs.Choices.{all-map, all-both, keep-append, keep-none, all-at}
 use Rattle.nodes.proofs.NodeLaws.{after-trans, inside-after, inside-open, open-read, shut-later}
-use Rattle.nodes.proofs.Tests.{either, never, not-so}
+use Rattle.nodes.proofs.Tests.{either, never, not-so, not-none, and-read}
 use Rattle.nodes.proofs.WordLaws.{length-nodes, nodes-from, nodes-behind}
-use Rattle.lists.specs.Check.{checkWords}
-use Rattle.lists.specs.Two.{oddsb, checkTwo}
 use Rattle.lists.proofs.Faults.{Sound}
 use Rattle.lists.proofs.Merging.{even-fine}
-use Rattle.lists.proofs.Pairing.{two-taken-iff}
 use Rattle.lists.proofs.Taken.{Fine, nested-read, fine-settles, words-taken-iff}
 use Rattle.tickets.specs.declared.ticket.Order.the-variants.{Ancestor}
-use Rattle.paging.specs.Page.{remains}
-use Rattle.paging.proofs.PageLaws.{remains-append}
-use Rattle.tickets.specs.declared.ticket.Place.{Place}
 use Rattle.tickets.specs.declared.ticket.Relation.{Relation}
-use Rattle.tickets.specs.declared.ticket.Relation.the-variants.{Inside, Directly}
-use Rattle.tickets.specs.Listing.{Pair, relatedb, sortKey, pairOf}
-use Rattle.tickets.specs.Row.{row, matches}
-use Rattle.tickets.specs.Ticket.{spotOf}
-use Rattle.tickets.proofs.First.{first-in, first-failed, first-from, first-earlier}
+use Rattle.tickets.specs.declared.ticket.Relation.the-variants.{Inside}
+use Rattle.tickets.specs.Listing.{relatedb, pairOf}
+use Rattle.tickets.specs.Row.{matches}
+use Rattle.tickets.proofs.First.{first-in, first-failed, first-from}
 use Rattle.tickets.proofs.Listed.{related-inside}
-use Rattle.tickets.proofs.Rows.{rowPast, rest-of}
-use Rattle.pairs.specs.Sweep.{Running}
-use Rattle.pairs.proofs.Accepted.{accepted}
-use Rattle.pairs.proofs.Rowing.{matches-rise, rest-row, stretch-past}
+use Rattle.pairs.specs.Sweep.{Running, Further, runningb, runEnd, stretch}
 
 module _ {A : Type 0} where
   -- what holds of all, or of all pairs, holds from an index on
-  all-drop : (P : A → Type 0) (k : ℕ) (xs : List A) → All P xs → All P (drop k xs)
+  pub all-drop : (P : A → Type 0) (k : ℕ) (xs : List A) → All P xs → All P (drop k xs)
   all-drop P zero xs h = h
   all-drop P (suc k) [] h = tt
   all-drop P (suc k) (x ∷ xs) h = all-drop P k xs (h .1)
 
-  pairs-drop : (R : A → A → Type 0) (k : ℕ) (xs : List A) → Pairs R xs → Pairs R (drop k xs)
+  pub pairs-drop : (R : A → A → Type 0) (k : ℕ) (xs : List A) → Pairs R xs → Pairs R (drop k xs)
   pairs-drop R zero xs h = h
   pairs-drop R (suc k) [] h = tt
   pairs-drop R (suc k) (x ∷ xs) h = pairs-drop R k xs (h .1)
 
 -- nodes that ascend after an ancestor, each fine with it
-record Run (a : Node) (zs : List Node) : Type 0 where
-  sound : All Sound zs
-  fine : All (Fine a) zs
-  pairs : Pairs Fine zs
+pub record Run (a : Node) (zs : List Node) : Type 0 where
+  pub sound : All Sound zs
+  pub fine : All (Fine a) zs
+  pub pairs : Pairs Fine zs
 
 module _ (a : Node) where
   run-next : (d : Node) (zs : List Node) → Run a (d ∷ zs) → Run a zs
   run-next d zs r = record { sound = r .sound .1; fine = r .fine .1; pairs = r .pairs .1 }
 
   -- a later node at which the ancestor is open lies inside it
-  open-inside : (d : Node) → Sound d → Fine a d → openb d a ≡ true → insideb d a ≡ true
+  pub open-inside : (d : Node) → Sound d → Fine a d → openb d a ≡ true → insideb d a ≡ true
   open-inside d s f o =
       let p = open-read d a o in
       ⊎-elim (λ q. absurd (omega (arith, p))) (λ q. nested-read d a q .0) (fine-settles d a (s .span) f (p .document))
 
-  match-append : (relation : Relation) (xs ys : List Node)
+  pub match-append : (relation : Relation) (xs ys : List Node)
       → matches relation Ancestor a (xs ++ ys) ≡ matches relation Ancestor a xs ++ matches relation Ancestor a ys
   unfolding matches
   match-append relation xs ys = keep-append _ xs ys
@@ -94,31 +85,30 @@ module _ (a : Node) where
         | inr h ↦ absurd (never o (all-at (λ z. openb z a ≡ false) zs i (node 0 0 0 0) (omega arith) (later-shut d zs r h)))
       ]
 
-  -- and neither that node nor a later one matches
-  run-shut : (relation : Relation) (d : Node) (zs : List Node) → Run a (d ∷ zs) → openb d a ≡ false → matches relation Ancestor a (d ∷ zs) ≡ []
-  run-shut relation d zs r o =
-      match-none relation (d ∷ zs)
-      (all-both (λ z s p. not-so (λ h. never (inside-open z a (s .span) h) p)) (d ∷ zs) (r .sound) (o, later-shut d zs r o))
+  -- at all from the run's end on it isn't open
+  run-rest : (zs : List Node) → Run a zs → All (λ z. openb z a ≡ false) (drop (firstAt (λ d. not (openb d a)) zs) zs)
+  unfolding firstAt
+  run-rest [] r = tt
+  run-rest (d ∷ zs) r =
+      elim (either (openb d a)) [ inl o ↦ rw o (run-rest zs (run-next d zs r)) | inr o ↦ rw o (o, later-shut d zs r o) ]
+
+  -- nodes at which it isn't open don't match
+  shut-none : (relation : Relation) (zs : List Node) → All Sound zs → All (λ z. openb z a ≡ false) zs → matches relation Ancestor a zs ≡ []
+  shut-none relation zs t o =
+      match-none relation zs (all-both (λ z s p. not-so (λ h. never (inside-open z a (s .span) h) p)) zs t o)
 
   -- all nodes of the run lie inside
-  run-inside : (zs : List Node) → Run a zs → matches Inside Ancestor a zs ≡ take (firstAt (λ d. not (openb d a)) zs) zs
+  pub run-inside : (zs : List Node) → Run a zs → matches Inside Ancestor a zs ≡ take (firstAt (λ d. not (openb d a)) zs) zs
   unfolding matches relatedb pairOf keep firstAt
   run-inside [] r = refl
   run-inside (d ∷ zs) r =
       elim (either (openb d a)) [
         | inl o ↦ rw (o, open-inside d (r .sound .0) (r .fine .0) o) (ap (λ ds. d ∷ ds) (run-inside zs (run-next d zs r)))
-        | inr o ↦ run-shut Inside d zs r o ∙ rw o refl
+        | inr o ↦ shut-none Inside (d ∷ zs) (r .sound) (o, later-shut d zs r o) ∙ rw o refl
       ]
 
-  -- of a node of the run only the level is left to compare
-  run-directly : (d : Node) (zs : List Node) → Run a (d ∷ zs) → openb d a ≡ true
-      → matches Directly Ancestor a (d ∷ zs) ≡ cond (deeperb d a) (d ∷ []) [] ++ matches Directly Ancestor a zs
-  unfolding matches relatedb pairOf keep directlyb
-  run-directly d zs r o =
-      rw (open-inside d (r .sound .0) (r .fine .0) o) (elim (either (deeperb d a)) [ inl h ↦ rw h refl | inr h ↦ rw h refl ])
-
   -- of nodes that ascend, from the first one after the ancestor on all stand after it
-  first-after : (ds : List Node) → Pairs Fine ds → All (λ d. afterb d a ≡ true) (drop (firstAt (λ d. afterb d a) ds) ds)
+  pub first-after : (ds : List Node) → Pairs Fine ds → All (λ d. afterb d a ≡ true) (drop (firstAt (λ d. afterb d a) ds) ds)
   unfolding firstAt
   first-after [] f = tt
   first-after (d ∷ ds) f =
@@ -128,7 +118,7 @@ module _ (a : Node) where
       ]
 
   -- no node before it matches
-  match-after : (relation : Relation) (ds : List Node)
+  pub match-after : (relation : Relation) (ds : List Node)
       → matches relation Ancestor a (drop (firstAt (λ d. afterb d a) ds) ds) ≡ matches relation Ancestor a ds
   match-after relation ds =
       let k : ℕ = firstAt (λ d. afterb d a) ds in
@@ -137,24 +127,19 @@ module _ (a : Node) where
       ap (λ zs. zs ++ matches relation Ancestor a (drop k ds)) (sym none) ∙ sym (match-append relation (take k ds) (drop k ds))
       ∙ ap (matches relation Ancestor a) (take-append-drop k ds)
 
--- what remains of an ancestor's row with some descendants
-abbrev pub rowLeft : Relation → Place → Node → List Node → List Pair
-rowLeft relation place a zs = remains (sortKey Ancestor) (spotOf place) (row Ancestor a (matches relation Ancestor a zs))
-
-left-none : (place : Place) (a : Node) → remains (sortKey Ancestor) (spotOf place) (row Ancestor a []) ≡ []
-unfolding remains row keep
-left-none place a = refl
-
-left-append : (place : Place) (a : Node) (xs ys : List Node)
-    → remains (sortKey Ancestor) (spotOf place) (row Ancestor a (xs ++ ys))
-    ≡ remains (sortKey Ancestor) (spotOf place) (row Ancestor a xs) ++ remains (sortKey Ancestor) (spotOf place) (row Ancestor a ys)
-unfolding row
-left-append place a xs ys =
-    ap (remains (sortKey Ancestor) (spotOf place)) (map-append (pairOf Ancestor a) xs ys)
-    ∙ remains-append (sortKey Ancestor) (spotOf place) (row Ancestor a xs) (row Ancestor a ys)
+-- an element before the first that passes a test fails it
+before-first : {A : Type 0} (test : A → Bool) (xs : List A) (i : ℕ) (d : A) → i < firstAt test xs → test (getD xs i d) ≡ false
+unfolding firstAt
+before-first test [] i d l = absurd (not-suc-le-zero l)
+before-first test (x ∷ xs) zero d l = elim (either (test x)) [ inl h ↦ absurd (not-suc-le-zero (rw h at l)) | inr h ↦ h ]
+before-first test (x ∷ xs) (suc i) d l =
+    elim (either (test x)) [
+      | inl h ↦ absurd (not-suc-le-zero (rw h at l))
+      | inr h ↦ before-first test xs i d (let m : suc i < suc (firstAt test xs) = rw h at l in omega arith)
+    ]
 
 module _ (ws : List ℕ) (a : Node) where
-  running-run : (k : ℕ) → Running ws a k → Run a (drop k (nodes ws))
+  pub running-run : (k : ℕ) → Running ws a k → Run a (drop k (nodes ws))
   running-run k r =
       let t = words-taken-iff ws .0 (r .accepted) in
       record {
@@ -163,130 +148,119 @@ module _ (ws : List ℕ) (a : Node) where
         pairs = pairs-drop Fine k (nodes ws) (t .3);
       }
 
-  -- the run from the next node on
-  pub running-next : (k : ℕ) → k < count ws → Running ws a k → Running ws a (k + 1)
-  running-next k l r = record {
-    accepted = r .accepted;
-    even = r .even;
-    from-in = omega arith;
-    after = subst (All (λ d. afterb d a ≡ true)) (nodes-from ws k l) (r .after) .1;
-  }
+  -- what holds from an index on holds from a later one on
+  pub running-from : (k m : ℕ) → k ≤ m → m ≤ count ws → Running ws a k → Running ws a m
+  running-from k m l h r =
+      let e : k + (m - k) ≡ m = omega arith in
+      record {
+        accepted = r .accepted;
+        whole = r .whole;
+        even = r .even;
+        from-in = h;
+        after =
+            subst (λ i. All (λ d. afterb d a ≡ true) (drop i (nodes ws))) e
+            (subst (All (λ d. afterb d a ≡ true)) (drop-drop (m - k) k (nodes ws)) (all-drop _ (m - k) (drop k (nodes ws)) (r .after)));
+      }
 
-  -- from the node behind one at which the ancestor is open, the search for the run's end finds the same
-  pub running-past : (k n m : ℕ) (d : Node) → k ≤ n → m ≡ n + 1 → Running ws a k → n < count ws → d ≡ nodeAt ws n → openb d a ≡ true
-      → (k < m) × Running ws a m
-      × (firstAt (λ z. not (openb z a)) (drop m (nodes ws)) + m ≡ firstAt (λ z. not (openb z a)) (drop k (nodes ws)) + k)
+  -- whether there is a descendant at an index at which the ancestor is open, made and read
+  pub running-none : (k : ℕ) → count ws ≤ k → false ≡ runningb ws a k
+  unfolding runningb
+  running-none k h = rw (le-ltb _ _ h)
+
+  pub running-node : (k : ℕ) (d : Node) (b : Bool) → k < count ws → d ≡ nodeAt ws k → b ≡ openb d a → b ≡ runningb ws a k
+  unfolding runningb
+  running-node k d b h q e = rw (lt-ltb _ _ h, ← q) e
+
+  pub running-read : (k : ℕ) → runningb ws a k ≡ true → (k < count ws) × (openb (nodeAt ws k) a ≡ true)
+  unfolding runningb
+  running-read k h = let p = and-read (ltb k (count ws)) h in (ltb-true _ _ (p .0), p .1)
+
+  -- the run ends at a descendant at which the ancestor isn't open, and with the list
+  pub run-stops : (k : ℕ) → runningb ws a k ≡ false → runEnd ws a k ≡ k
+  unfolding runningb firstAt
+  run-stops k h = let z : firstAt (λ d. not (openb d a)) (drop k (nodes ws)) ≡ 0 = ends (either (ltb k (count ws))) in omega arith
+    where
+      ends : (ltb k (count ws) ≡ true) ⊎ (ltb k (count ws) ≡ false) → firstAt (λ d. not (openb d a)) (drop k (nodes ws)) ≡ 0
+      ends (inl t) = rw (nodes-from ws k (ltb-true _ _ t), rw t at h) refl
+      ends (inr t) = rw (nodes-behind ws k (ltb-false _ _ t)) refl
+
+  -- after a descendant at which it is open, from some index on, the search for the run's end finds the same
+  pub further-to : (k n : ℕ) → k ≤ n → Running ws a k → runningb ws a n ≡ true → Running ws a (n + 1) × (runEnd ws a (n + 1) ≡ runEnd ws a k)
   unfolding nodeAt
-  running-past k n m d h e r l q o =
+  further-to k n h r o =
+      let p = running-read n o in
+      let l = p .0 in
       let zs : List Node = drop k (nodes ws) in
       let here : k + (n - k) ≡ n = omega arith in
-      let behind : k + suc (n - k) ≡ m = omega arith in
-      let rest : drop m (nodes ws) ≡ drop (suc (n - k)) zs =
+      let behind : k + suc (n - k) ≡ n + 1 = omega arith in
+      let rest : drop (n + 1) (nodes ws) ≡ drop (suc (n - k)) zs =
       sym (drop-drop (suc (n - k)) k (nodes ws) ∙ ap (λ i. drop i (nodes ws)) behind) in
-      let there : getD zs (n - k) (node 0 0 0 0) ≡ d =
-      getD-drop k (nodes ws) (n - k) (node 0 0 0 0) ∙ ap (λ i. getD (nodes ws) i (node 0 0 0 0)) here ∙ sym q in
-      let p = run-past a zs (n - k) (running-run k r) (omega (arith, length-drop k (nodes ws), length-nodes ws)) (ap (λ z. openb z a) there ∙ o) in (
-        omega arith,
-        record {
-          accepted = r .accepted;
-          even = r .even;
-          from-in = omega arith;
-          after = rw rest (all-drop (λ z. afterb z a ≡ true) (suc (n - k)) zs (r .after));
-        },
-        rw rest (omega arith),
-      )
+      let there : getD zs (n - k) (node 0 0 0 0) ≡ getD (nodes ws) n (node 0 0 0 0) =
+      getD-drop k (nodes ws) (n - k) (node 0 0 0 0) ∙ ap (λ i. getD (nodes ws) i (node 0 0 0 0)) here in
+      let q = run-past a zs (n - k) (running-run k r) (omega (arith, length-drop k (nodes ws), length-nodes ws)) (ap (λ z. openb z a) there ∙ p .1) in
+      (running-from k (n + 1) (omega arith) (omega arith) r, rw rest (omega arith))
 
-  -- the whole run
-  running-first : checkWords ws .answer ≡ TAKEN → All (λ d. oddsb a d ≡ false) (nodes ws) → Running ws a (firstAt (λ d. afterb d a) (nodes ws))
-  running-first h e = record {
-    accepted = h;
-    even = e;
-    from-in = omega (arith, first-in (λ d. afterb d a) (nodes ws), length-nodes ws);
-    after = first-after a (nodes ws) (words-taken-iff ws .0 h .3);
-  }
+  -- the run doesn't end before an index up to which it goes on
+  pub end-from : (k m : ℕ) → k ≤ m → m ≤ runEnd ws a k → runEnd ws a m ≡ runEnd ws a k
+  end-from k m l h =
+      let e : k + (m - k) ≡ m = omega arith in
+      let p = first-from (λ d. not (openb d a)) (m - k) (drop k (nodes ws)) (omega arith) in
+      let q : drop m (nodes ws) ≡ drop (m - k) (drop k (nodes ws)) = sym (drop-drop (m - k) k (nodes ws) ∙ ap (λ i. drop i (nodes ws)) e) in
+      rw q (omega arith)
 
-  -- what remains of the row of nodes inside is the run in the words, past the place
-  pub running-row : (place : Place) (from to : ℕ) → Running ws a from → to ≡ firstAt (λ d. not (openb d a)) (drop from (nodes ws)) + from
-      → rowPast Ancestor place a (nodes (take (4 * to - 4 * from) (drop (4 * from) ws))) ≡ rowLeft Inside place a (drop from (nodes ws))
-  running-row place from to r q =
-      let zs : List Node = drop from (nodes ws) in
-      let run = running-run from r in
-      let width : to - from ≡ firstAt (λ d. not (openb d a)) zs = omega arith in
-      stretch-past Ancestor place a (matches Inside Ancestor a zs) ws from to (matches-rise Inside Ancestor a zs (run .pairs))
-      (run-inside a zs run ∙ ap (λ n. take n zs) (sym width))
+  -- it ends in the list or at its end
+  pub end-in : (k : ℕ) → k ≤ count ws → runEnd ws a k ≤ count ws
+  end-in k h = omega (arith, first-in (λ d. not (openb d a)) (drop k (nodes ws)), length-drop k (nodes ws), length-nodes ws)
 
-  -- where the ancestor is open, the node there is a child or not, and the others follow
-  pub running-open : (place : Place) (k : ℕ) (d : Node) → Running ws a k → k < count ws → d ≡ nodeAt ws k → openb d a ≡ true
-      → rowLeft Directly place a (drop k (nodes ws))
-      ≡ remains (sortKey Ancestor) (spotOf place) (row Ancestor a (cond (deeperb (nodeAt ws k) a) (nodeAt ws k ∷ []) []))
-      ++ rowLeft Directly place a (drop (k + 1) (nodes ws))
-  running-open place k d r l q o =
-      let e = nodes-from ws k l in
-      let n = nodeAt ws k in
-      let later = drop (k + 1) (nodes ws) in
-      ap (rowLeft Directly place a) e
-      ∙ ap (λ zs. remains (sortKey Ancestor) (spotOf place) (row Ancestor a zs))
-      (run-directly a n later (subst (Run a) e (running-run k r)) (subst (λ x. openb x a ≡ true) q o))
-      ∙ left-append place a (cond (deeperb n a) (n ∷ []) []) (matches Directly Ancestor a later)
+  -- and each descendant before that lies inside
+  pub inside-run : (k j : ℕ) → Running ws a k → k ≤ j → j < runEnd ws a k → insideb (nodeAt ws j) a ≡ true
+  unfolding nodeAt
+  inside-run k j r l h =
+      let zs : List Node = drop k (nodes ws) in
+      let here : k + (j - k) ≡ j = omega arith in
+      let run = running-run k r in
+      let in′ = first-in (λ d. not (openb d a)) zs in
+      let there : getD zs (j - k) (node 0 0 0 0) ≡ getD (nodes ws) j (node 0 0 0 0) =
+      getD-drop k (nodes ws) (j - k) (node 0 0 0 0) ∙ ap (λ i. getD (nodes ws) i (node 0 0 0 0)) here in
+      let o = not-none _ (before-first (λ d. not (openb d a)) zs (j - k) (node 0 0 0 0) (omega arith)) in
+      subst (λ d. insideb d a ≡ true) there
+      (open-inside a (getD zs (j - k) (node 0 0 0 0)) (all-at Sound zs (j - k) (node 0 0 0 0) (omega arith) (run .sound))
+      (all-at (Fine a) zs (j - k) (node 0 0 0 0) (omega arith) (run .fine)) o)
 
-  -- where it isn't, nothing is left, and so behind the last
-  pub running-shut : (relation : Relation) (place : Place) (k : ℕ) (d : Node)
-      → Running ws a k → k < count ws → d ≡ nodeAt ws k → openb d a ≡ false → rowLeft relation place a (drop k (nodes ws)) ≡ []
-  running-shut relation place k d r l q o =
-      let e = nodes-from ws k l in
-      ap (rowLeft relation place a) e
-      ∙ ap (λ zs. remains (sortKey Ancestor) (spotOf place) (row Ancestor a zs))
-      (run-shut a relation (nodeAt ws k) (drop (k + 1) (nodes ws)) (subst (Run a) e (running-run k r)) (subst (λ x. openb x a ≡ false) q o))
-      ∙ left-none place a
+  -- the same in words: a place goes on to the next, and from there to one further
+  pub further-none : (k : ℕ) → k % 4 ≡ 0 → Running ws a (k / 4) → Further ws a k k
+  further-none k m r = (m, omega arith, r, refl)
 
-  pub running-behind : (relation : Relation) (place : Place) (k : ℕ) → count ws ≤ k → rowLeft relation place a (drop k (nodes ws)) ≡ []
-  unfolding matches keep
-  running-behind relation place k l = ap (rowLeft relation place a) (nodes-behind ws k l) ∙ left-none place a
+  pub further-next : (k n m : ℕ) → k % 4 ≡ 0 → n % 4 ≡ 0 → k ≤ n → m ≡ n + 4 → Running ws a (k / 4) → runningb ws a (n / 4) ≡ true → Further ws a k m
+  further-next k n m p q l e r o =
+      let t : n / 4 + 1 ≡ m / 4 = omega arith in
+      let f = further-to (k / 4) (n / 4) (omega arith) r o in
+      (omega arith, omega arith, subst (Running ws a) t (f .0), ap (runEnd ws a) (sym t) ∙ f .1)
 
--- what holds of all nodes of words, or of all pairs of them, holds at each index
-node-all : (ws : List ℕ) (P : Node → Type 0) (i : ℕ) → i < count ws → All P (nodes ws) → P (nodeAt ws i)
-unfolding nodeAt
-node-all ws P i l h = all-at P (nodes ws) i (node 0 0 0 0) (omega (arith, length-nodes ws)) h
+  pub further-trans : (k m n : ℕ) → Further ws a k m → Further ws a m n → Further ws a k n
+  further-trans k m n f g = let h = f .1 in let i = g .1 in (g .0, omega arith, g .2, g .3 ∙ f .3)
 
-node-pair : (ws : List ℕ) (R : Node → Node → Type 0) (k i : ℕ) → k < i → i < count ws → Pairs R (nodes ws) → R (nodeAt ws k) (nodeAt ws i)
-unfolding nodeAt
-node-pair ws R k i m l h = pairs-at R (nodes ws) k i (node 0 0 0 0) m (omega (arith, length-nodes ws)) h
+  pub further-stops : (k m : ℕ) → Further ws a k m → runningb ws a (m / 4) ≡ false → m / 4 ≡ runEnd ws a (k / 4)
+  further-stops k m f o = sym (run-stops (m / 4) o) ∙ f .3
 
--- a sweep along the ancestors stands at one: no descendant before an index stands after it
-abbrev pub Reached : List ℕ → List ℕ → ℕ → ℕ → Type 0
-Reached as′ ws i from = i < count as′ → from ≤ firstAt (λ d. afterb d (nodeAt as′ i)) (nodes ws)
+  -- from its end on nothing lies inside
+  pub none-match : (relation : Relation) (k m : ℕ) → Running ws a k → runEnd ws a k ≤ m → matches relation Ancestor a (drop m (nodes ws)) ≡ []
+  none-match relation k m r h =
+      let zs : List Node = drop k (nodes ws) in
+      let e : k + (m - k) ≡ m = omega arith in
+      let n : ℕ = firstAt (λ d. not (openb d a)) zs in
+      let f : n + (m - k - n) ≡ m - k = omega arith in
+      let run = running-run k r in
+      let rest : drop (m - k - n) (drop n zs) ≡ drop m (nodes ws) =
+      drop-drop (m - k - n) n zs ∙ ap (λ i. drop i zs) f ∙ drop-drop (m - k) k (nodes ws) ∙ ap (λ i. drop i (nodes ws)) e in
+      subst (λ xs. matches relation Ancestor a xs ≡ []) rest
+      (shut-none a relation (drop (m - k - n) (drop n zs)) (all-drop Sound (m - k - n) (drop n zs) (all-drop Sound n zs (run .sound)))
+      (all-drop _ (m - k - n) (drop n zs) (run-rest a zs run)))
 
-module _ (as′ ws : List ℕ) where
-  pub reached-in : (i from : ℕ) → i < count as′ → Reached as′ ws i from → from ≤ count ws
-  reached-in i from l p = omega (arith, p l, first-in (λ d. afterb d (nodeAt as′ i)) (nodes ws), length-nodes ws)
-
-  module _ (i from to : ℕ) (a : Node) (l : i < count as′) (q : a ≡ nodeAt as′ i) (p : Reached as′ ws i from)
-      (e : to ≡ firstAt (λ d. afterb d a) (drop from (nodes ws)) + from) where
-    -- the search from the index on finds the first descendant after the ancestor
-    found : to ≡ firstAt (λ d. afterb d a) (nodes ws)
-    found = e ∙ first-from (λ d. afterb d a) from (nodes ws) (subst (λ n. from ≤ firstAt (λ d. afterb d n) (nodes ws)) (sym q) (p l))
-
-    pub sweep-running : checkTwo as′ ws .answer ≡ TAKEN → Running ws a to
-    sweep-running h =
-        let even : All (λ d. oddsb (nodeAt as′ i) d ≡ false) (nodes ws) =
-        node-all as′ (λ x. All (λ d. oddsb x d ≡ false) (nodes ws)) i l (accepted as′ ws h .even) in
-        subst (Running ws a) (sym found)
-        (running-first ws a (two-taken-iff as′ ws .0 h .1) (subst (λ n. All (λ d. oddsb n d ≡ false) (nodes ws)) (sym q) even))
-
-    -- the next ancestor stands after this one
-    pub sweep-next : checkTwo as′ ws .answer ≡ TAKEN → Reached as′ ws (i + 1) to
-    sweep-next h m =
-        let b = nodeAt as′ (i + 1) in
-        let fine : Fine (nodeAt as′ i) b = node-pair as′ Fine i (i + 1) (omega arith) m (accepted as′ ws h .fine-as) in
-        let before : afterb b a ≡ true = rw q (fine .after) in
-        rw found (first-earlier (λ d. afterb d a) (λ d. afterb d b) (λ d h. after-trans d b a h before) (nodes ws))
-
-    -- this ancestor's row with its run comes next
-    pub sweep-row : (relation : Relation) (place : Place)
-        → rest-of relation Ancestor place (drop i (nodes as′)) (nodes ws)
-        ≡ rowLeft relation place a (drop to (nodes ws)) ++ rest-of relation Ancestor place (drop (i + 1) (nodes as′)) (nodes ws)
-    sweep-row relation place =
-        let later = drop (i + 1) (nodes as′) in
-        rw (nodes-from as′ i l, ← q, found) (rest-row relation Ancestor a place later (nodes ws)
-        ∙ ap (λ zs. remains (sortKey Ancestor) (spotOf place) (row Ancestor a zs) ++ rest-of relation Ancestor place later (nodes ws))
-        (sym (match-after a relation (nodes ws))))
+  -- the descendants inside are those from a place to the run's end
+  pub run-stretch : (from to : ℕ) → Running ws a (from / 4) → to / 4 ≡ runEnd ws a (from / 4)
+      → stretch ws from to ≡ matches Inside Ancestor a (drop (from / 4) (nodes ws))
+  run-stretch from to r q =
+      let zs : List Node = drop (from / 4) (nodes ws) in
+      let width : to / 4 - from / 4 ≡ firstAt (λ d. not (openb d a)) zs = omega arith in
+      ap (λ n. take n zs) width ∙ sym (run-inside a zs (running-run (from / 4) r))

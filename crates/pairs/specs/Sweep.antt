@@ -1,19 +1,19 @@
 -- Words of the contracts of private functions: what a sweep along the lists keeps. No public contract cites this file.
-use Prim.Native.Nat.{ℕ, _+_, _*_, _-_, _≤_}
+use Prim.Native.Nat.{ℕ, _+_, _*_, _-_, _/_, _%_, _≤_}
 use mathlib.Core.Path.{_≡_}
 use mathlib.Core.Logic.{_⊎_}
-use mathlib.Core.Bool.{Bool, true, false, cond}
+use mathlib.Core.Bool.{Bool, true, false, cond, not, _&&_}
 use mathlib.Core.List.{List}
-use lib.Dec.{eqb}
-use lib.ListN.{getD, drop}
+use lib.Dec.{eqb, ltb, leb}
+use lib.ListN.{length, getD, take, drop}
 use Rattle.nodes.specs.declared.node.Node.{Node}
 use Rattle.nodes.specs.Answer.{TAKEN}
-use Rattle.nodes.specs.Choose.{All, In}
-use Rattle.nodes.specs.Node.{afterb, MOST-LEVELS}
-use Rattle.nodes.specs.Words.{node, nodes, count}
+use Rattle.nodes.specs.Choose.{All, In, firstAt}
+use Rattle.nodes.specs.Node.{afterb, openb}
+use Rattle.nodes.specs.Words.{NODE-WORDS, node, nodes, count, nodeAt}
 use Rattle.lists.specs.Check.{checkWords}
 use Rattle.lists.specs.Two.{oddsb}
-use Rattle.lists.specs.Walk.{firsts, Stands}
+use Rattle.lists.specs.Walk.{firsts, opened, Fits, Stands}
 use Rattle.paging.specs.Page.{remains}
 use Rattle.paging.specs.Serve.{serve}
 use Rattle.tickets.specs.declared.ticket.Key.{Key}
@@ -25,10 +25,25 @@ use Rattle.tickets.specs.Listing.{keyOf, sortKey, listing}
 use Rattle.tickets.specs.Row.{PAIR-WORDS, pairWords, row}
 use Rattle.tickets.specs.Ticket.{spotOf}
 
--- the output, the count and whether all found room, once what remains of a leader's row is served from a count on
-abbrev pub served : Order → Place → List ℕ → ℕ → Node → List Node → List ℕ × ℕ × Bool
-served order place out written leader ns =
-    serve pairWords PAIR-WORDS out written (remains (sortKey order) (spotOf place) (row order leader ns))
+-- a place in a list of whole nodes: a word at which a node starts, or the list's end
+abbrev pub Placed : List ℕ → ℕ → Type 0
+Placed words at = (length words % NODE-WORDS ≡ 0) × (at % NODE-WORDS ≡ 0) × (at ≤ length words)
+
+-- the nodes from one place up to another
+abbrev pub stretch : List ℕ → ℕ → ℕ → List Node
+stretch words from to = take (to / NODE-WORDS - from / NODE-WORDS) (drop (from / NODE-WORDS) (nodes words))
+
+-- a node starts at a start or later
+abbrev pub startsFrom : ℕ → Node → Bool
+startsFrom start n = leb start (n .start)
+
+-- what is left of some nodes from the first on that starts at a start or later
+unfoldable pub fromStart : ℕ → List Node → List Node
+fromStart start ns = drop (firstAt (startsFrom start) ns) ns
+
+-- the output, the count and whether all found room, once a leader's pairs with some followers are served from a count on
+abbrev pub servedRow : Order → List ℕ → ℕ → Node → List Node → List ℕ × ℕ × Bool
+servedRow order out written leader ns = serve pairWords PAIR-WORDS out written (row order leader ns)
 
 -- the same, once what remains of the whole listing is served from the beginning
 abbrev pub servedAll : Relation → Order → Place → List ℕ → List ℕ → List ℕ → List ℕ × ℕ × Bool
@@ -45,18 +60,33 @@ pub record Open (d : Node) (before s : List Node) : Type 0 where
   pub among : All (λ e. In e before) s
   pub behind : All (λ e. afterb d e ≡ true) before
 
--- of the ancestors, so many are passed and so many are on the stack, where they stand for those passed
-pub record Opening (ancestors : List ℕ) (d : Node) (depth passed : ℕ) (stack : List ℕ) : Type 0 where
-  pub depth-in : depth ≤ MOST-LEVELS
-  pub passed-in : passed ≤ count ancestors
-  pub row : Open d (firsts passed (nodes ancestors)) (firsts depth (nodes stack))
+-- the ancestors up to a place are passed, and in the words in use of a stack lie those that stand for them
+pub record Opening (ancestors : List ℕ) (d : Node) (used passed : ℕ) (stack : List ℕ) : Type 0 where
+  pub used-in : Fits used
+  pub passed-in : Placed ancestors passed
+  pub row : Open d (firsts (passed / NODE-WORDS) (nodes ancestors)) (opened used stack)
 
 -- from an index on the descendants stand after an ancestor with which none is at odds
 pub record Running (descendants : List ℕ) (a : Node) (from : ℕ) : Type 0 where
   pub accepted : checkWords descendants .answer ≡ TAKEN
+  pub whole : length descendants % NODE-WORDS ≡ 0
   pub even : All (λ d. oddsb a d ≡ false) (nodes descendants)
   pub from-in : from ≤ count descendants
   pub after : All (λ d. afterb d a ≡ true) (drop from (nodes descendants))
+
+-- there is a descendant at an index, and the ancestor is open at it
+unfoldable pub runningb : List ℕ → Node → ℕ → Bool
+runningb descendants a k = ltb k (count descendants) && openb (nodeAt descendants k) a
+
+-- the index of the first descendant, from an index on, at which the ancestor isn't open
+abbrev pub runEnd : List ℕ → Node → ℕ → ℕ
+runEnd descendants a from = firstAt (λ d. not (openb d a)) (drop from (nodes descendants)) + from
+
+-- up to a later place the ancestor is open at every descendant, so that from there on its run ends where it does from here on
+abbrev pub Further : List ℕ → Node → ℕ → ℕ → Type 0
+Further descendants a from to =
+    (to % NODE-WORDS ≡ 0) × (from ≤ to) × Running descendants a (to / NODE-WORDS)
+    × (runEnd descendants a (to / NODE-WORDS) ≡ runEnd descendants a (from / NODE-WORDS))
 
 -- the key of the pair at an index of nodes that stand in twos
 unfoldable pub keyIn : Order → List Node → ℕ → Key

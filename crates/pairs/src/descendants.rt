@@ -2,98 +2,78 @@
 use crate::open::STACK_WORDS;
 use crate::open::open_before;
 use crate::open::still_open;
+use crate::rows::Handed;
+use crate::rows::first_from;
+use crate::rows::hand_ancestors;
+use crate::rows::node_from;
 use nodes::node::NODE_WORDS;
 use nodes::node::Node;
 use nodes::node::is_one_deeper;
 use nodes::node::node_at;
-use nodes::node::node_count;
-use tickets::row::Handed;
-use tickets::row::first_ahead;
-use tickets::row::hand_row;
+use tickets::row::past_from;
 use tickets::row::served_count;
 use tickets::ticket::Order;
 use tickets::ticket::Place;
 use tickets::ticket::Relation;
 ghost use mathlib.Core.Path.{_≡_};
 ghost use mathlib.Core.List.{reverse};
-ghost use Prim.Native.Nat.{_-_, _≤_, _<_};
-ghost use lib.ListN.{take, drop};
+ghost use Prim.Native.Nat.{_/_, _%_, _≤_, _<_};
+ghost use lib.ListN.{length};
 ghost use Rattle.nodes.specs.Answer.{TAKEN};
-ghost use Rattle.nodes.specs.Choose.{Pairs};
-ghost use Rattle.nodes.specs.Node.{MOST-LEVELS};
-ghost use Rattle.nodes.specs.Words.{nodes, count};
+ghost use Rattle.nodes.specs.Words.{NODE-WORDS, nodeAt};
 ghost use Rattle.lists.specs.Two.{checkTwo};
-ghost use Rattle.lists.specs.Walk.{firsts, Chain, Upon};
+ghost use Rattle.lists.specs.Walk.{opened, Chain, Upon, Fits};
 ghost use Rattle.tickets.specs.Row.{matches};
-ghost use Rattle.pairs.specs.Sweep.{served, servedAll};
+ghost use Rattle.pairs.specs.Sweep.{Placed, stretch, fromStart, servedRow, servedAll};
 
-// Where on the stack the ancestors begin that have the relation with a descendant which lies inside all of them. Directly inside it can
-// only lie in the innermost, as the levels rise towards it.
-fn first_match(relation: Relation, stack: &[u32], depth: usize, descendant: Node) -> usize
-    requires { ⌜ (depth ≤ count (now stack)) × Chain (firsts depth (nodes (now stack))) × Upon descendant (firsts depth (nodes (now stack))) ⌝ }
-    ensures { λ r. ⌜ (r ≤ depth) × (reverse (matches relation Order.Descendant descendant (firsts depth (nodes (now (stack .entry)))))
-        ≡ take (depth - r) (drop r (nodes (now (stack .entry))))) ⌝ }
+// Returns the place on the stack from which on the ancestors have the relation with a descendant that lies inside all of
+// them. Directly inside it can only lie in the innermost, as the levels rise towards it.
+fn first_match(relation: Relation, stack: &[u32], used: usize, descendant: Node) -> usize
+    requires { ⌜ Placed (now stack) used × Chain (opened used (now stack)) × Upon descendant (opened used (now stack)) ⌝ }
+    ensures { λ r. ⌜ (r % NODE-WORDS ≡ 0) × (r ≤ used)
+        × (reverse (matches relation Order.Descendant descendant (opened used (now (stack .entry)))) ≡ stretch (now (stack .entry)) r used) ⌝ }
 {
     match relation {
         Relation::Inside => 0,
         Relation::Directly => {
-            if depth == 0 {
+            if used == 0 {
                 return 0;
             }
-            if is_one_deeper(descendant, node_at(stack, depth - 1)) {
-                return depth - 1;
+            if is_one_deeper(descendant, node_from(stack, used - NODE_WORDS)) {
+                return used - NODE_WORDS;
             }
-            depth
+            used
         }
     }
 }
 
-// The pairs of one descendant with a stretch of the stack are handed out past the place.
-fn hand_stretch(
-    out: &mut [u32],
-    written: usize,
-    place: Place,
-    descendant: Node,
-    stack: &[u32],
-    from: usize,
-    to: usize,
-) -> Handed
-    requires { ⌜ (from ≤ to) × (to ≤ count (now stack)) × Pairs (λ x y. x .start < y .start) (take (to - from) (drop from (nodes (now stack)))) ⌝ }
-    ensures { λ r. ⌜ (now (out .exit), r .count, r .done) ≡ served Order.Descendant place (now (out .entry)) written descendant
-        (take (to - from) (drop from (nodes (now (stack .entry))))) ⌝ }
-{
-    let stretch = &stack[NODE_WORDS * from..NODE_WORDS * to];
-    let ahead = first_ahead(place, descendant, stretch);
-    hand_row(
-        out,
-        written,
-        Order::Descendant,
-        descendant,
-        &stretch[NODE_WORDS * ahead..],
-    )
-}
-
-// The pairs of one descendant with the ancestors on the stack, all of which contain it, are handed out past the place.
+// Hands out the pairs of the descendant at a place with the ancestors on the stack, all of which contain it, that start
+// at a start or later.
 fn hand_descendant(
     out: &mut [u32],
     written: usize,
     relation: Relation,
-    place: Place,
-    descendant: Node,
+    past: u64,
+    descendants: &[u32],
+    at: usize,
     stack: &[u32; STACK_WORDS],
-    depth: usize,
+    used: usize,
 ) -> Handed
-    requires { ⌜ (depth ≤ MOST-LEVELS) × Chain (firsts depth (nodes (now stack))) × Upon descendant (firsts depth (nodes (now stack)))
-        × Pairs (λ x y. x .start < y .start) (reverse (matches relation Order.Descendant descendant (firsts depth (nodes (now stack))))) ⌝ }
-    ensures { λ r. ⌜ (now (out .exit), r .count, r .done) ≡ served Order.Descendant place (now (out .entry)) written descendant
-        (reverse (matches relation Order.Descendant descendant (firsts depth (nodes (now (stack .entry)))))) ⌝ }
+    requires { ⌜ Placed (now descendants) at × (at < length (now descendants)) × Fits used
+        × Chain (opened used (now stack)) × Upon (nodeAt (now descendants) (at / NODE-WORDS)) (opened used (now stack)) ⌝ }
+    ensures { λ r. ⌜ (now (out .exit), r .count, r .done)
+        ≡ servedRow Order.Descendant (now (out .entry)) written (nodeAt (now (descendants .entry)) (at / NODE-WORDS))
+        (fromStart past (reverse (matches relation Order.Descendant (nodeAt (now (descendants .entry)) (at / NODE-WORDS))
+        (opened used (now (stack .entry)))))) ⌝ }
 {
-    let from = first_match(relation, stack, depth, descendant);
-    hand_stretch(out, written, place, descendant, stack, from, depth)
+    let from = first_match(relation, stack, used, node_from(descendants, at));
+    let ahead = first_from(stack, from, used, past);
+    hand_ancestors(out, written, descendants, at, stack, ahead, used)
 }
 
-// What remains of the listing is handed out in descendant order. The sweep begins at the first descendant that may have pairs past the
-// place, and each descendant finds on the stack the ancestors that started before it and have not ended.
+// Hands out what remains of the listing in descendant order. The sweep begins at the first descendant that may have pairs past the
+// place. Each descendant finds on the stack the ancestors that started before it and have not ended: first those that
+// ended are taken off, then those that started in between and are still open are put on.
 pub(crate) fn sweep_descendants(
     ancestors: &[u32],
     descendants: &[u32],
@@ -106,31 +86,36 @@ pub(crate) fn sweep_descendants(
         (now (out .entry)) (now (ancestors .entry)) (now (descendants .entry)) ⌝ }
 {
     let mut stack = [0u32; STACK_WORDS];
-    let mut depth = 0;
+    let mut used = 0;
     let mut passed = 0;
     let mut handed = Handed {
         count: 0,
         done: true,
     };
-    let mut j = served_count(place, descendants);
-    while j < node_count(descendants) {
-        let descendant = node_at(descendants, j);
-        let opened = open_before(&mut stack, depth, passed, ancestors, descendant);
-        depth = still_open(&stack, opened.depth, descendant);
+    let first = served_count(place, descendants);
+    let mut past = past_from(place, node_at(descendants, first));
+    let mut j = NODE_WORDS * first;
+    while j < descendants.len() {
+        let descendant = node_from(descendants, j);
+        let left = still_open(&stack, used, descendant);
+        let opened = open_before(&mut stack, left, passed, ancestors, descendant);
+        used = opened.used;
         passed = opened.passed;
         handed = hand_descendant(
             out,
             handed.count,
             relation,
-            place,
-            descendant,
+            past,
+            descendants,
+            j,
             &stack,
-            depth,
+            used,
         );
         if !handed.done {
             return handed;
         }
-        j += 1;
+        past = 0;
+        j += NODE_WORDS;
     }
     handed
 }

@@ -3,3 +3,4 @@ mod ancestors;
 mod descendants;
 mod open;
 pub mod page;
+mod rows;

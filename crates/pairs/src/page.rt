@@ -1,11 +1,11 @@
 // A page of a listing.
 use crate::ancestors::sweep_ancestors;
 use crate::descendants::sweep_descendants;
+use crate::rows::Handed;
 use lists::two::check_two;
 use lists::verdict::Verdict;
 use nodes::answer::TAKEN;
 use nodes::node::node_at;
-use tickets::row::Handed;
 use tickets::ticket::Key;
 use tickets::ticket::Order;
 use tickets::ticket::Place;

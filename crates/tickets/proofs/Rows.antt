@@ -1,18 +1,18 @@
 -- What remains of a listing is what remains of its rows, and a row remains from its first follower past the place on.
 -- A row passed over that had a pair past the place, or a follower taken too early, would fall here.
-use Prim.Native.Nat.{ℕ, _*_, _-_, _≤_, _<_}
+use Prim.Native.Nat.{ℕ, _≤_, _<_}
 use mathlib.Core.Path.{_≡_, refl, ap, _∙_}
-use mathlib.Core.Bool.{Bool, true, false, cond}
+use mathlib.Core.Bool.{Bool, true, false}
 use mathlib.Core.List.{List, [], _∷_, _++_}
 use mathlib.Core.Logic.{inl, inr}
 use native.Mathlib.Omega.{arith}
-use lib.ListN.{length, take, drop}
+use lib.Dec.{leb}
+use lib.ListN.{drop}
+use borrow.Author.Tests.{le-leb, leb-true}
 use Rattle.nodes.specs.declared.node.Node.{Node}
 use Rattle.nodes.specs.Choose.{All, Pairs, firstAt, keep}
 use Rattle.nodes.proofs.Choices.{all-map, all-of, keep-failed, keep-append, keep-none, keep-all, keep-all-of}
-use Rattle.nodes.specs.Words.{nodes, count}
 use Rattle.nodes.proofs.Tests.{either}
-use Rattle.nodes.proofs.WordLaws.{length-nodes, nodes-rest}
 use Rattle.paging.specs.Page.{pastb, remains}
 use Rattle.paging.proofs.PageLaws.{remains-append}
 use Rattle.tickets.specs.declared.ticket.Order.{Order}
@@ -20,10 +20,9 @@ use Rattle.tickets.specs.declared.ticket.Order.the-variants.{Descendant,
 use Rattle.tickets.specs.declared.ticket.Place.{Place}
 use Rattle.tickets.specs.declared.ticket.Relation.{Relation}
 use Rattle.tickets.specs.Listing.{Pair, relatedb, keyOf, sortKey, pairOf, everyPair}
-use Rattle.tickets.specs.Row.{row, aheadb, firstAhead, servedb, servedIn}
+use Rattle.tickets.specs.Row.{row, servedb, servedIn}
 use Rattle.tickets.specs.Ticket.{spotOf}
-use Rattle.tickets.proofs.First.{first-in}
-use Rattle.tickets.proofs.Places.{served-none, ahead-later}
+use Rattle.tickets.proofs.Places.{aheadb, Past, served-none}
 
 -- in either order the key is the leader's document and start and the follower's start
 pub key-of : (order : Order) (x y : Node) → sortKey order (pairOf order x y) ≡ x .document ∷ x .start ∷ y .start ∷ []
@@ -46,14 +45,14 @@ rest-next relation order place x xs ys =
 
 module _ (order : Order) (place : Place) (x : Node) where
   -- a pair of a row lies past the place or not, as its follower tells
-  row-past : (y : Node) → pastb (spotOf place) (sortKey order (pairOf order x y)) ≡ aheadb place x y
+  row-told : (y : Node) → pastb (spotOf place) (sortKey order (pairOf order x y)) ≡ aheadb place x y
   unfolding aheadb
-  row-past y = ap (pastb (spotOf place)) (key-of order x y)
+  row-told y = ap (pastb (spotOf place)) (key-of order x y)
 
   row-all : (b : Bool) (ys : List Node) → All (λ y. aheadb place x y ≡ b) ys → All (λ p. pastb (spotOf place) (sortKey order p) ≡ b) (row order x ys)
   unfolding row
   row-all b [] h = tt
-  row-all b (y ∷ ys) h = (row-past y ∙ h .0, row-all b ys (h .1))
+  row-all b (y ∷ ys) h = (row-told y ∙ h .0, row-all b ys (h .1))
 
   -- nothing remains of the row of a leader that stands before the place's
   row-served : (test : Pair → Bool) (ys : List Node) → servedb place x ≡ true → remains (sortKey order) (spotOf place) (keep test (row order x ys)) ≡ []
@@ -76,33 +75,17 @@ rest-served relation order place (x ∷ xs) ys =
       | inr s ↦ rw s refl
     ]
 
--- a leader with each follower from the first one past a place on
-abbrev pub rowPast : Order → Place → Node → List Node → List Pair
-rowPast order place x ns = row order x (drop (firstAhead place x ns) ns)
-
 -- the followers' starts rise, so from the first that lies past the place on all do
-pub row-ahead : (order : Order) (place : Place) (x : Node) (zs : List Node) → Pairs (λ y z. y .start < z .start) zs
-    → remains (sortKey order) (spotOf place) (row order x zs) ≡ rowPast order place x zs
-unfolding firstAhead firstAt remains keep row
-row-ahead order place x [] h = refl
-row-ahead order place x (y ∷ zs) h =
-    elim (either (aheadb place x y)) [
+pub row-past : (order : Order) (place : Place) (past : ℕ) (x : Node) (zs : List Node) → Past place past x → Pairs (λ y z. y .start < z .start) zs
+    → remains (sortKey order) (spotOf place) (row order x zs) ≡ row order x (drop (firstAt (λ n. leb past (n .start)) zs) zs)
+unfolding firstAt remains keep row
+row-past order place past x [] p h = refl
+row-past order place past x (y ∷ zs) p h =
+    elim (either (leb past (y .start))) [
       | inl a ↦ rw a (keep-all _ (row order x (y ∷ zs)) (row-all order place x true (y ∷ zs)
-          (a, all-map (λ z s. ahead-later place x y z s a) zs (h .0))))
-      | inr a ↦ rw a (keep-failed _ (pairOf order x y) (row order x zs) (row-past order place x y ∙ a) ∙ row-ahead order place x zs (h .1))
+          (p y ∙ a, all-map (λ z s. p z ∙ later z s (leb-true _ _ a)) zs (h .0))))
+      | inr a ↦ rw a (keep-failed _ (pairOf order x y) (row order x zs) (row-told order place x y ∙ p y ∙ a) ∙ row-past order place past x zs p (h .1))
     ]
-
--- a row of one pair remains or not
-pub row-one : (order : Order) (place : Place) (x y : Node)
-    → remains (sortKey order) (spotOf place) (row order x (y ∷ [])) ≡ cond (aheadb place x y) (row order x (y ∷ [])) []
-unfolding remains keep row
-row-one order place x y = rw (row-past order place x y) refl
-
--- the first follower past a place, found in words, stands in the list or at its end, and the rest of the words from there on has its nodes
-pub ahead-in : (place : Place) (x : Node) (ws : List ℕ) (k : ℕ) → k ≡ firstAhead place x (nodes ws) → k ≤ count ws
-unfolding firstAhead
-ahead-in place x ws k q = let h = first-in (aheadb place x) (nodes ws) in omega (arith, length-nodes ws)
-
-pub past-rest : (order : Order) (place : Place) (x : Node) (ws : List ℕ) (k : ℕ) → k ≡ firstAhead place x (nodes ws)
-    → row order x (nodes (take (length ws - 4 * k) (drop (4 * k) ws))) ≡ rowPast order place x (nodes ws)
-past-rest order place x ws k q = rw (nodes-rest ws k, q) refl
+  where
+    later : (z : Node) → y .start < z .start → past ≤ y .start → leb past (z .start) ≡ true
+    later z s l = le-leb past (z .start) (omega arith)

@@ -1,19 +1,18 @@
 -- The part of a listing that one leader gives, and how it lies to a ticket's place.
-use Prim.Native.Nat.{ℕ, _/_}
-use mathlib.Core.Bool.{Bool, false, not}
+use Prim.Native.Nat.{ℕ, _+_, _/_}
+use mathlib.Core.Bool.{Bool, false, not, cond, _&&_}
 use mathlib.Core.List.{List, [], _∷_, _++_, map}
+use lib.Dec.{eqb}
 use lib.ListN.{length}
 use Rattle.nodes.specs.declared.node.Node.{Node}
 use Rattle.nodes.specs.Choose.{keep, firstAt}
 use Rattle.nodes.specs.Words.{wordsOf}
 use Rattle.paging.specs.Key.{aboveb}
-use Rattle.paging.specs.Page.{pastb}
 use Rattle.tickets.specs.declared.ticket.Order.{Order}
 use Rattle.tickets.specs.declared.ticket.Place.{Place}
 use Rattle.tickets.specs.declared.ticket.Place.the-variants.{Fresh, After}
 use Rattle.tickets.specs.declared.ticket.Relation.{Relation}
 use Rattle.tickets.specs.Listing.{Pair, relatedb, pairOf}
-use Rattle.tickets.specs.Ticket.{spotOf}
 
 -- how many words a pair takes: the ancestor's four and then the descendant's
 abbrev pub PAIR-WORDS : ℕ
@@ -40,13 +39,10 @@ row order leader ns = map (pairOf order leader) ns
 unfoldable pub matches : Relation → Order → Node → List Node → List Node
 matches relation order leader ns = keep (λ n. relatedb relation (pairOf order leader n)) ns
 
--- the pair of a leader and a follower lies past a place: its document and two starts do, the leader's first
-unfoldable pub aheadb : Place → Node → Node → Bool
-aheadb place leader follower = pastb (spotOf place) (leader .document ∷ leader .start ∷ follower .start ∷ [])
-
--- the index of the first follower whose pair lies past a place
-unfoldable pub firstAhead : Place → Node → List Node → ℕ
-firstAhead place leader ns = firstAt (aheadb place leader) ns
+-- the start from which on a leader's followers lie past a place, where the leader doesn't stand before the place's own
+unfoldable pub pastFrom : Place → Node → ℕ
+pastFrom Fresh leader = 0
+pastFrom (After k) leader = cond (eqb (k .document) (leader .document) && eqb (k .leader) (leader .start)) (k .follower + 1) 0
 
 -- a leader stands before the leader of a place, so that none of its pairs lies past it
 unfoldable pub servedb : Place → Node → Bool

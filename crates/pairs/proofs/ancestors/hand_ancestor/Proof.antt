@@ -1,59 +1,82 @@
--- Each relation has a function of its own, with the same contract for that relation.
--- The two in the wrong turn fall at the return of either relation.
+-- Where the ancestor isn't open at the first descendant after it, it has no run; else what is left of its run from a start on is handed out.
+-- A run taken to be empty that isn't, or a start passed, falls at a return.
 use borrow.Author.Needs.{needs}
-use mathlib.Core.Path.{sym, ap, _∙_}
-use lib.ListN.{drop}
+use Prim.Native.Nat.{_/_, _%_}
+use mathlib.Core.Path.{_≡_, sym, subst, ap, _∙_}
+use native.Mathlib.Omega.{arith}
 use denote.Ref.{now}
-use Rattle.nodes.specs.Words.{nodes}
-use Rattle.paging.specs.Serve.{serve}
-use Rattle.tickets.specs.Row.{PAIR-WORDS, pairWords}
-use Rattle.pairs.proofs.Running.{rowLeft}
+use Rattle.nodes.specs.Words.{nodeAt}
+use Rattle.nodes.proofs.Tests.{not-read, not-none}
+use Rattle.tickets.specs.declared.ticket.Order.the-variants.{Ancestor}
+use Rattle.pairs.specs.Sweep.{Running, servedRow}
+use Rattle.pairs.proofs.Stretches.{all-fit}
+use Rattle.pairs.proofs.Zones.{run-none, end-placed, ahead-placed, ahead-row}
 use Rattle.pairs.proofs.ancestors.hand_ancestor.Statement.{statement}
 use Rattle.pairs.proofs.ancestors.hand_ancestor.Tie as tie
 
-enum-told : tie.Need-enum-told
-enum-told c = search needs
+node-from-requires : tie.Need-node-from-requires
+node-from-requires c κs = search needs
+
+is-running-requires : tie.Need-is-running-requires
+is-running-requires c κs = search needs
+
+returns : tie.Need-returns
+returns c =
+    let a = c .before .before .before .before .before .before .args in
+    let p = c .before .before .before .before .before .before .pre in
+    let none = run-none (now (a .descendants)) (nodeAt (now (a .ancestors)) (a .i / 4)) (a .relation) (a .past) (a .from) _ _ (p .5)
+    (c .before .before .node-from .ensures) (c .before .is-running .ensures) (not-read _ (c .if1 .taken)) in
+    (p .4, all-fit Ancestor _ _ _ _ none)
+
+run-end-requires : tie.Need-run-end-requires
+run-end-requires c κs =
+    let a = c .before .before .before .before .before .before .args in
+    let p = c .before .before .before .before .before .before .pre in (
+      p .3 .1,
+      p .4,
+      subst (λ n. Running (now (a .descendants)) n (a .from / 4)) (sym (c .before .before .node-from .ensures)) (p .5),
+      sym (c .before .is-running .ensures) ∙ not-none _ (c .if1 .left),
+    )
+
+first-from-requires : tie.Need-first-from-requires
+first-from-requires c κs =
+    let a = c .before .before .before .before .before .before .before .args in
+    let p = c .before .before .before .before .before .before .before .pre in
+    let e = c .run-end .ensures in
+    let t = end-placed (now (a .descendants)) (nodeAt (now (a .ancestors)) (a .i / 4)) (a .from) _ 0 0 _ (p .3) (p .5) (c .before .before .before .node-from .ensures) (e .0) (e .1) in
+    (p .3, t .0, t .1)
 
 hand-run-requires : tie.Need-hand-run-requires
-hand-run-requires c κs = search needs
-
-enum-told-2 : tie.Need-enum-told-2
-enum-told-2 c = search needs
-
-hand-children-requires : tie.Need-hand-children-requires
-hand-children-requires c κs = search needs
+hand-run-requires c κs =
+    let a = c .before .before .before .before .before .before .before .before .before .args in
+    let p = c .before .before .before .before .before .before .before .before .before .pre in
+    let e = c .before .before .run-end .ensures in
+    let f = c .before .first-from .ensures in
+    let t = end-placed (now (a .descendants)) (nodeAt (now (a .ancestors)) (a .i / 4)) (a .from) _ 0 0 _ (p .3) (p .5) (c .before .before .before .before .before .node-from .ensures) (e .0) (e .1) in
+    let s = ahead-placed (now (a .descendants)) (nodeAt (now (a .ancestors)) (a .i / 4)) (a .from) _ _ (a .past) _ (p .3) (p .5) (c .before .before .before .before .before .node-from .ensures) (e .0) (e .1) (f .0) (f .1) in
+    (p .0, p .1, p .2, s .0, t .0, s .1, s .2)
 
 same-length : tie.Need-same-length
 same-length c = search needs
 
-returns : tie.Need-returns
-returns c =
-    let a = c .before .before .before .before .before .before .before .before .args in
-    let q = c .before .before .before .before .enum-told .given .1 in
-    let ds = drop (a .from) (nodes (now (a .descendants))) in
-    c .before .before .hand-run .ensures
-    ∙ ap (λ relation. serve pairWords PAIR-WORDS (now (a .out)) (a .written) (rowLeft relation (a .place) (a .ancestor) ds)) (sym q)
-
-same-length-2 : tie.Need-same-length-2
-same-length-2 c = search needs
-
 returns-2 : tie.Need-returns-2
 returns-2 c =
-    let a = c .before .before .before .before .before .before .before .before .args in
-    let q = c .before .before .before .before .enum-told2 .given .1 in
-    let ds = drop (a .from) (nodes (now (a .descendants))) in
-    c .before .before .hand-children .ensures
-    ∙ ap (λ relation. serve pairWords PAIR-WORDS (now (a .out)) (a .written) (rowLeft relation (a .place) (a .ancestor) ds)) (sym q)
+    let a = c .before .before .before .before .before .before .before .before .before .before .before .before .args in
+    let p = c .before .before .before .before .before .before .before .before .before .before .before .before .pre in
+    let e = c .before .before .before .before .before .run-end .ensures in
+    let f = c .before .before .before .before .first-from .ensures in
+    let s = ahead-row (now (a .descendants)) (nodeAt (now (a .ancestors)) (a .i / 4)) (a .from) _ _ (a .past) _ (p .3) (p .5) (c .before .before .before .before .before .before .before .before .node-from .ensures) (e .0) (e .1) (a .relation) (f .0) (f .1) in
+    (e .0, c .before .before .hand-run .ensures ∙ ap (servedRow Ancestor (now (a .out)) (a .written) (nodeAt (now (a .ancestors)) (a .i / 4))) s)
 
 pub hand-ancestor-spec : {M : Type 1} → statement M
 hand-ancestor-spec =
     tie.close
     (tie.spec
-    enum-told
-    hand-run-requires
-    enum-told-2
-    hand-children-requires
-    same-length
+    node-from-requires
+    is-running-requires
     returns
-    same-length-2
+    run-end-requires
+    first-from-requires
+    hand-run-requires
+    same-length
     returns-2)

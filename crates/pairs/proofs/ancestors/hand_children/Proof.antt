@@ -1,101 +1,171 @@
--- The invariant: handing out what is left of the ancestor's row from k on gives what handing out all of it gives. An open descendant's pair
--- comes next, and where the ancestor isn't open nothing is left; a child passed over, or a run left too early, falls at a return or the next turn.
-use native.Mathlib.Omega.{arith}
+-- The invariant: handing out the children from here on gives what handing out all of them gives. A descendant one level deeper is
+-- handed out, and any other is passed, with what an inner zone holds. A child lost, or handed out twice, falls at the next turn.
+use borrow.Author.Needs.{needs}
+use Prim.Native.Nat.{ℕ, _+_, _-_, _/_, _%_, _≤_, _<_}
 use mathlib.Core.Path.{_≡_, refl, sym, ap, _∙_}
-use mathlib.Core.Bool.{true, not}
-use Prim.Native.Nat.{_-_}
+use mathlib.Core.Bool.{true}
+use mathlib.Core.List.{List, []}
+use native.Mathlib.Omega.{arith}
 use lib.ListN.{length, drop}
 use denote.Ref.{now}
-use borrow.Author.Needs.{needs}
-use Rattle.nodes.specs.Words.{nodes, count}
-use Rattle.paging.specs.Serve.{serve}
-use Rattle.tickets.specs.declared.ticket.Relation.the-variants.{Directly}
-use Rattle.tickets.specs.Row.{PAIR-WORDS, pairWords}
+use Rattle.nodes.specs.declared.node.Node.{Node}
+use Rattle.nodes.specs.Words.{nodes, nodeAt}
 use Rattle.nodes.proofs.Tests.{not-read, not-none}
 use Rattle.paging.proofs.Serving.{left-on, left-stop, left-end}
-use Rattle.pairs.specs.Sweep.{Running}
-use Rattle.pairs.proofs.Running.{rowLeft, running-next, running-open, running-shut, running-behind}
+use Rattle.tickets.specs.declared.ticket.Order.the-variants.{Ancestor}
+use Rattle.tickets.specs.declared.ticket.Relation.the-variants.{Directly}
+use Rattle.tickets.specs.Row.{PAIR-WORDS, pairWords, row, matches}
+use Rattle.pairs.specs.Sweep.{Placed, servedRow}
+use Rattle.pairs.proofs.Children.{child-row, inner-passed, level-fits}
+use Rattle.pairs.proofs.Running.{none-match}
 use Rattle.pairs.proofs.ancestors.hand_children.Statement.{statement}
 use Rattle.pairs.proofs.ancestors.hand_children.Tie as tie
 
+-- nothing makes no row
+row-none : (a : Node) {ns : List Node} → ns ≡ [] → row Ancestor a ns ≡ []
+unfolding row
+row-none a q = rw q refl
+
 abbrev Inv-loop : tie.InvT-loop
-Inv-loop out₀ written place ancestor descendants from handed₀ k₀ out handed k =
-    (length out ≡ length out₀) × Running descendants ancestor k × (handed .done ≡ true)
-    × (serve pairWords PAIR-WORDS out (handed .count) (rowLeft Directly place ancestor (drop k (nodes descendants)))
-    ≡ serve pairWords PAIR-WORDS out₀ written (rowLeft Directly place ancestor (drop from (nodes descendants))))
+Inv-loop out₀ written ancestors i descendants from to handed₀ level zone₀ k₀ out handed zone k =
+    (length out ≡ length out₀) × (level ≡ nodeAt ancestors (i / 4) .level + 1) × Placed ancestors zone × (i < zone) × (k % 4 ≡ 0) × (from ≤ k)
+    × (handed .done ≡ true)
+    × (servedRow Ancestor out (handed .count) (nodeAt ancestors (i / 4))
+    (matches Directly Ancestor (nodeAt ancestors (i / 4)) (drop (k / 4) (nodes descendants)))
+    ≡ servedRow Ancestor out₀ written (nodeAt ancestors (i / 4))
+    (matches Directly Ancestor (nodeAt ancestors (i / 4)) (drop (from / 4) (nodes descendants))))
 
 abbrev μ-loop : tie.MeasureT-loop
-μ-loop out₀ written place ancestor descendants from handed₀ k₀ out handed k = count descendants - k
+μ-loop out₀ written ancestors i descendants from to handed₀ level zone₀ k₀ out handed zone k = to - k
+
+node-from-requires : tie.Need-node-from-requires Inv-loop μ-loop
+node-from-requires c κs = search needs
+
+add-level : tie.Need-add-level Inv-loop μ-loop
+add-level c =
+    let a = c .before .before .before .before .before .args in
+    let p = c .before .before .before .before .before .pre in
+    let h = level-fits (now (a .ancestors)) (now (a .descendants)) (p .0) (a .i / 4) _ (omega arith) (c .before .node-from .ensures) in
+    omega arith
+
+add-zone : tie.Need-add-zone Inv-loop μ-loop
+add-zone c = search needs
 
 loop-holds : tie.Need-loop-holds Inv-loop μ-loop
-loop-holds c = (refl, c .before .before .pre, refl, refl)
+loop-holds c =
+    let a = c .before .before .before .before .before .args in
+    let p = c .before .before .before .before .before .pre in
+    let e = ap (λ (n : Node). n .level) (c .before .node-from .ensures) in
+    (refl, omega (arith, e), (p .1 .0, omega (arith, p .1), omega (arith, p .1)), omega arith, p .3 .1, omega arith, refl, refl)
 
-node-count-requires : tie.Need-node-count-requires Inv-loop μ-loop
-node-count-requires c κs = search needs
+node-from-requires-2 : tie.Need-node-from-requires-2 Inv-loop μ-loop
+node-from-requires-2 c κs =
+    let p = c .before .before .before .before .before .before .before .pre in
+    let l = c .before .loop in
+    ((p .3 .0, l .inv .4, omega (arith, p .4)), omega (arith, p .4))
 
-node-at-requires : tie.Need-node-at-requires Inv-loop μ-loop
-node-at-requires c κs = search needs
+add-hand-descendants : tie.Need-add-hand-descendants Inv-loop μ-loop
+add-hand-descendants c =
+    let p = c .before .before .before .before .before .before .before .before .before .before .before .pre .4 in
+    let t = c .before .before .before .before .loop-test .taken in
+    search needs
 
-is-open-requires : tie.Need-is-open-requires Inv-loop μ-loop
-is-open-requires c κs = search needs
+hand-descendants-requires : tie.Need-hand-descendants-requires Inv-loop μ-loop
+hand-descendants-requires c κs =
+    let p = c .before .before .before .before .before .before .before .before .before .before .before .pre in
+    let l = c .before .before .before .before .before .loop in
+    let m = l .inv .4 in
+    let t = c .before .before .before .before .loop-test .taken in
+    (p .1, p .2, (p .3 .0, m, omega (arith, p .4)), (p .3 .0, omega arith, omega (arith, p .4)))
 
 same-length : tie.Need-same-length Inv-loop μ-loop
 same-length c = search needs
 
 returns : tie.Need-returns Inv-loop μ-loop
 returns c =
-    let a = c .before .before .before .before .before .before .before .before .args in
-    let l = c .before .before .before .before .before .loop in
-    let d = c .before .before .node-at .ensures in
-    let shut = not-read _ (sym (ap not (c .before .is-open .ensures)) ∙ c .if2 .taken) in
-    let none = running-shut (now (a .descendants)) (a .ancestor) Directly (a .place) (l .k) _ (l .inv .1) (omega arith) d shut in
-    left-end pairWords PAIR-WORDS _ _ (l .inv .2) none (l .inv .3)
-
-hand-child-requires : tie.Need-hand-child-requires Inv-loop μ-loop
-hand-child-requires c κs = search needs
-
-same-length-2 : tie.Need-same-length-2 Inv-loop μ-loop
-same-length-2 c = search needs
-
-returns-2 : tie.Need-returns-2 Inv-loop μ-loop
-returns-2 c =
-    let child = c .before .before .before .before in
-    let tested = child .before .before in
-    let l = tested .before .before .before .before .before .loop in
-    let a = tested .before .before .before .before .before .before .before .before .args in
-    let open-there = not-none _ (sym (ap not (tested .before .is-open .ensures)) ∙ tested .if2 .left) in
-    let d = tested .before .before .node-at .ensures in
-    let next = running-open (now (a .descendants)) (a .ancestor) (a .place) (l .k) _ (l .inv .1) (omega arith) d open-there in
-    left-stop pairWords PAIR-WORDS _ _ _ _ (child .hand-child .ensures) (not-read _ (c .if3 .taken)) next (l .inv .3)
+    let a = c .before .before .before .before .before .before .before .before .before .before .before .before .before .before .before .before .args in
+    let p = c .before .before .before .before .before .before .before .before .before .before .before .before .before .before .before .before .pre in
+    let l = c .before .before .before .before .before .before .before .before .before .before .loop in
+    let i = l .inv in
+    let t = c .before .before .before .before .before .before .before .before .before .loop-test .taken in
+    let row = child-row (now (a .descendants)) (nodeAt (now (a .ancestors)) (a .i / 4)) (a .from) (l .k) _ _ (p .3 .0, i .4, omega (arith, p .4)) (omega (arith, p .4))
+    (p .5) (i .5) (omega (arith, p .6, i .4, p .4)) (c .before .before .before .before .before .before .before .before .node-from2 .ensures) (c .before .before .before .before .before .before .if1 .taken) (i .1) in
+    left-stop pairWords PAIR-WORDS _ _ _ _ (c .before .before .before .before .hand-descendants .ensures) (not-read _ (c .if2 .taken)) row (i .7)
 
 add-k : tie.Need-add-k Inv-loop μ-loop
-add-k c = search needs
+add-k c =
+    let p = c .before .before .before .before .before .before .before .before .before .before .before .before .before .before .before .before .pre .4 .2 in
+    let t = c .before .before .before .before .before .before .before .before .before .loop-test .taken in
+    let fits = c .before .before .before .before .before .before .before .before .before .before .before .before .before .before .before .before .good in
+    omega arith
 
 loop-less : tie.Need-loop-less Inv-loop μ-loop
 loop-less c = search needs
 
 loop-again : tie.Need-loop-again Inv-loop μ-loop
 loop-again c =
-    let child = c .before .before .before .before in
-    let tested = child .before .before in
-    let l = tested .before .before .before .before .before .loop in
-    let a = tested .before .before .before .before .before .before .before .before .args in
-    let open-there = not-none _ (sym (ap not (tested .before .is-open .ensures)) ∙ tested .if2 .left) in
-    let d = tested .before .before .node-at .ensures in
-    let next = running-open (now (a .descendants)) (a .ancestor) (a .place) (l .k) _ (l .inv .1) (omega arith) d open-there in
-    let done = not-none _ (c .if3 .left) in
-    let later = running-next (now (a .descendants)) (a .ancestor) (l .k) (omega arith) (l .inv .1) in
-    (omega arith, later, done, left-on pairWords PAIR-WORDS _ _ _ _ (child .hand-child .ensures) done next (l .inv .3))
+    let a = c .before .before .before .before .before .before .before .before .before .before .before .before .before .before .before .before .args in
+    let p = c .before .before .before .before .before .before .before .before .before .before .before .before .before .before .before .before .pre in
+    let l = c .before .before .before .before .before .before .before .before .before .before .loop in
+    let i = l .inv in
+    let t = c .before .before .before .before .before .before .before .before .before .loop-test .taken in
+    let done : _ ≡ true = not-none _ (c .if2 .left) in
+    let row = child-row (now (a .descendants)) (nodeAt (now (a .ancestors)) (a .i / 4)) (a .from) (l .k) _ _ (p .3 .0, i .4, omega (arith, p .4)) (omega (arith, p .4))
+    (p .5) (i .5) (omega (arith, p .6, i .4, p .4)) (c .before .before .before .before .before .before .before .before .node-from2 .ensures) (c .before .before .before .before .before .before .if1 .taken) (i .1) in (
+      omega arith,
+      i .1,
+      i .2,
+      i .3,
+      omega (arith, i .4),
+      omega (arith, i .5),
+      done,
+      left-on pairWords PAIR-WORDS _ _ _ _ (c .before .before .before .before .hand-descendants .ensures) done row (i .7),
+    )
 
-same-length-3 : tie.Need-same-length-3 Inv-loop μ-loop
-same-length-3 c = search needs
+past-inner-requires : tie.Need-past-inner-requires Inv-loop μ-loop
+past-inner-requires c κs =
+    let p = c .before .before .before .before .before .before .before .before .before .before .pre in
+    let l = c .before .before .before .before .loop in
+    let t = c .before .before .before .loop-test .taken in
+    (p .0, l .inv .2, (p .3 .0, l .inv .4, omega (arith, p .4)), omega (arith, p .4), p .4)
 
-returns-3 : tie.Need-returns-3 Inv-loop μ-loop
-returns-3 c =
-    let a = c .before .before .before .before .before .args in
-    let l = c .before .before .loop in
-    let none = running-behind (now (a .descendants)) (a .ancestor) Directly (a .place) (l .k) (omega arith) in
-    left-end pairWords PAIR-WORDS _ _ (l .inv .2) none (l .inv .3)
+loop-less-2 : tie.Need-loop-less-2 Inv-loop μ-loop
+loop-less-2 c =
+    let e = c .past-inner .ensures .3 in
+    let t = c .before .before .before .before .loop-test .taken in
+    omega arith
+
+loop-again-2 : tie.Need-loop-again-2 Inv-loop μ-loop
+loop-again-2 c =
+    let a = c .before .before .before .before .before .before .before .before .before .before .before .args in
+    let p = c .before .before .before .before .before .before .before .before .before .before .before .pre in
+    let l = c .before .before .before .before .before .loop in
+    let i = l .inv in
+    let e = c .past-inner .ensures in
+    let s = inner-passed (now (a .ancestors)) (now (a .descendants)) (p .0) (a .i) (l .zone) (l .k) _ _ _ (omega (arith, i .3, i .2, p .1)) (e .3) (e .2)
+    (c .before .before .before .node-from2 .ensures) (c .before .if1 .left) (i .1) (e .4) in (
+      i .0,
+      i .1,
+      e .0,
+      omega (arith, i .3, e .1),
+      e .2 .1,
+      omega (arith, i .5, e .3),
+      i .6,
+      ap (servedRow Ancestor (l .out) (l .handed .count) (nodeAt (now (a .ancestors)) (a .i / 4))) (sym s) ∙ i .7,
+    )
+
+same-length-2 : tie.Need-same-length-2 Inv-loop μ-loop
+same-length-2 c = search needs
+
+returns-2 : tie.Need-returns-2 Inv-loop μ-loop
+returns-2 c =
+    let a = c .before .before .before .before .before .before .before .args in
+    let p = c .before .before .before .before .before .before .before .pre in
+    let l = c .before .loop in
+    let i = l .inv in
+    let t = c .loop-test .left in
+    let none = none-match (now (a .descendants)) (nodeAt (now (a .ancestors)) (a .i / 4)) Directly (a .from / 4) (l .k / 4) (p .5) (omega (arith, p .6)) in
+    left-end pairWords PAIR-WORDS _ _ (i .6) (row-none _ none) (i .7)
 
 pub hand-children-spec : {M : Type 1} → statement M
 hand-children-spec =
@@ -103,17 +173,20 @@ hand-children-spec =
     (tie.spec
     Inv-loop
     μ-loop
+    node-from-requires
+    add-level
+    add-zone
     loop-holds
-    node-count-requires
-    node-at-requires
-    is-open-requires
+    node-from-requires-2
+    add-hand-descendants
+    hand-descendants-requires
     same-length
     returns
-    hand-child-requires
-    same-length-2
-    returns-2
     add-k
     loop-less
     loop-again
-    same-length-3
-    returns-3)
+    past-inner-requires
+    loop-less-2
+    loop-again-2
+    same-length-2
+    returns-2)

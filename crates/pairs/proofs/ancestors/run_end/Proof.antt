@@ -1,81 +1,95 @@
--- The invariant: the search has passed the descendants up to k, and from there on it finds what it finds from the beginning.
--- A descendant passed over, or an index one off, falls at a return or at the next turn.
-use Prim.Native.Nat.{_+_, _-_}
-use mathlib.Core.Path.{_≡_, refl, sym, ap, subst, _∙_}
-use mathlib.Core.Bool.{true, not}
+-- The first descendant is in the run, and each step goes on from a place up to which the run goes; where it doesn't go on, it ends.
+-- A place returned that was not tested, or one after which the run goes on, falls at its return.
+use borrow.Author.Needs.{needs}
+use Prim.Native.Nat.{_+_}
+use mathlib.Core.Path.{_≡_, sym, _∙_}
 use native.Mathlib.Omega.{arith}
 use denote.Ref.{now}
-use lib.ListN.{drop}
-use borrow.Author.Needs.{needs}
-use borrow.Author.Tests.{not-false}
-use Rattle.nodes.specs.Choose.{firstAt}
-use Rattle.nodes.specs.Node.{openb}
-use Rattle.nodes.specs.Words.{nodes, count}
-use Rattle.tickets.proofs.First.{search-found, search-end}
-use Rattle.pairs.specs.Sweep.{Running}
+use Rattle.nodes.proofs.Tests.{not-read, not-none}
+use Rattle.pairs.specs.Sweep.{Further}
+use Rattle.pairs.proofs.Running.{further-next, further-trans, further-stops}
 use Rattle.pairs.proofs.ancestors.run_end.Statement.{statement}
 use Rattle.pairs.proofs.ancestors.run_end.Tie as tie
 
-abbrev Inv-loop : tie.InvT-loop
-Inv-loop descendants from ancestor k₀ k =
-    Running descendants ancestor k
-    × (firstAt (λ d. not (openb d ancestor)) (drop k (nodes descendants)) + k ≡ firstAt (λ d. not (openb d ancestor)) (drop from (nodes descendants)) + from)
+-- the second descendant is in the run, and so is the one before which the guess ends
+second-in : (c : tie.Else1) → let a = c .before .before .before .args in Further (now (a .descendants)) (a .ancestor) (a .from) (a .from + 4 + 4)
+second-in c =
+    let a = c .before .before .before .args in
+    let p = c .before .before .before .pre in
+    further-next (now (a .descendants)) (a .ancestor) (a .from) (a .from + 4) (a .from + 4 + 4) (p .0) (omega (arith, p .0)) (omega arith) (omega arith) (p .2)
+    (sym (c .before .is-running .ensures) ∙ not-none _ (c .if1 .left))
 
-abbrev μ-loop : tie.MeasureT-loop
-μ-loop descendants from ancestor k₀ k = count descendants - k
+near-in : (c : tie.Else2) → let a = c .before .before .before .before .before .before .args in Further (now (a .descendants)) (a .ancestor) (a .from) (c .before .before .past-guess .result + 4)
+near-in c =
+    let a = c .before .before .before .before .before .before .args in
+    let g = c .before .before .past-guess .ensures in
+    let n = c .before .before .past-guess .result in
+    further-trans (now (a .descendants)) (a .ancestor) (a .from) n (n + 4)
+    (further-trans (now (a .descendants)) (a .ancestor) (a .from) (a .from + 4 + 4) n (second-in (c .before .before .before)) g)
+    (further-next (now (a .descendants)) (a .ancestor) n n (n + 4) (g .0) (g .0) (omega arith) (omega arith) (g .2)
+    (sym (c .before .is-running2 .ensures) ∙ not-none _ (c .if2 .left)))
 
-loop-holds : tie.Need-loop-holds Inv-loop μ-loop
-loop-holds c = (c .before .pre, refl)
+add-second : tie.Need-add-second
+add-second c = search needs
 
-node-count-requires : tie.Need-node-count-requires Inv-loop μ-loop
-node-count-requires c κs = search needs
+is-running-requires : tie.Need-is-running-requires
+is-running-requires c κs = search needs
 
-node-at-requires : tie.Need-node-at-requires Inv-loop μ-loop
-node-at-requires c κs = search needs
-
-is-open-requires : tie.Need-is-open-requires Inv-loop μ-loop
-is-open-requires c κs = search needs
-
-returns : tie.Need-returns Inv-loop μ-loop
+returns : tie.Need-returns
 returns c =
-    let a = c .before .before .before .before .before .before .before .args in
-    let l = c .before .before .before .before .before .loop in
-    let test = sym (ap not (c .before .is-open .ensures)) ∙ c .if2 .taken in
-    search-found (λ d. not (openb d (a .ancestor))) (now (a .descendants)) _ (l .k) _ (l .inv .0 .from-in, l .inv .1) (omega arith)
-    (c .before .before .node-at .ensures) test
+    let a = c .before .before .before .args in
+    let p = c .before .before .before .pre in
+    let f = further-next (now (a .descendants)) (a .ancestor) (a .from) (a .from) (a .from + 4) (p .0) (p .0) (omega arith) (omega arith) (p .2) (p .3) in
+    (f .0, further-stops (now (a .descendants)) (a .ancestor) (a .from) (a .from + 4) f (sym (c .before .is-running .ensures) ∙ not-read _ (c .if1 .taken)))
 
-past-open-requires : tie.Need-past-open-requires Inv-loop μ-loop
-past-open-requires c κs =
-    let a = c .before .before .before .before .before .before .before .args in
-    let l = c .before .before .before .before .before .loop in
-    let test = sym (c .before .is-open .ensures) ∙ not-false _ (c .if2 .left) in
-    (l .inv .0, omega arith, subst (λ d. openb d (a .ancestor) ≡ true) (c .before .before .node-at .ensures) test)
+add-past-guess : tie.Need-add-past-guess
+add-past-guess c = search needs
 
-loop-less : tie.Need-loop-less Inv-loop μ-loop
-loop-less c = let h = c .past-open .ensures in let m = h .1 .from-in in omega arith
+past-guess-requires : tie.Need-past-guess-requires
+past-guess-requires c κs =
+    let g = second-in c in
+    (g .0, c .before .before .before .pre .1, g .2)
 
-loop-again : tie.Need-loop-again Inv-loop μ-loop
-loop-again c =
-    let l = c .before .before .before .before .before .before .loop in
-    (c .past-open .ensures .1, c .past-open .ensures .2 ∙ l .inv .1)
+is-running-requires-2 : tie.Need-is-running-requires-2
+is-running-requires-2 c κs = search needs
 
-returns-2 : tie.Need-returns-2 Inv-loop μ-loop
+returns-2 : tie.Need-returns-2
 returns-2 c =
-    let l = c .before .before .loop in
-    search-end _ (now (c .before .before .before .before .args .descendants)) _ _ (l .inv .0 .from-in, l .inv .1) (omega arith)
+    let a = c .before .before .before .before .before .before .args in
+    let f = further-trans (now (a .descendants)) (a .ancestor) (a .from) (a .from + 4 + 4) _ (second-in (c .before .before .before)) (c .before .before .past-guess .ensures) in
+    (f .0, further-stops (now (a .descendants)) (a .ancestor) (a .from) _ f (sym (c .before .is-running2 .ensures) ∙ not-read _ (c .if2 .taken)))
+
+add-past-strides : tie.Need-add-past-strides
+add-past-strides c = search needs
+
+past-strides-requires : tie.Need-past-strides-requires
+past-strides-requires c κs =
+    let f = near-in c in
+    (f .0, f .2)
+
+past-run-requires : tie.Need-past-run-requires
+past-run-requires c κs = search needs
+
+returns-3 : tie.Need-returns-3
+returns-3 c =
+    let a = c .before .before .before .before .before .before .before .before .args in
+    let f = near-in (c .before .before) in
+    let g = c .before .past-strides .ensures in
+    let e = c .past-run .ensures in
+    (e .0, e .1 ∙ g .3 ∙ f .3)
 
 pub run-end-spec : {M : Type 1} → statement M
 run-end-spec =
     tie.close
     (tie.spec
-    Inv-loop
-    μ-loop
-    loop-holds
-    node-count-requires
-    node-at-requires
-    is-open-requires
+    add-second
+    is-running-requires
     returns
-    past-open-requires
-    loop-less
-    loop-again
-    returns-2)
+    add-past-guess
+    past-guess-requires
+    is-running-requires-2
+    returns-2
+    add-past-strides
+    past-strides-requires
+    past-run-requires
+    returns-3)

@@ -1,102 +1,145 @@
--- The invariant: handing out the rows of the ancestors from i on gives what handing out all that remains gives, and no descendant before `from`
--- stands after the i-th ancestor. An ancestor passed over, or a run that begins too late, falls at a return or at the next turn.
-use native.Mathlib.Omega.{arith}
-use mathlib.Core.Path.{_≡_, refl, ap}
+-- The invariant: handing out the rows of the ancestors from i on gives what handing out all that remains gives, for each place for which
+-- the sweep starts as it did, as the loop doesn't read the place, and no descendant before the run's beginning stands after the ancestor.
+-- A row lost, served twice or served after the room has run out falls at a return or at the next turn.
+use borrow.Author.Needs.{needs}
+use mathlib.Core.Path.{_≡_, refl, ap, _∙_}
 use mathlib.Core.Bool.{true}
-use Prim.Native.Nat.{_-_, zero-le}
+use Prim.Native.Nat.{_+_, _*_, _-_, _/_, _%_, zero-le}
+use native.Mathlib.Omega.{arith}
 use lib.ListN.{length, drop}
 use denote.Ref.{now}
-use borrow.Author.Needs.{needs}
-use Rattle.nodes.specs.Words.{nodes, count}
+use Rattle.nodes.specs.Words.{nodes}
+use Rattle.nodes.proofs.Tests.{not-read, not-none}
 use Rattle.paging.specs.Serve.{serve}
+use Rattle.paging.proofs.Serving.{left-on, left-stop, left-end}
 use Rattle.tickets.specs.declared.ticket.Order.the-variants.{Ancestor}
+use Rattle.tickets.specs.declared.ticket.Place.{Place}
 use Rattle.tickets.specs.Listing.{leaders, followers}
 use Rattle.tickets.specs.Row.{PAIR-WORDS, pairWords}
-use Rattle.nodes.proofs.Tests.{not-read, not-none}
-use Rattle.paging.proofs.Serving.{left-on, left-stop, left-end}
 use Rattle.tickets.proofs.Rows.{rest-of}
-use Rattle.pairs.specs.Sweep.{servedAll}
+use Rattle.pairs.specs.Sweep.{Placed, servedAll}
 use Rattle.pairs.proofs.Rowing.{sweep-start, sweep-end}
-use Rattle.pairs.proofs.Running.{Reached, reached-in, sweep-running, sweep-next, sweep-row}
+use Rattle.pairs.proofs.Telling.{Started, Tells, served-in, started, tells-first, tells-next}
+use Rattle.pairs.proofs.Zones.{Reached, first-taken, sweep-running, sweep-next, sweep-row}
 use Rattle.pairs.proofs.ancestors.sweep_ancestors.Statement.{statement}
 use Rattle.pairs.proofs.ancestors.sweep_ancestors.Tie as tie
 
 abbrev Inv-loop : tie.InvT-loop
-Inv-loop ancestors descendants relation place out₀ handed₀ from₀ i₀ out handed from i =
-    (length out ≡ length out₀) × Reached ancestors descendants i from × (handed .done ≡ true)
-    × (serve pairWords PAIR-WORDS out (handed .count) (rest-of relation Ancestor place (drop i (nodes ancestors)) (nodes descendants))
-    ≡ servedAll relation Ancestor place out₀ ancestors descendants)
+Inv-loop ancestors descendants relation out₀ first past₀ handed₀ from₀ end₀ i₀ out past handed from end i =
+    (length out ≡ length out₀) × Placed ancestors i × Placed descendants from × (end % 4 ≡ 0) × Reached ancestors descendants (i / 4) (from / 4)
+    × (handed .done ≡ true)
+    × ((place : Place) → Started place ancestors first past₀ → Tells place ancestors past i
+    × (serve pairWords PAIR-WORDS out (handed .count) (rest-of relation Ancestor place (drop (i / 4) (nodes ancestors)) (nodes descendants))
+    ≡ servedAll relation Ancestor place out₀ ancestors descendants))
 
 abbrev μ-loop : tie.MeasureT-loop
-μ-loop ancestors descendants relation place out₀ handed₀ from₀ i₀ out handed from i = count ancestors - i
+μ-loop ancestors descendants relation out₀ first past₀ handed₀ from₀ end₀ i₀ out past handed from end i = length ancestors - i
 
 served-count-requires : tie.Need-served-count-requires Inv-loop μ-loop
 served-count-requires c κs = search needs
 
-loop-holds : tie.Need-loop-holds Inv-loop μ-loop
-unfolding leaders followers
-loop-holds c =
-    let a = c .before .before .before .before .args in
-    let start = sweep-start (a .relation) Ancestor (a .place) (nodes (now (a .ancestors))) (nodes (now (a .descendants))) _ (c .served-count .ensures) in
-    (refl, λ l. zero-le, refl, ap (serve pairWords PAIR-WORDS (now (a .out)) 0) start)
-
-node-count-requires : tie.Need-node-count-requires Inv-loop μ-loop
-node-count-requires c κs = search needs
-
 node-at-requires : tie.Need-node-at-requires Inv-loop μ-loop
 node-at-requires c κs = search needs
 
+past-from-requires : tie.Need-past-from-requires Inv-loop μ-loop
+past-from-requires c κs = search needs
+
+mul-i : tie.Need-mul-i Inv-loop μ-loop
+mul-i c = let h = served-in _ _ _ (c .before .before .served-count .ensures) in search needs
+
+loop-holds : tie.Need-loop-holds Inv-loop μ-loop
+unfolding leaders followers
+loop-holds c =
+    let given = c .before .before .before .before .before .before in
+    let a = given .args in
+    let first = c .before .before .served-count .result in
+    let same : 4 * first / 4 ≡ first = omega arith in
+    let h = served-in _ _ _ (c .before .before .served-count .ensures) in
+    let t = first-taken (now (a .ancestors)) (now (a .descendants)) (given .pre) in (
+      refl,
+      (t .1, omega arith, omega (arith, t .1)),
+      (t .2, refl, zero-le),
+      refl,
+      λ l. zero-le,
+      refl,
+      λ place s. (
+        tells-first place (now (a .ancestors)) (t .0) first _ s,
+        ap (serve pairWords PAIR-WORDS (now (a .out)) 0)
+            (sweep-start (a .relation) Ancestor place (nodes (now (a .ancestors))) (nodes (now (a .descendants))) (4 * first / 4) (same ∙ s .0)),
+      ),
+    )
+
+node-from-requires : tie.Need-node-from-requires Inv-loop μ-loop
+node-from-requires c κs = (c .before .loop .inv .1, c .loop-test .taken)
+
 first-after-requires : tie.Need-first-after-requires Inv-loop μ-loop
-first-after-requires c κs =
-    let a = c .before .before .before .before .before .before .before .before .args in
-    let l = c .before .before .before .loop in
-    reached-in (now (a .ancestors)) _ _ _ (omega arith) (l .inv .1)
+first-after-requires c κs = c .before .before .loop .inv .2
 
 hand-ancestor-requires : tie.Need-hand-ancestor-requires Inv-loop μ-loop
 hand-ancestor-requires c κs =
-    let given = c .before .before .before .before .before .before .before .before .before .before in
+    let given = c .before .before .before .before .before .before .before .before .before .before .before in
     let a = given .args in
-    let l = c .before .before .before .before .before .loop in
-    let n = c .before .before .node-at .ensures in
-    let e = c .before .first-after .ensures in
-    sweep-running (now (a .ancestors)) (now (a .descendants)) (l .i) (l .from) _ _ (omega arith) n (l .inv .1) e (given .pre)
+    let l = c .before .before .before .before .loop in
+    let i = l .inv in
+    let t = c .before .before .before .loop-test .taken in
+    let f = c .before .first-after .ensures in
+    let r = sweep-running (now (a .ancestors)) (now (a .descendants)) (given .pre) (l .i / 4) (l .from / 4) _ _ (omega (arith, i .1)) (c .before .before .node-from .ensures) (i .4) (f .1) in
+    (given .pre, i .1, t, (i .2 .0, f .0, omega (arith, r .from-in, f .0, i .2 .0)), i .3, r)
 
 same-length : tie.Need-same-length Inv-loop μ-loop
 same-length c = search needs
 
 returns : tie.Need-returns Inv-loop μ-loop
 returns c =
-    let handed = c .before .before .before .before in
-    let found = handed .before .before in
-    let l = found .before .before .before .before .loop in
-    let given = found .before .before .before .before .before .before .before .before .before in
+    let here = c .before .before .before .before .before in
+    let given = here .before .before .before .before .before .before .before .before .before .before .before .before in
     let a = given .args in
-    let n = found .before .node-at .ensures in
-    let e = found .first-after .ensures in
-    let row = sweep-row (now (a .ancestors)) (now (a .descendants)) (l .i) (l .from) _ _ (omega arith) n (l .inv .1) e (a .relation) (a .place) in
-    left-stop pairWords PAIR-WORDS _ _ _ _ (handed .hand-ancestor .ensures) (not-read _ (c .if2 .taken)) row (l .inv .3)
+    let l = here .before .before .before .before .before .loop in
+    let i = l .inv in
+    let t = here .before .before .before .before .loop-test .taken in
+    let past = here .before .before .before .before .before .before in
+    let s = started (a .place) (now (a .ancestors)) _ _ _ (past .before .before .served-count .ensures) (past .before .node-at .ensures)
+    (past .past-from .ensures) in
+    let left = i .6 (a .place) s in
+    let row = sweep-row (now (a .ancestors)) (now (a .descendants)) (given .pre) (l .i / 4) (l .from / 4) _ _ (omega (arith, i .1)) (here .before .before .before .node-from .ensures)
+    (i .4) (here .before .before .first-after .ensures .1) (a .relation) (a .place) _ ((l .i + 4) / 4) (left .0 t) (omega arith) in
+    left-stop pairWords PAIR-WORDS _ _ _ _ (here .hand-ancestor .ensures .1) (not-read _ (c .if1 .taken)) row (left .1)
 
 add-i : tie.Need-add-i Inv-loop μ-loop
-add-i c = search needs
+add-i c =
+    let here = c .before .before .before .before .before in
+    let t = here .before .before .before .before .loop-test .taken in
+    let fits = here .before .before .before .before .before .before .before .before .before .before .before .before .good in
+    omega arith
 
 loop-less : tie.Need-loop-less Inv-loop μ-loop
 loop-less c = search needs
 
 loop-again : tie.Need-loop-again Inv-loop μ-loop
 loop-again c =
-    let handed = c .before .before .before .before in
-    let found = handed .before .before in
-    let l = found .before .before .before .before .loop in
-    let given = found .before .before .before .before .before .before .before .before .before in
+    let here = c .before .before .before .before .before in
+    let given = here .before .before .before .before .before .before .before .before .before .before .before .before in
     let a = given .args in
-    let n = found .before .node-at .ensures in
-    let e = found .first-after .ensures in
-    let row = sweep-row (now (a .ancestors)) (now (a .descendants)) (l .i) (l .from) _ _ (omega arith) n (l .inv .1) e (a .relation) (a .place) in
-    let done = not-none _ (c .if2 .left) in (
+    let l = here .before .before .before .before .before .loop in
+    let i = l .inv in
+    let t = here .before .before .before .before .loop-test .taken in
+    let done : _ ≡ true = not-none _ (c .if1 .left) in
+    let f = here .before .before .first-after .ensures in
+    let n = here .before .before .before .node-from .ensures in
+    let r = sweep-running (now (a .ancestors)) (now (a .descendants)) (given .pre) (l .i / 4) (l .from / 4) _ _ (omega (arith, i .1)) n (i .4) (f .1) in (
       omega arith,
-      sweep-next (now (a .ancestors)) (now (a .descendants)) (l .i) (l .from) _ _ (omega arith) n (l .inv .1) e (given .pre),
+      (i .1 .0, omega (arith, i .1), omega (arith, i .1)),
+      (i .2 .0, f .0, omega (arith, r .from-in, f .0, i .2 .0)),
+      here .hand-ancestor .ensures .0,
+      sweep-next (now (a .ancestors)) (now (a .descendants)) (given .pre) (l .i / 4) (l .from / 4) _ _ (omega (arith, i .1)) n (i .4) (f .1) ((l .i + 4) / 4) (omega arith),
       done,
-      left-on pairWords PAIR-WORDS _ _ _ _ (handed .hand-ancestor .ensures) done row (l .inv .3),
+      λ place s.
+          let left = i .6 place s in
+          let row = sweep-row (now (a .ancestors)) (now (a .descendants)) (given .pre) (l .i / 4) (l .from / 4) _ _ (omega (arith, i .1)) n
+          (i .4) (f .1) (a .relation) place _ ((l .i + 4) / 4) (left .0 t) (omega arith) in (
+            tells-next place (now (a .ancestors)) (first-taken (now (a .ancestors)) (now (a .descendants)) (given .pre) .0) _ (l .i) (left .0),
+            left-on pairWords PAIR-WORDS _ _ _ _ (here .hand-ancestor .ensures .1) done row (left .1),
+          ),
     )
 
 same-length-2 : tie.Need-same-length-2 Inv-loop μ-loop
@@ -104,10 +147,15 @@ same-length-2 c = search needs
 
 returns-2 : tie.Need-returns-2 Inv-loop μ-loop
 returns-2 c =
-    let a = c .before .before .before .before .before .before .before .args in
-    let l = c .before .before .loop in
-    let none = sweep-end (a .relation) Ancestor (a .place) (now (a .ancestors)) (nodes (now (a .descendants))) (l .i) (omega arith) in
-    left-end pairWords PAIR-WORDS _ _ (l .inv .2) none (l .inv .3)
+    let a = c .before .before .before .before .before .before .before .before .args in
+    let l = c .before .loop in
+    let i = l .inv in
+    let past = c .before .before in
+    let s = started (a .place) (now (a .ancestors)) _ _ _ (past .before .before .served-count .ensures) (past .before .node-at .ensures)
+    (past .past-from .ensures) in
+    let left = i .6 (a .place) s in
+    let none = sweep-end (a .relation) Ancestor (a .place) (now (a .ancestors)) (nodes (now (a .descendants))) (l .i / 4) (omega (arith, i .1, c .loop-test .left)) in
+    left-end pairWords PAIR-WORDS _ _ (i .5) none (left .1)
 
 pub sweep-ancestors-spec : {M : Type 1} → statement M
 sweep-ancestors-spec =
@@ -116,9 +164,11 @@ sweep-ancestors-spec =
     Inv-loop
     μ-loop
     served-count-requires
-    loop-holds
-    node-count-requires
     node-at-requires
+    past-from-requires
+    mul-i
+    loop-holds
+    node-from-requires
     first-after-requires
     hand-ancestor-requires
     same-length

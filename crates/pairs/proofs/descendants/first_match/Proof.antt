@@ -1,5 +1,6 @@
--- Every ancestor on the stack contains the descendant, and only the innermost can be one level above it.
--- Testing another one than the innermost, or taking it without its level, falls at its return.
+-- Every ancestor on the stack contains the descendant, and only the innermost can be one level
+-- above it. Testing another one than the innermost, or taking it without its level, falls at its
+-- return.
 use borrow.Author.Needs.{needs}
 use mathlib.Core.Path.{sym, _∙_}
 use native.Mathlib.Omega.{arith}
@@ -17,13 +18,13 @@ enum-told-2 c = search needs
 returns : tie.Need-returns
 returns c =
     let a = c .before .before .before .before .args in
-    match-none (a .relation) (a .descendant) (now (a .stack)) (a .depth) (omega arith)
+    match-none (a .relation) (a .descendant) (now (a .stack)) (a .used) (omega arith)
 
-sub-node-at : tie.Need-sub-node-at
-sub-node-at c = search needs
+sub-node-from : tie.Need-sub-node-from
+sub-node-from c = search needs
 
-node-at-requires : tie.Need-node-at-requires
-node-at-requires c κs = search needs
+node-from-requires : tie.Need-node-from-requires
+node-from-requires c κs = search needs
 
 is-one-deeper-requires : tie.Need-is-one-deeper-requires
 is-one-deeper-requires c κs = search needs
@@ -35,22 +36,22 @@ returns-2 : tie.Need-returns-2
 returns-2 c =
     let a = c .before .before .before .before .before .before .before .args in
     let p = c .before .before .before .before .before .before .before .pre in
-    match-top (a .relation) (a .descendant) (now (a .stack)) (a .depth) (p .0) (p .1) (p .2) _
-    (c .before .before .before .before .enum-told2 .given .1) (omega arith) (c .before .before .node-at .ensures)
+    match-top (a .relation) (a .descendant) (now (a .stack)) (a .used) (p .0) (p .1) (p .2) _
+    (c .before .before .before .before .enum-told2 .given .1) (omega arith) (c .before .before .node-from .ensures)
     (sym (c .before .is-one-deeper .ensures) ∙ c .if2 .taken)
 
 returns-3 : tie.Need-returns-3
 returns-3 c =
     let a = c .before .before .before .args in
     let p = c .before .before .before .pre in
-    match-all (a .relation) (a .descendant) (now (a .stack)) (a .depth) (p .0) (p .1) (p .2) (c .enum-told .given .1)
+    match-all (a .relation) (a .descendant) (now (a .stack)) (a .used) (p .0) (p .1) (p .2) (c .enum-told .given .1)
 
 returns-4 : tie.Need-returns-4
 returns-4 c =
     let a = c .before .before .before .before .before .before .before .args in
     let p = c .before .before .before .before .before .before .before .pre in
-    match-past (a .relation) (a .descendant) (now (a .stack)) (a .depth) (p .0) (p .1) (p .2) _
-    (c .before .before .before .before .enum-told2 .given .1) (omega arith) (c .before .before .node-at .ensures)
+    match-past (a .relation) (a .descendant) (now (a .stack)) (a .used) (p .0) (p .1) (p .2) _
+    (c .before .before .before .before .enum-told2 .given .1) (omega arith) (c .before .before .node-from .ensures)
     (sym (c .before .is-one-deeper .ensures) ∙ c .if2 .left)
 
 pub first-match-spec : {M : Type 1} → statement M
@@ -60,8 +61,8 @@ first-match-spec =
     enum-told
     enum-told-2
     returns
-    sub-node-at
-    node-at-requires
+    sub-node-from
+    node-from-requires
     is-one-deeper-requires
     sub-result
     returns-2

@@ -1,43 +1,65 @@
--- What matches the descendant is a stretch of the stack that ends at its top.
--- A stretch that leaves out the innermost ancestor, or takes in one that doesn't match, falls at the return.
+-- What matches the descendant is a stretch of the stack that ends at its top, and so is what is
+-- left of it from a start on. A stretch that leaves out the innermost ancestor, or takes in one
+-- that doesn't match, falls at the return.
 use borrow.Author.Needs.{needs}
 use mathlib.Core.Path.{ap, sym, subst, _∙_}
-use Prim.Native.Nat.{_<_}
+use Prim.Native.Nat.{_/_}
 use native.Mathlib.Omega.{arith}
 use denote.Ref.{now}
-use Rattle.nodes.specs.Choose.{Pairs}
-use Rattle.paging.specs.Page.{remains}
-use Rattle.paging.specs.Serve.{serve}
+use Rattle.nodes.specs.Words.{nodeAt}
+use Rattle.lists.specs.Walk.{opened, Upon}
 use Rattle.tickets.specs.declared.ticket.Order.the-variants.{Descendant}
-use Rattle.tickets.specs.Listing.{sortKey}
-use Rattle.tickets.specs.Row.{PAIR-WORDS, pairWords, row}
-use Rattle.tickets.specs.Ticket.{spotOf}
+use Rattle.pairs.specs.Sweep.{servedRow}
+use Rattle.pairs.proofs.Stretches.{ahead-in}
+use Rattle.pairs.proofs.Tops.{match-ahead}
 use Rattle.pairs.proofs.descendants.hand_descendant.Statement.{statement}
 use Rattle.pairs.proofs.descendants.hand_descendant.Tie as tie
 
-first-match-requires : tie.Need-first-match-requires
-first-match-requires c κs = search needs
+node-from-requires : tie.Need-node-from-requires
+node-from-requires c κs = search needs
 
-hand-stretch-requires : tie.Need-hand-stretch-requires
-hand-stretch-requires c κs =
-    let f = c .before .before .first-match .ensures in (
-      f .0,
-      omega (arith, c .hand-stretch-arg2 .given),
-      subst (Pairs (λ x y. x .start < y .start)) (f .1)
-          (c .before .before .before .before .before .pre .3),
-    )
+first-match-requires : tie.Need-first-match-requires
+first-match-requires c κs =
+    let start = c .before .before .before .before in
+    let a = start .args in
+    let p = start .pre in
+    let g = c .before .first-match-arg .given in
+    ((omega arith, omega arith, omega arith), p .3, subst (λ d. Upon d (opened (a .used) (now (a .stack)))) (sym (c .node-from .ensures)) (p .4))
+
+first-from-requires : tie.Need-first-from-requires
+first-from-requires c κs = search needs
+
+hand-ancestors-requires : tie.Need-hand-ancestors-requires
+hand-ancestors-requires c κs =
+    let start = c .before .before .before .before .before .before .before .before .before in
+    let a = start .args in
+    let p = start .pre in
+    let m = c .before .before .before .before .first-match .ensures in
+    let f = c .before .before .first-from .ensures in
+    let l = ahead-in (now (a .stack)) _ (a .used) _ (a .past) (f .1) (m .1) (p .2 .0) (f .0) in
+    let g = c .hand-ancestors-arg2 .given in
+    (p .0, p .1, (omega arith, f .0, omega arith), (omega arith, omega arith, omega arith))
 
 same-length : tie.Need-same-length
 same-length c = search needs
 
 returns : tie.Need-returns
 returns c =
-    let a = c .before .before .before .before .before .before .before .before .args in
-    c .before .before .hand-stretch .ensures
-    ∙ ap (λ ns. serve pairWords PAIR-WORDS (now (a .out)) (a .written)
-    (remains (sortKey Descendant) (spotOf (a .place)) (row Descendant (a .descendant) ns)))
-    (sym (c .before .before .before .before .before .first-match .ensures .1))
+    let a = c .before .before .before .before .before .before .before .before .before .before .before .before .args in
+    let m = c .before .before .before .before .before .before .before .first-match .ensures in
+    let f = c .before .before .before .before .before .first-from .ensures in
+    let n = c .before .before .before .before .before .before .before .before .node-from .ensures in
+    c .before .before .hand-ancestors .ensures
+    ∙ ap (servedRow Descendant (now (a .out)) (a .written) (nodeAt (now (a .descendants)) (a .at / 4)))
+    (match-ahead (now (a .stack)) _ (a .used) _ (a .past) (f .1) (a .relation) _ _ n (m .2))
 
 pub hand-descendant-spec : {M : Type 1} → statement M
 hand-descendant-spec =
-    tie.close (tie.spec first-match-requires hand-stretch-requires same-length returns)
+    tie.close
+    (tie.spec
+    node-from-requires
+    first-match-requires
+    first-from-requires
+    hand-ancestors-requires
+    same-length
+    returns)

@@ -1,56 +1,60 @@
--- The invariant: the ancestors on the stack stand for all that were passed. One more that stands before the descendant is put on top, and the
--- first that doesn't ends the loop; an ancestor passed over, or one put on the stack too early, falls at the next turn or at the return.
+-- The invariant: the ancestors on the stack stand for all that were passed, and all of them are
+-- open at the descendant. One more that stands before it goes on top or has ended, and the first
+-- that doesn't ends the loop; an open one passed over falls at the next turn or at the return.
 use borrow.Author.Needs.{needs}
-use mathlib.Core.Path.{sym, ap, _∙_}
-use Prim.Native.Nat.{_-_}
+use mathlib.Core.Path.{_≡_, sym, ap, _∙_}
+use mathlib.Core.Bool.{true}
+use Prim.Native.Nat.{_-_, _/_}
 use native.Mathlib.Omega.{arith}
+use lib.ListN.{length}
 use denote.Ref.{now}
 use borrow.Author.Tests.{not-true, not-false}
-use Rattle.nodes.specs.Node.{afterb}
-use Rattle.nodes.specs.Words.{count}
+use Rattle.nodes.specs.Choose.{All}
+use Rattle.nodes.specs.Node.{afterb, openb}
+use Rattle.lists.specs.Walk.{opened}
 use Rattle.pairs.specs.Sweep.{Opening}
 use Rattle.pairs.proofs.OpenStack.{next-fits, next-passed, passing-ends, passing-done}
 use Rattle.pairs.proofs.open.open_before.Statement.{statement}
 use Rattle.pairs.proofs.open.open_before.Tie as tie
 
 abbrev Inv-loop : tie.InvT-loop
-Inv-loop stack₀ depth passed ancestors descendant reached₀ i₀ stack reached i = Opening ancestors descendant reached i stack
+Inv-loop stack₀ used passed ancestors descendant reached₀ i₀ stack reached i =
+    Opening ancestors descendant reached i stack × All (λ e. openb descendant e ≡ true) (opened reached stack)
 
 abbrev μ-loop : tie.MeasureT-loop
-μ-loop stack₀ depth passed ancestors descendant reached₀ i₀ stack reached i = count ancestors - i
+μ-loop stack₀ used passed ancestors descendant reached₀ i₀ stack reached i = length ancestors - i
 
 loop-holds : tie.Need-loop-holds Inv-loop μ-loop
-loop-holds c = c .before .pre .1
+loop-holds c = (c .before .pre .1, c .before .pre .2)
 
-node-count-requires : tie.Need-node-count-requires Inv-loop μ-loop
-node-count-requires c κs = search needs
-
-node-at-requires : tie.Need-node-at-requires Inv-loop μ-loop
-node-at-requires c κs = search needs
+node-from-requires : tie.Need-node-from-requires Inv-loop μ-loop
+node-from-requires c κs = (c .before .loop .inv .0 .passed-in, c .loop-test .taken)
 
 is-after-requires : tie.Need-is-after-requires Inv-loop μ-loop
 is-after-requires c κs = search needs
 
 returns : tie.Need-returns Inv-loop μ-loop
 returns c =
-    let a = c .before .before .before .before .before .before .before .args in
-    let l = c .before .before .before .before .before .loop in (
-      l .inv,
-      passing-ends (now (a .ancestors)) (a .descendant) (c .before .before .before .before .before .before .before .pre .0) _ _
-          (c .before .before .node-at .ensures) (sym (c .before .is-after .ensures) ∙ not-true _ (c .if2 .taken)),
+    let start = c .before .before .before .before .before .before in
+    let a = start .args in
+    let l = c .before .before .before .before .loop in (
+      l .inv .0,
+      l .inv .1,
+      passing-ends (now (a .ancestors)) (a .descendant) (start .pre .0) _ _
+          (c .before .before .node-from .ensures) (sym (c .before .is-after .ensures) ∙ not-true _ (c .if1 .taken)),
     )
 
-node-at-requires-2 : tie.Need-node-at-requires-2 Inv-loop μ-loop
-node-at-requires-2 c κs = search needs
+node-from-requires-2 : tie.Need-node-from-requires-2 Inv-loop μ-loop
+node-from-requires-2 c κs = (c .before .before .before .before .before .loop .inv .0 .passed-in, c .before .before .before .before .loop-test .taken)
 
-put-on-top-requires : tie.Need-put-on-top-requires Inv-loop μ-loop
-put-on-top-requires c κs =
-    let given = c .before .before .before .before .before .before .before .before .before in
-    let a = given .args in
-    let l = c .before .before .before .before .before .before .before .loop in
-    let same = c .node-at2 .ensures ∙ sym (c .before .before .before .before .node-at .ensures) in
-    let test = ap (afterb (a .descendant)) same ∙ sym (c .before .before .before .is-after .ensures) ∙ not-false _ (c .before .before .if2 .left) in
-    next-fits (now (a .ancestors)) (a .descendant) (given .pre .0) _ _ _ _ (l .inv) (omega arith) (c .node-at2 .ensures) test
+open-next-requires : tie.Need-open-next-requires Inv-loop μ-loop
+open-next-requires c κs =
+    let start = c .before .before .before .before .before .before .before .before in
+    let a = start .args in
+    let l = c .before .before .before .before .before .before .loop in
+    let same = c .node-from2 .ensures ∙ sym (c .before .before .before .before .node-from .ensures) in
+    let test = ap (afterb (a .descendant)) same ∙ sym (c .before .before .before .is-after .ensures) ∙ not-false _ (c .before .before .if1 .left) in
+    next-fits (now (a .ancestors)) (a .descendant) (start .pre .0) _ _ _ _ (l .inv .0) (l .inv .1) (omega arith) (c .node-from2 .ensures) test
 
 add-i : tie.Need-add-i Inv-loop μ-loop
 add-i c = search needs
@@ -60,21 +64,24 @@ loop-less c = search needs
 
 loop-again : tie.Need-loop-again Inv-loop μ-loop
 loop-again c =
-    let given = c .before .before .before .before .before .before .before .before .before .before in
-    let a = given .args in
-    let l = c .before .before .before .before .before .before .before .before .loop in
-    let same = c .before .node-at2 .ensures ∙ sym (c .before .before .before .before .before .node-at .ensures) in
+    let start = c .before .before .before .before .before .before .before .before .before in
+    let a = start .args in
+    let l = c .before .before .before .before .before .before .before .loop in
+    let same = c .before .node-from2 .ensures ∙ sym (c .before .before .before .before .before .node-from .ensures) in
     let test = ap (afterb (a .descendant)) same ∙ sym (c .before .before .before .before .is-after .ensures)
-    ∙ not-false _ (c .before .before .before .if2 .left) in
-    next-passed (now (a .ancestors)) (a .descendant) (given .pre .0) _ _ _ _ _ _ (l .inv) (omega arith) (c .before .node-at2 .ensures) test
-    (c .put-on-top .ensures .0) (c .put-on-top .ensures .1)
+    ∙ not-false _ (c .before .before .before .if1 .left) in
+    next-passed (now (a .ancestors)) (a .descendant) (start .pre .0) _ _ _ _ (l .inv .0) (l .inv .1) (omega arith) (c .before .node-from2 .ensures) test
+    _ _ (c .open-next .ensures .0) (c .open-next .ensures .1)
 
 returns-2 : tie.Need-returns-2 Inv-loop μ-loop
 returns-2 c =
-    let a = c .before .before .before .before .args in (
-      c .before .before .loop .inv,
-      passing-done (now (a .ancestors)) (a .descendant) (c .before .before .before .before .pre .0)
-          (c .before .before .loop .i) (omega arith),
+    let start = c .before .before .before in
+    let a = start .args in
+    let l = c .before .loop in (
+      l .inv .0,
+      l .inv .1,
+      passing-done (now (a .ancestors)) (a .descendant) (start .pre .0) (l .i / 4)
+          (let p = l .inv .0 .passed-in in omega arith),
     )
 
 pub open-before-spec : {M : Type 1} → statement M
@@ -84,12 +91,11 @@ open-before-spec =
     Inv-loop
     μ-loop
     loop-holds
-    node-count-requires
-    node-at-requires
+    node-from-requires
     is-after-requires
     returns
-    node-at-requires-2
-    put-on-top-requires
+    node-from-requires-2
+    open-next-requires
     add-i
     loop-less
     loop-again

@@ -3,12 +3,9 @@
 use borrow.Author.Needs.{needs}
 use native.Mathlib.Omega.{arith}
 use lib.ListN.{length-set}
-use Rattle.nodes.proofs.WordLaws.{four-stores}
+use Rattle.lists.proofs.WalkLaws.{stores-at}
 use Rattle.pairs.proofs.open.put_open.Statement.{statement}
 use Rattle.pairs.proofs.open.put_open.Tie as tie
-
-mul-at : tie.Need-mul-at
-mul-at c = search needs
 
 mul-stack : tie.Need-mul-stack
 mul-stack c = search needs
@@ -47,13 +44,12 @@ same-length : tie.Need-same-length
 same-length c = simp length-set
 
 returns : tie.Need-returns
-returns c = four-stores _ _ _ (omega arith)
+returns c = stores-at _ _ _ _ (omega arith) (omega arith)
 
 pub put-open-spec : {M : Type 1} → statement M
 put-open-spec =
     tie.close
     (tie.spec
-    mul-at
     mul-stack
     slice-write-stack
     add-stack

@@ -10,9 +10,9 @@ use borrow.Author.Needs.{needs}
 use Rattle.nodes.specs.declared.node.Node.{Node}
 use Rattle.nodes.specs.Words.{wordsOf}
 use Rattle.paging.specs.Serve.{store}
 use Rattle.tickets.specs.Row.{PAIR-WORDS, pairWords}
-use Rattle.tickets.proofs.row.put_nodes.Statement.{statement}
-use Rattle.tickets.proofs.row.put_nodes.Tie as tie
+use Rattle.pairs.proofs.rows.put_nodes.Statement.{statement}
+use Rattle.pairs.proofs.rows.put_nodes.Tie as tie
 
 eight-stores : (ws : List ℕ) (i : ℕ) (x y : Node)
     → set

@@ -4,12 +4,12 @@ use mathlib.Core.Path.{_≡_, refl, ap, _∙_}
 use borrow.Author.Needs.{needs}
 use Rattle.nodes.specs.declared.node.Node.{Node}
 use Rattle.paging.specs.Serve.{store}
 use Rattle.tickets.specs.declared.ticket.Order.{Order}
 use Rattle.tickets.specs.declared.ticket.Order.the-variants.{Descendant, Ancestor}
 use Rattle.tickets.specs.Listing.{Pair, pairOf}
 use Rattle.tickets.specs.Row.{PAIR-WORDS, pairWords}
-use Rattle.tickets.proofs.row.put_pair.Statement.{statement}
-use Rattle.tickets.proofs.row.put_pair.Tie as tie
+use Rattle.pairs.proofs.rows.put_pair.Statement.{statement}
+use Rattle.pairs.proofs.rows.put_pair.Tie as tie
 
 module _ (order : Order) (x y : Node) where
   descendant-first : order ≡ Descendant → _≡_ {A = Pair} (record { ancestor = y; descendant = x }) (pairOf order x y)

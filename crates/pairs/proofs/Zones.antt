@@ -1,0 +1,181 @@
+-- A sweep along the ancestors hands out each one's run past the place, and where the runs begin only moves on.
+-- A descendant passed before an ancestor that contains it, or a follower handed out before the place, would fall here.
+use mathlib.Core.Path.{_≡_, refl, ap, sym, subst, _∙_}
+use mathlib.Core.Logic.{inl, inr}
+use mathlib.Core.Bool.{Bool, true, false, not}
+use mathlib.Core.List.{List, [], _∷_, _++_, append-nil}
+use Prim.Native.Nat.{ℕ, zero, suc, _+_, _-_, _/_, _%_, _≤_, _<_}
+use native.Mathlib.Omega.{arith}
+use lib.Dec.{leb}
+use lib.ListN.{length, take, drop, take-append-drop}
+use lib.Seq.{drop-drop, drop-nil}
+use borrow.Author.Tests.{le-leb, leb-true}
+use Rattle.nodes.specs.declared.node.Node.{Node}
+use Rattle.nodes.specs.Answer.{TAKEN}
+use Rattle.nodes.specs.Choose.{All, Pairs, keep, firstAt}
+use Rattle.nodes.specs.Node.{afterb, openb}
+use Rattle.nodes.specs.Words.{node, nodes, count, nodeAt}
+use Rattle.nodes.proofs.Choices.{all-map, take-all-of, keep-all-of}
+use Rattle.nodes.proofs.NodeLaws.{after-trans, open-read}
+use Rattle.nodes.proofs.Tests.{either, not-none}
+use Rattle.nodes.proofs.WordLaws.{length-nodes, nodes-from}
+use Rattle.lists.specs.Check.{checkWords}
+use Rattle.lists.specs.Two.{checkTwo}
+use Rattle.lists.proofs.Pairing.{two-taken-iff}
+use Rattle.lists.proofs.Taken.{Fine, words-taken-iff}
+use Rattle.tickets.specs.declared.ticket.Order.the-variants.{Ancestor}
+use Rattle.tickets.specs.declared.ticket.Place.{Place}
+use Rattle.tickets.specs.declared.ticket.Relation.{Relation}
+use Rattle.tickets.specs.Listing.{relatedb, sortKey, pairOf}
+use Rattle.tickets.specs.Row.{row, matches}
+use Rattle.tickets.specs.Ticket.{spotOf}
+use Rattle.paging.specs.Page.{remains}
+use Rattle.tickets.proofs.First.{first-in, first-failed, first-from, first-earlier}
+use Rattle.tickets.proofs.Places.{Past}
+use Rattle.tickets.proofs.Rows.{rest-of, row-past}
+use Rattle.pairs.specs.Sweep.{Placed, Running, runningb, runEnd, stretch, startsFrom, fromStart}
+use Rattle.pairs.proofs.Accepted.{accepted}
+use Rattle.pairs.proofs.Children.{node-pair, even-at}
+use Rattle.pairs.proofs.Rowing.{rising, matches-rise, rest-row}
+use Rattle.pairs.proofs.Running.{first-after, match-append, match-after, running-run, running-from, run-stops, end-from, end-in, none-match}
+use Rattle.pairs.proofs.Stretches.{stretch-ahead, ahead-in}
+
+pairs-take : (R : Node → Node → Type 0) (n : ℕ) (xs : List Node) → Pairs R xs → Pairs R (take n xs)
+pairs-take R zero xs h = tt
+pairs-take R (suc n) [] h = tt
+pairs-take R (suc n) (x ∷ xs) h = (take-all-of (R x) n xs (h .0), pairs-take R n xs (h .1))
+
+-- nodes that all start late enough are left as they are
+from-all : (past : ℕ) (zs : List Node) → All (λ z. leb past (z .start) ≡ true) zs → fromStart past zs ≡ zs
+unfolding fromStart firstAt
+from-all past [] h = refl
+from-all past (z ∷ zs) h = rw (h .0) refl
+
+-- of nodes whose starts rise, what is kept from a start on is what starts there of what is kept
+keep-from : (test : Node → Bool) (past : ℕ) (zs : List Node) → Pairs (λ y z. y .start < z .start) zs
+    → keep test (fromStart past zs) ≡ fromStart past (keep test zs)
+unfolding fromStart firstAt keep
+keep-from test past [] h = refl
+keep-from test past (z ∷ zs) h =
+    elim (either (leb past (z .start))) [
+      | inl t ↦ rw t (sym (from-all past (keep test (z ∷ zs)) (keep-all-of (λ y. leb past (y .start) ≡ true) test (z ∷ zs)
+          (t, all-map (λ y s. le-leb past (y .start) (let l : past ≤ z .start = leb-true _ _ t in omega arith)) zs (h .0)))))
+      | inr t ↦ rw t (keep-from test past zs (h .1) ∙ elim (either (test z)) [ inl u ↦ rw (u, t) refl | inr u ↦ rw u refl ])
+    ]
+
+module _ (ws : List ℕ) (a : Node) where
+  -- what matches lies in the run
+  run-matches : (relation : Relation) (from to : ℕ) → Running ws a (from / 4) → to / 4 ≡ runEnd ws a (from / 4)
+      → matches relation Ancestor a (drop (from / 4) (nodes ws)) ≡ matches relation Ancestor a (stretch ws from to)
+  run-matches relation from to r q =
+      let zs : List Node = drop (from / 4) (nodes ws) in
+      let n : ℕ = to / 4 - from / 4 in
+      let e : from / 4 + n ≡ to / 4 = omega arith in
+      let rest : drop n zs ≡ drop (to / 4) (nodes ws) = drop-drop n (from / 4) (nodes ws) ∙ ap (λ i. drop i (nodes ws)) e in
+      let none : matches relation Ancestor a (drop n zs) ≡ [] =
+      ap (matches relation Ancestor a) rest ∙ none-match ws a relation (from / 4) (to / 4) r (omega arith) in
+      ap (matches relation Ancestor a) (sym (take-append-drop n zs)) ∙ match-append a relation (take n zs) (drop n zs)
+      ∙ ap (λ ms. matches relation Ancestor a (take n zs) ++ ms) none ∙ append-nil _
+
+  run-rises : (from to : ℕ) → Running ws a (from / 4) → to / 4 ≡ runEnd ws a (from / 4) → Pairs (λ y z. y .start < z .start) (stretch ws from to)
+  run-rises from to r q =
+      let zs : List Node = drop (from / 4) (nodes ws) in
+      let width : to / 4 - from / 4 ≡ firstAt (λ d. not (openb d a)) zs = omega arith in
+      subst (λ n. Pairs (λ y z. y .start < z .start) (take n zs)) (sym width)
+      (rising a (take (firstAt (λ d. not (openb d a)) zs) zs) (pairs-take Fine (firstAt (λ d. not (openb d a)) zs) zs (running-run ws a (from / 4) r .pairs))
+      (all-map (λ z o. open-read z a (not-none _ o) .document) (take (firstAt (λ d. not (openb d a)) zs) zs) (first-failed (λ d. not (openb d a)) zs)))
+
+  -- from the first descendant of the run that starts late enough on lies what is left of what matches
+  run-ahead : (relation : Relation) (from to ahead past : ℕ) → Running ws a (from / 4) → to / 4 ≡ runEnd ws a (from / 4)
+      → Running ws a (ahead / 4) → to / 4 ≡ runEnd ws a (ahead / 4) → ahead / 4 ≡ firstAt (startsFrom past) (stretch ws from to) + from / 4
+      → matches relation Ancestor a (drop (ahead / 4) (nodes ws)) ≡ fromStart past (matches relation Ancestor a (drop (from / 4) (nodes ws)))
+  unfolding matches
+  run-ahead relation from to ahead past r q r′ q′ e =
+      run-matches relation ahead to r′ q′ ∙ ap (matches relation Ancestor a) (stretch-ahead ws from to ahead past e)
+      ∙ keep-from (λ n. relatedb relation (pairOf Ancestor a n)) past (stretch ws from to) (run-rises from to r q)
+      ∙ ap (fromStart past) (sym (run-matches relation from to r q))
+
+  -- an ancestor that isn't open at the first descendant after it has no row
+  pub run-none : (relation : Relation) (past from : ℕ) (x : Node) (b : Bool) → Running ws a (from / 4) → x ≡ a → b ≡ runningb ws x (from / 4) → b ≡ false
+      → fromStart past (matches relation Ancestor a (drop (from / 4) (nodes ws))) ≡ []
+  unfolding fromStart
+  run-none relation past from x b r q o n =
+      let e = run-stops ws a (from / 4) (ap (λ z. runningb ws z (from / 4)) (sym q) ∙ sym o ∙ n) in
+      rw (none-match ws a relation (from / 4) (from / 4) r (omega (arith, e))) (drop-nil {A = Node} (firstAt (startsFrom past) []))
+
+  -- the run of an ancestor that is open there, and what is left of it from the first that starts late enough on
+  module _ (from to ahead past : ℕ) (x : Node) (p : Placed ws from) (r : Running ws a (from / 4)) (q : x ≡ a) (m : to % 4 ≡ 0)
+      (e : to / 4 ≡ runEnd ws x (from / 4)) where
+    end-at : to / 4 ≡ runEnd ws a (from / 4)
+    end-at = e ∙ ap (λ z. runEnd ws z (from / 4)) q
+
+    pub end-placed : Placed ws to × (from ≤ to)
+    end-placed = let h = end-in ws a (from / 4) (omega (arith, p)) in ((p .0, m, omega (arith, p, end-at)), omega (arith, p, end-at))
+
+    pub ahead-placed : (n : ahead % 4 ≡ 0) → ahead / 4 ≡ firstAt (startsFrom past) (stretch ws from to) + from / 4
+        → Placed ws ahead × Running ws a (ahead / 4) × (to / 4 ≡ runEnd ws a (ahead / 4))
+    ahead-placed n s =
+        let t = end-placed in
+        let h = ahead-in ws from to ahead past s (t .1) m n in
+        let i = t .0 in
+        let l : from / 4 ≤ ahead / 4 = omega arith in (
+          (p .0, n, omega (arith, i)),
+          running-from ws a (from / 4) (ahead / 4) l (omega (arith, i)) r,
+          end-at ∙ sym (end-from ws a (from / 4) (ahead / 4) l (omega (arith, end-at))),
+        )
+
+    pub ahead-row : (relation : Relation) (n : ahead % 4 ≡ 0) → ahead / 4 ≡ firstAt (startsFrom past) (stretch ws from to) + from / 4
+        → matches relation Ancestor a (drop (ahead / 4) (nodes ws)) ≡ fromStart past (matches relation Ancestor a (drop (from / 4) (nodes ws)))
+    ahead-row relation n s = let t = ahead-placed n s in run-ahead relation from to ahead past r end-at (t .1) (t .2) s
+
+-- a sweep along the ancestors stands at one: no descendant before an index stands after it
+abbrev pub Reached : List ℕ → List ℕ → ℕ → ℕ → Type 0
+Reached as′ ws i from = i < count as′ → from ≤ firstAt (λ d. afterb d (nodeAt as′ i)) (nodes ws)
+
+module _ (as′ ws : List ℕ) (taken : checkTwo as′ ws .answer ≡ TAKEN) where
+  -- the ancestors alone are accepted, and both lists are of whole nodes
+  pub first-taken : (checkWords as′ .answer ≡ TAKEN) × (length as′ % 4 ≡ 0) × (length ws % 4 ≡ 0)
+  first-taken =
+      let t = two-taken-iff as′ ws .0 taken in
+      (t .0, words-taken-iff as′ .0 (t .0) .0, words-taken-iff ws .0 (t .1) .0)
+
+  module _ (i from to : ℕ) (a : Node) (l : i < count as′) (q : a ≡ nodeAt as′ i) (p : Reached as′ ws i from)
+      (e : to ≡ firstAt (λ d. afterb d a) (drop from (nodes ws)) + from) where
+    -- the search from the index on finds the first descendant after the ancestor
+    found : to ≡ firstAt (λ d. afterb d (nodeAt as′ i)) (nodes ws)
+    found =
+        e ∙ ap (λ n. firstAt (λ d. afterb d n) (drop from (nodes ws)) + from) q ∙ first-from (λ d. afterb d (nodeAt as′ i)) from (nodes ws) (p l)
+
+    pub sweep-running : Running ws (nodeAt as′ i) to
+    sweep-running =
+        let t = two-taken-iff as′ ws .0 taken .1 in
+        let w = words-taken-iff ws .0 t in
+        record {
+          accepted = t;
+          whole = w .0;
+          even = even-at as′ ws taken i l;
+          from-in = omega (arith, found, first-in (λ d. afterb d (nodeAt as′ i)) (nodes ws), length-nodes ws);
+          after = rw found (first-after (nodeAt as′ i) (nodes ws) (w .3));
+        }
+
+    -- the next ancestor stands after this one
+    pub sweep-next : (j : ℕ) → j ≡ i + 1 → Reached as′ ws j to
+    sweep-next j s m =
+        let fine : Fine (nodeAt as′ i) (nodeAt as′ j) = node-pair as′ Fine i j (omega arith) m (accepted as′ ws taken .fine-as) in
+        rw found
+        (first-earlier (λ d. afterb d (nodeAt as′ i)) (λ d. afterb d (nodeAt as′ j)) (λ d h. after-trans d (nodeAt as′ j) (nodeAt as′ i) h (fine .after)) (nodes ws))
+
+    -- what remains of this ancestor's row comes next
+    pub sweep-row : (relation : Relation) (place : Place) (past j : ℕ) → Past place past (nodeAt as′ i) → j ≡ i + 1
+        → rest-of relation Ancestor place (drop i (nodes as′)) (nodes ws)
+        ≡ row Ancestor (nodeAt as′ i) (fromStart past (matches relation Ancestor (nodeAt as′ i) (drop to (nodes ws))))
+        ++ rest-of relation Ancestor place (drop j (nodes as′)) (nodes ws)
+    unfolding fromStart
+    sweep-row relation place past j h s =
+        let x = nodeAt as′ i in
+        let later = drop (i + 1) (nodes as′) in
+        let ms : List Node = matches relation Ancestor x (nodes ws) in
+        let mine : remains (sortKey Ancestor) (spotOf place) (row Ancestor x ms) ≡ row Ancestor x (drop (firstAt (startsFrom past) ms) ms) =
+        row-past Ancestor place past x ms h (matches-rise relation Ancestor x (nodes ws) (accepted as′ ws taken .fine-ds)) in
+        rw (s, found, match-after x relation (nodes ws), nodes-from as′ i l)
+        (rest-row relation Ancestor x place later (nodes ws) ∙ ap (λ ps. ps ++ rest-of relation Ancestor place later (nodes ws)) mine)

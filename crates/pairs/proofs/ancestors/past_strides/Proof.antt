@@ -1,0 +1,66 @@
+-- The invariant: up to here the run goes on. Where the ancestor is open at the last descendant of a stride, it is open at all of it.
+-- A stride taken untested, or one that tests a descendant before its last, falls at the next turn.
+use borrow.Author.Needs.{needs}
+use Prim.Native.Nat.{_+_, _-_}
+use mathlib.Core.Path.{_≡_, sym, _∙_}
+use native.Mathlib.Omega.{arith}
+use lib.ListN.{length}
+use denote.Ref.{now}
+use Rattle.pairs.specs.Sweep.{Further}
+use Rattle.pairs.proofs.Running.{further-none, further-next, further-trans}
+use Rattle.pairs.proofs.ancestors.past_strides.Statement.{statement}
+use Rattle.pairs.proofs.ancestors.past_strides.Tie as tie
+
+abbrev Inv-loop : tie.InvT-loop
+Inv-loop descendants from ancestor k₀ k = Further descendants ancestor from k
+
+abbrev μ-loop : tie.MeasureT-loop
+μ-loop descendants from ancestor k₀ k = length descendants + 32 - k
+
+loop-holds : tie.Need-loop-holds Inv-loop μ-loop
+loop-holds c =
+    let a = c .before .args in
+    let p = c .before .pre in
+    further-none (now (a .descendants)) (a .ancestor) (a .from) (p .0) (p .1)
+
+add-is-running : tie.Need-add-is-running Inv-loop μ-loop
+add-is-running c = let i = c .loop .inv .2 .from-in in search needs
+
+sub-is-running : tie.Need-sub-is-running Inv-loop μ-loop
+sub-is-running c = search needs
+
+is-running-requires : tie.Need-is-running-requires Inv-loop μ-loop
+is-running-requires c κs = let i = c .loop .inv .0 in (c .before .before .pre .1 .whole, omega arith)
+
+add-k : tie.Need-add-k Inv-loop μ-loop
+add-k c = let i = c .before .before .loop .inv .2 .from-in in search needs
+
+loop-less : tie.Need-loop-less Inv-loop μ-loop
+loop-less c = let i = c .before .before .loop .inv .2 .from-in in let w = c .before .before .loop .inv .2 .whole in omega arith
+
+loop-again : tie.Need-loop-again Inv-loop μ-loop
+loop-again c =
+    let a = c .before .before .before .before .args in
+    let l = c .before .before .loop in
+    let i = l .inv in
+    further-trans (now (a .descendants)) (a .ancestor) (a .from) (l .k) (l .k + 32) i
+    (further-next (now (a .descendants)) (a .ancestor) (l .k) (l .k + 32 - 4) (l .k + 32) (i .0) (omega (arith, i .0)) (omega arith) (omega arith) (i .2)
+    (sym (c .before .is-running .ensures) ∙ c .if1 .taken))
+
+returns : tie.Need-returns Inv-loop μ-loop
+returns c = c .before .before .loop .inv
+
+pub past-strides-spec : {M : Type 1} → statement M
+past-strides-spec =
+    tie.close
+    (tie.spec
+    Inv-loop
+    μ-loop
+    loop-holds
+    add-is-running
+    sub-is-running
+    is-running-requires
+    add-k
+    loop-less
+    loop-again
+    returns)

@@ -1,0 +1,240 @@
+// The rows of a listing: a leader, which is the node that the order sorts by first, with each of its followers. A place
+// in a list is the word at which a node starts, or the list's end.
+use nodes::node::NODE_WORDS;
+use nodes::node::Node;
+use nodes::node::node_at;
+use nodes::node::node_count;
+use tickets::row::PAIR_WORDS;
+use tickets::ticket::Order;
+ghost use mathlib.Core.Path.{_≡_};
+ghost use mathlib.Core.Bool.{true};
+ghost use mathlib.Core.Logic.{_⊎_};
+ghost use Prim.Native.Nat.{_+_, _/_, _%_, _≤_, _<_};
+ghost use lib.ListN.{length};
+ghost use Rattle.nodes.specs.Choose.{firstAt};
+ghost use Rattle.nodes.specs.Words.{NODE-WORDS, nodes, count, nodeAt};
+ghost use Rattle.paging.specs.Serve.{store};
+ghost use Rattle.tickets.specs.Listing.{pairOf};
+ghost use Rattle.tickets.specs.Row.{PAIR-WORDS, pairWords, room};
+ghost use Rattle.pairs.specs.Sweep.{Placed, stretch, startsFrom, servedRow};
+
+// How far a listing was handed out: the pairs written so far, and whether all that were to be written found room.
+pub(crate) struct Handed {
+    pub count: usize,
+    pub done: bool,
+}
+
+// Returns the node that starts at a word.
+pub(crate) fn node_from(words: &[u32], at: usize) -> Node
+    requires { ⌜ Placed (now words) at × (at < length (now words)) ⌝ }
+    ensures { λ r. ⌜ r ≡ nodeAt (now (words .entry)) (at / NODE-WORDS) ⌝ }
+{
+    Node {
+        document: words[at],
+        start: words[at + 1],
+        end: words[at + 2],
+        level: words[at + 3],
+    }
+}
+
+// Writes the words of an ancestor and then those of a descendant, as the pair at an index of the output.
+fn put_nodes(out: &mut [u32], index: usize, ancestor: Node, descendant: Node)
+    requires { ⌜ index < room (now out) ⌝ }
+    ensures { λ r. ⌜ now (out .exit) ≡ store pairWords PAIR-WORDS (now (out .entry)) index (record { ancestor = ancestor; descendant = descendant }) ⌝ }
+{
+    let at = PAIR_WORDS * index;
+    out[at] = ancestor.document;
+    out[at + 1] = ancestor.start;
+    out[at + 2] = ancestor.end;
+    out[at + 3] = ancestor.level;
+    out[at + 4] = descendant.document;
+    out[at + 5] = descendant.start;
+    out[at + 6] = descendant.end;
+    out[at + 7] = descendant.level;
+}
+
+// Writes the pair of a leader and a follower, at an index of the output.
+fn put_pair(out: &mut [u32], index: usize, order: Order, leader: Node, follower: Node)
+    requires { ⌜ index < room (now out) ⌝ }
+    ensures { λ r. ⌜ now (out .exit) ≡ store pairWords PAIR-WORDS (now (out .entry)) index (pairOf order leader follower) ⌝ }
+{
+    match order {
+        Order::Descendant => put_nodes(out, index, follower, leader),
+        Order::Ancestor => put_nodes(out, index, leader, follower),
+    }
+}
+
+// Writes the pairs of a leader with all followers after those that the output holds already. There is room for them.
+fn put_row(out: &mut [u32], written: usize, order: Order, leader: Node, followers: &[u32])
+    requires { ⌜ written + count (now followers) ≤ room (now out) ⌝ }
+    ensures { λ r. ⌜ (now (out .exit), written + count (now (followers .entry)), true)
+        ≡ servedRow order (now (out .entry)) written leader (nodes (now (followers .entry))) ⌝ }
+{
+    let mut k = 0;
+    while k < node_count(followers) {
+        put_pair(out, written + k, order, leader, node_at(followers, k));
+        k += 1;
+    }
+}
+
+// Returns how many of the wanted pairs fit into the room left.
+fn fitting(left: usize, wanted: usize) -> usize
+    ensures { λ r. ⌜ (r ≤ left) × (r ≤ wanted) × ((left ≤ r) ⊎ (wanted ≤ r)) ⌝ }
+{
+    if left < wanted {
+        return left;
+    }
+    wanted
+}
+
+// Hands out the pairs of a leader with the followers from one place to another, as many as fit. These are counted
+// first, so that the loop that copies them asks nothing.
+fn hand_stretch(
+    out: &mut [u32],
+    written: usize,
+    order: Order,
+    leader: Node,
+    followers: &[u32],
+    from: usize,
+    to: usize,
+) -> Handed
+    requires { ⌜ (written ≤ room (now out)) × Placed (now followers) from × Placed (now followers) to × (from ≤ to) ⌝ }
+    ensures { λ r. ⌜ (now (out .exit), r .count, r .done)
+        ≡ servedRow order (now (out .entry)) written leader (stretch (now (followers .entry)) from to) ⌝ }
+{
+    let wanted = (to - from) / NODE_WORDS;
+    let fit = fitting(out.len() / PAIR_WORDS - written, wanted);
+    put_row(
+        out,
+        written,
+        order,
+        leader,
+        &followers[from..from + NODE_WORDS * fit],
+    );
+    Handed {
+        count: written + fit,
+        done: fit == wanted,
+    }
+}
+
+// Hands out the pairs of the descendant at a place with the ancestors from one place to another, as many as fit. Many
+// rows are of one pair, so the first is written by itself. For the others the descendant is read again: a node that is
+// held while another is stored would be copied word by word.
+pub(crate) fn hand_ancestors(
+    out: &mut [u32],
+    written: usize,
+    descendants: &[u32],
+    at: usize,
+    ancestors: &[u32],
+    from: usize,
+    to: usize,
+) -> Handed
+    requires { ⌜ Placed (now descendants) at × (at < length (now descendants)) × Placed (now ancestors) from × Placed (now ancestors) to ⌝ }
+    ensures { λ r. ⌜ (now (out .exit), r .count, r .done)
+        ≡ servedRow Order.Descendant (now (out .entry)) written (nodeAt (now (descendants .entry)) (at / NODE-WORDS))
+        (stretch (now (ancestors .entry)) from to) ⌝ }
+{
+    if to <= from {
+        return Handed {
+            count: written,
+            done: true,
+        };
+    }
+    if out.len() / PAIR_WORDS <= written {
+        return Handed {
+            count: written,
+            done: false,
+        };
+    }
+    put_nodes(
+        out,
+        written,
+        node_from(ancestors, from),
+        node_from(descendants, at),
+    );
+    if to - from == NODE_WORDS {
+        return Handed {
+            count: written + 1,
+            done: true,
+        };
+    }
+    hand_stretch(
+        out,
+        written + 1,
+        Order::Descendant,
+        node_from(descendants, at),
+        ancestors,
+        from + NODE_WORDS,
+        to,
+    )
+}
+
+// The same for the ancestor at a place with the descendants from one place to another. One function for both orders
+// would have two callers and be too large to become part of each.
+pub(crate) fn hand_descendants(
+    out: &mut [u32],
+    written: usize,
+    ancestors: &[u32],
+    at: usize,
+    descendants: &[u32],
+    from: usize,
+    to: usize,
+) -> Handed
+    requires { ⌜ Placed (now ancestors) at × (at < length (now ancestors)) × Placed (now descendants) from × Placed (now descendants) to ⌝ }
+    ensures { λ r. ⌜ (now (out .exit), r .count, r .done)
+        ≡ servedRow Order.Ancestor (now (out .entry)) written (nodeAt (now (ancestors .entry)) (at / NODE-WORDS))
+        (stretch (now (descendants .entry)) from to) ⌝ }
+{
+    if to <= from {
+        return Handed {
+            count: written,
+            done: true,
+        };
+    }
+    if out.len() / PAIR_WORDS <= written {
+        return Handed {
+            count: written,
+            done: false,
+        };
+    }
+    put_nodes(
+        out,
+        written,
+        node_from(ancestors, at),
+        node_from(descendants, from),
+    );
+    if to - from == NODE_WORDS {
+        return Handed {
+            count: written + 1,
+            done: true,
+        };
+    }
+    hand_stretch(
+        out,
+        written + 1,
+        Order::Ancestor,
+        node_from(ancestors, at),
+        descendants,
+        from + NODE_WORDS,
+        to,
+    )
+}
+
+// Returns the place of the first follower, from one place up to another, that starts at a start or later.
+pub(crate) fn first_from(followers: &[u32], from: usize, to: usize, start: u64) -> usize
+    requires { ⌜ Placed (now followers) from × Placed (now followers) to × (from ≤ to) ⌝ }
+    ensures { λ r. ⌜ (r % NODE-WORDS ≡ 0) × (r / NODE-WORDS
+        ≡ firstAt (startsFrom start) (stretch (now (followers .entry)) from to) + from / NODE-WORDS) ⌝ }
+{
+    if start == 0 {
+        return from;
+    }
+    let mut k = from;
+    while k < to {
+        if start <= node_from(followers, k).start as u64 {
+            return k;
+        }
+        k += NODE_WORDS;
+    }
+    k
+}
