@@ -293,19 +293,25 @@ static inline const struct node *end_of_run(const struct node *a, const struct n
     return d;
 }
 
-/* The descendant of a run to look at after one that isn't one level deeper. Where that one lies in
-   the inner zone, which comes after the ancestor, all that lie there are passed: the rest of the
-   run, the rest but one, or what strides reach. */
-static inline const struct node *past_inner(const struct node *d, const struct node *run_end,
-                                            const struct node *inner)
+/* The descendant of a run to look at after one that isn't one level deeper. Where more than a stride
+   is left, and the next zone holds this one and the one after it, all that the zone holds are passed:
+   the rest of the run, the rest but one, or what strides reach. A zone that has ended, or holds no
+   more than this one, makes way for the zone after it. */
+static inline const struct node *past_inner(const struct node **next_zone,
+                                            const struct node *zones_end, const struct node *d,
+                                            const struct node *run_end)
 {
-    if (d->start <= inner->start)
+    const struct node *zone = *next_zone;
+    if (run_end - d <= STRIDE || zone == zones_end || !is_before(zone, d))
         return d + 1;
-    if (run_end[-1].start <= inner->end)
+    ++*next_zone;
+    if ((++d)->start > zone->end)
+        return d;
+    if (run_end[-1].start <= zone->end)
         return run_end;
-    if (run_end - d > 1 && run_end[-2].start <= inner->end)
+    if (run_end[-2].start <= zone->end)
         return run_end - 1;
-    while (run_end - d > STRIDE && d[STRIDE].start <= inner->end)
+    while (run_end - d > STRIDE && d[STRIDE].start <= zone->end)
         d += STRIDE;
     return d + 1;
 }
@@ -315,10 +321,8 @@ static inline const struct node *past_inner(const struct node *d, const struct n
 static inline int put_children(struct writing *w, const struct node *a, const struct node *a_end,
                                const struct node *d, const struct node *run_end)
 {
-    const struct node *inner = a + 1;
-    uint32_t level = a->level + 1, reach = 0;
-    if (run_end - d > STRIDE && is_open_at(a, inner, a_end))
-        reach = inner->end;
+    const struct node *next_zone = a + 1;
+    uint32_t level = a->level + 1;
     while (d < run_end) {
         if (d->level == level) {
             if (w->out == w->end)
@@ -326,7 +330,7 @@ static inline int put_children(struct writing *w, const struct node *a, const st
             put_pair(w->out++, BELFRY_ANCESTOR_ORDER, a, d);
             d++;
         } else
-            d = d->start < reach ? past_inner(d, run_end, inner) : d + 1;
+            d = past_inner(&next_zone, a_end, d, run_end);
     }
     return 1;
 }

@@ -139,8 +139,8 @@ fn past_held(descendants: &[u32], from: usize, zone: Node, to: usize) -> usize
 }
 
 // Returns the next descendant to look at after one that isn't one level deeper than the ancestor whose run is handed
-// out. Where many are left and the next zone holds this one, all that the zone holds are passed: they lie deeper still.
-// A zone that has ended is passed too, so that the next one is looked at.
+// out. Where many are left, and the next zone holds this one and the one after it, all that the zone holds are passed:
+// they lie deeper still. A zone that has ended, or holds no more than this one, makes way for the zone after it.
 fn past_inner(ancestors: &[u32], zone: usize, descendants: &[u32], k: usize, to: usize) -> Passed
     requires { ⌜ (checkTwo (now ancestors) (now descendants) .answer ≡ TAKEN) × Placed (now ancestors) zone
         × Placed (now descendants) k × (k < length (now descendants)) × Placed (now descendants) to ⌝ }
@@ -161,13 +161,14 @@ fn past_inner(ancestors: &[u32], zone: usize, descendants: &[u32], k: usize, to:
             next: next,
         };
     }
-    if !is_after(node_from(descendants, k), node_from(ancestors, zone)) {
+    let inner = node_from(ancestors, zone);
+    if !is_after(node_from(descendants, k), inner) {
         return Passed {
             zone: zone,
             next: next,
         };
     }
-    if !is_open(node_from(descendants, k), node_from(ancestors, zone)) {
+    if !is_running(descendants, next, inner) {
         return Passed {
             zone: zone + NODE_WORDS,
             next: next,
@@ -175,7 +176,7 @@ fn past_inner(ancestors: &[u32], zone: usize, descendants: &[u32], k: usize, to:
     }
     Passed {
         zone: zone + NODE_WORDS,
-        next: past_held(descendants, next, node_from(ancestors, zone), to),
+        next: past_held(descendants, next + NODE_WORDS, inner, to),
     }
 }
 
