@@ -11,6 +11,9 @@ const DOCUMENTS: [u32; 6] = [0, 5, 5 + (1 << 16), 5 + (1 << 24), 5 + (1 << 31), 
 /// A size of documents of which every answer comes often.
 const SMALL: usize = 12;
 
+/// A size of documents in which zones hold more samples than a search passes in one stride.
+const LARGE: usize = 80;
+
 /// Fewer than this many nodes of one document that are nested or apart, with positions from 0 on. Levels may jump.
 fn shape(random: &mut Random, size: usize) -> Vec<Node> {
     let mut nodes: Vec<Node> = Vec::with_capacity(size);
@@ -97,12 +100,12 @@ fn deep_family(random: &mut Random) -> Vec<Node> {
     nodes
 }
 
-/// Mostly a small family, now and then a deep one.
+/// Mostly a small family, now and then a large or a deep one.
 pub fn any_family(random: &mut Random) -> Vec<Node> {
-    if random.one_in(200) {
-        deep_family(random)
-    } else {
-        family(random, SMALL)
+    match random.below(200) {
+        0 => deep_family(random),
+        1..=8 => family(random, LARGE),
+        _ => family(random, SMALL),
     }
 }
 
