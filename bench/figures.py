@@ -55,13 +55,19 @@ def counted(program, *words):
     return run_counted(program, *words)[0]
 
 
+@lru_cache(maxsize=None)
+def printing_nothing():
+    """The instructions of the printing program on a book of two empty lists: those of starting and
+    ending a process and of clearing the program's buffers."""
+    return run_counted("belfry", given=EMPTY_BOOK)[0]
+
+
 def printing(shape, nodes):
-    """The instructions of the printing program on the book of a shape, less those on a book of two
-    empty lists, which are those of starting and ending a process."""
+    """The instructions of the printing program on the book of a shape, from its start to its end."""
     taken, printed = run_counted("belfry", given=run("driver", "book", shape, nodes, text=False))
     if not printed.endswith(b"\npairs %d\n" % sizes(shape, nodes)["inside"]):
         raise SystemExit(f"the program printed something else of {shape}: {printed[-40:]}")
-    return taken - run_counted("belfry", given=EMPTY_BOOK)[0]
+    return taken
 
 
 @lru_cache(maxsize=None)

@@ -11,7 +11,7 @@ from pathlib import Path
 
 import join
 from figures import (ALL_SHAPES, CODES, EMULATOR, MADE, MOST_NODES, PRINTED_NODES, SHAPES, counted,
-                     emulated, instructions, run, sizes, units)
+                     emulated, instructions, printing_nothing, run, sizes, units)
 
 CASES = 100_000
 WIDTH = 100
@@ -346,8 +346,9 @@ def printed_row(shape):
     size = sizes(shape, PRINTED_NODES)
     nodes, pairs = size["zones"] + size["samples"], size["inside"]
     total = instructions("archive", "print", shape)
-    one = f"{total / pairs:,.1f}" if has_many(pairs, nodes) else ""
-    return shape, f"{nodes:,}", f"{pairs:,}", f"{total:,}", one
+    beyond = total - printing_nothing()
+    one = f"{beyond / pairs:,.1f}" if has_many(pairs, nodes) else ""
+    return shape, f"{nodes:,}", f"{pairs:,}", f"{total:,}", f"{beyond:,}", one
 
 
 def print_printing():
@@ -355,10 +356,13 @@ def print_printing():
     print("\n## The printing program")
     say("The program as a process. It reads a book, checks it and prints the pairs inside in "
         f"descendant order. The book is that of a shape with at most {PRINTED_NODES:,} nodes in "
-        "each list, which is as much as the program takes. Taken off are the instructions on a "
-        "book of two empty lists: those of starting and ending a process. A few are the C "
-        "library's, which may take others on another processor.")
-    table(("shape", "nodes", "pairs printed", "instructions", "a pair"),
+        "each list, which is as much as the program takes. A book of two empty lists takes "
+        f"{printing_nothing():,} instructions: those of starting and ending a process and of "
+        "clearing the program's buffers"
+        f"{', an instruction for each byte as the emulator counts' if EMULATOR else ''}. The last "
+        "two columns show what a shape takes beyond that. A few instructions are the C library's, "
+        "which may take others on another processor.")
+    table(("shape", "nodes", "pairs printed", "process", "beyond an empty book", "a pair"),
           [printed_row(shape) for shape in ALL_SHAPES])
 
 

@@ -299,8 +299,8 @@ CASES = {
     "same-node-in-both": book((2, Z), (3, [Z[1], S[0]])),
     "other-document": book((2, Z), (3, [(6, 4, 6, 4)])),
     "greatest-numbers": book((2, [(4294967295, 4294967290, 4294967295, 1)]), (3, [(4294967295, 4294967294, 4294967294, 2)])),
-    "page-full": book((2, nest(32)), (3, points(256))),
-    "page-and-one": book((2, nest(3)), (3, points(2731))),
+    "page-full": book((2, nest(32)), (3, points(128))),
+    "page-and-one": book((2, nest(17)), (3, points(241))),
 }
 
 

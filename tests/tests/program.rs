@@ -94,11 +94,11 @@ fn the_books_of_the_examples() {
     hold(b"");
 }
 
-/// A page has 8,192 pairs. The books have two pairs fewer, one page, one pair more, two pages, one
-/// pair more, and 28 pages.
+/// A page has 4,096 pairs. The books have one pair fewer, one page, one pair more, two pages, one
+/// pair more, and 55 pages.
 #[test]
 fn books_of_many_pages() {
-    for (zones, samples) in [(63, 130), (32, 256), (3, 2_731), (32, 512), (5, 3_277), (60, 3_700)] {
+    for (zones, samples) in [(63, 65), (32, 128), (17, 241), (32, 256), (3, 2_731), (60, 3_700)] {
         let book = bytes(&[(2, nest(zones)), (3, texts(samples))]);
         assert_eq!(joined(&book).map(|pairs| pairs.len()), Ok(zones * samples));
         hold(&book);

@@ -23,7 +23,7 @@ MOST-BYTES = 61440
 
 -- how many pairs are printed at a time
 abbrev pub PAGE-PAIRS : ℕ
-PAGE-PAIRS = 8192
+PAGE-PAIRS = 4096
 
 -- the words of the list at a place of a book
 unfoldable pub listAt : List ℕ → ℕ → List ℕ
