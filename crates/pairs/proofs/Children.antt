@@ -1,14 +1,15 @@
--- Directly inside an ancestor lies what is in its run and one level deeper; what a zone after it holds lies deeper still, so it is passed unseen.
--- A child passed over with an inner zone, or a grandchild taken for a child, would fall here.
+-- Directly inside an ancestor lies what is in its run and one level deeper; what a zone after it
+-- holds lies deeper still, so it is passed unseen. A child passed over with an inner zone, or a
+-- grandchild taken for a child, would fall here.
 use mathlib.Core.Path.{_≡_, refl, ap, sym, subst, _∙_}
 use mathlib.Core.Logic.{_⊎_, inl, inr, ⊎-elim}
-use mathlib.Core.Bool.{Bool, true, false}
+use mathlib.Core.Bool.{true, false}
 use mathlib.Core.List.{List, [], _∷_, _++_, map-append}
-use Prim.Native.Nat.{ℕ, zero, suc, _+_, _-_, _/_, _%_, _≤_, _<_}
+use Prim.Native.Nat.{ℕ, zero, suc, _+_, _-_, _/_, _≤_, _<_}
 use native.Mathlib.Omega.{arith}
-use lib.Dec.{ltb, eqb}
+use lib.Dec.{ltb}
 use lib.ListN.{length, drop}
-use borrow.Author.Tests.{eq-eqb, ltb-true, ltb-false}
+use borrow.Author.Tests.{ltb-true, ltb-false}
 use Rattle.nodes.specs.declared.node.Node.{Node}
 use Rattle.nodes.specs.Answer.{TAKEN}
 use Rattle.nodes.specs.Choose.{All, Pairs, keep}
@@ -18,7 +19,6 @@ use Rattle.nodes.proofs.Choices.{all-map, keep-failed, all-at, pairs-at}
 use Rattle.nodes.proofs.NodeLaws.{within, directly-inside, directly-make, inside-after, after-trans}
 use Rattle.nodes.proofs.Tests.{either, not-so}
 use Rattle.nodes.proofs.WordLaws.{length-nodes, nodes-from, nodes-behind}
-use Rattle.lists.specs.Check.{checkWords}
 use Rattle.lists.specs.Two.{oddsb, checkTwo}
 use Rattle.lists.proofs.Faults.{Sound}
 use Rattle.lists.proofs.Merging.{even-fine}
@@ -34,7 +34,7 @@ use Rattle.pairs.proofs.Running.{pairs-drop, running-from, end-from, in
 use Rattle.pairs.proofs.Stretches.{stretch-next, stretch-none}
 
 -- what holds of all nodes of words, or of all pairs of them, holds at each index
-pub node-all : (ws : List ℕ) (P : Node → Type 0) (i : ℕ) → i < count ws → All P (nodes ws) → P (nodeAt ws i)
+node-all : (ws : List ℕ) (P : Node → Type 0) (i : ℕ) → i < count ws → All P (nodes ws) → P (nodeAt ws i)
 unfolding nodeAt
 node-all ws P i l h = all-at P (nodes ws) i (node 0 0 0 0) (omega (arith, length-nodes ws)) h
 
@@ -56,12 +56,12 @@ module _ (ws : List ℕ) (a : Node) where
         | inr t ↦ let h : count ws ≤ k = ltb-false _ _ t in rw (nodes-behind ws k h, nodes-behind ws r (omega arith)) refl
       ]
 
-  pub none-passed : (k r : ℕ) → k ≤ r → ((j : ℕ) → k ≤ j → j < r → directlyb (nodeAt ws j) a ≡ false)
+  none-passed : (k r : ℕ) → k ≤ r → ((j : ℕ) → k ≤ j → j < r → directlyb (nodeAt ws j) a ≡ false)
       → matches Directly Ancestor a (drop k (nodes ws)) ≡ matches Directly Ancestor a (drop r (nodes ws))
   none-passed k r h f = none-from (r - k) k r (omega arith) f
 
   -- a descendant of the run that is one level deeper comes first of what is left
-  pub child-next : (k m : ℕ) (d : Node) → Running ws a k → k < count ws → k < runEnd ws a k → d ≡ nodeAt ws k → d .level ≡ a .level + 1 → m ≡ k + 1
+  child-next : (k m : ℕ) (d : Node) → Running ws a k → k < count ws → k < runEnd ws a k → d ≡ nodeAt ws k → d .level ≡ a .level + 1 → m ≡ k + 1
       → matches Directly Ancestor a (drop k (nodes ws)) ≡ (nodeAt ws k ∷ []) ++ matches Directly Ancestor a (drop m (nodes ws))
   unfolding matches relatedb pairOf keep
   child-next k m d r l h q e s =
@@ -69,7 +69,7 @@ module _ (ws : List ℕ) (a : Node) where
       rw (nodes-from ws k l, t, s) refl
 
   -- one that isn't is no child
-  pub not-deeper : (d : Node) → (d .level ≡ a .level + 1 → ⊥) → directlyb d a ≡ false
+  not-deeper : (d : Node) → (d .level ≡ a .level + 1 → ⊥) → directlyb d a ≡ false
   not-deeper d n = not-so (λ h. n (directly-inside d a h .1))
 
   -- so its row comes first, in words
@@ -98,7 +98,7 @@ module _ (as′ ws : List ℕ) (taken : checkTwo as′ ws .answer ≡ TAKEN) whe
   even-at z l = node-all as′ (λ x. All (λ d. oddsb x d ≡ false) (nodes ws)) z l (accepted as′ ws taken .even)
 
   -- from a descendant that stands after a zone on, all do
-  pub zone-running : (z k : ℕ) (x d : Node) → z < count as′ → k < count ws → x ≡ nodeAt as′ z → d ≡ nodeAt ws k → afterb d x ≡ true → Running ws x k
+  zone-running : (z k : ℕ) (x d : Node) → z < count as′ → k < count ws → x ≡ nodeAt as′ z → d ≡ nodeAt ws k → afterb d x ≡ true → Running ws x k
   zone-running z k x d l m p q h =
       let t = two-taken-iff as′ ws .0 taken .1 in
       let w = words-taken-iff ws .0 t in
@@ -114,7 +114,7 @@ module _ (as′ ws : List ℕ) (taken : checkTwo as′ ws .answer ≡ TAKEN) whe
       }
 
   -- what lies inside a later zone lies too deep to be a child
-  pub no-child : (i z j : ℕ) → i < z → z < count as′ → j < count ws → insideb (nodeAt ws j) (nodeAt as′ z) ≡ true
+  no-child : (i z j : ℕ) → i < z → z < count as′ → j < count ws → insideb (nodeAt ws j) (nodeAt as′ z) ≡ true
       → directlyb (nodeAt ws j) (nodeAt as′ i) ≡ false
   no-child i z j l m n h =
       not-so (λ c.

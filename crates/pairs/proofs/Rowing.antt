@@ -1,12 +1,12 @@
--- The pairs of a leader that have the relation are its row with the followers that match, and the starts of these rise.
--- A follower that matches and is left out, or two that come in the wrong order, would fall here.
+-- The pairs of a leader that have the relation are its row with the followers that match, and the
+-- starts of these rise. A follower that matches and is left out, or two that come in the wrong
+-- order, would fall here.
 use mathlib.Core.Path.{_≡_, refl, ap, sym, _∙_}
 use mathlib.Core.Logic.{inl, inr}
 use mathlib.Core.Bool.{Bool}
 use mathlib.Core.List.{List, [], _∷_, _++_}
-use Prim.Native.Nat.{ℕ, _*_, _-_, _≤_, _<_}
-use native.Mathlib.Omega.{arith}
-use lib.ListN.{take, drop}
+use Prim.Native.Nat.{ℕ, _≤_, _<_}
+use lib.ListN.{drop}
 use Rattle.nodes.specs.declared.node.Node.{Node}
 use Rattle.nodes.specs.Choose.{All, Pairs, keep}
 use Rattle.nodes.specs.Words.{nodes, count}
@@ -47,7 +47,8 @@ module _ (relation : Relation) (order : Order) (x : Node) where
       rising x (keep test ys) (keep-pairs Fine test ys f)
       (all-map (λ y h. sym (row-document relation order x y h)) (keep test ys) (keep-past test ys))
 
-  -- what remains of a leader and those behind it: its row with what matches, and what remains of the others
+  -- what remains of a leader and those behind it: its row with what matches, and what remains of
+  -- the others
   pub rest-row : (place : Place) (xs ys : List Node)
       → rest-of relation order place (x ∷ xs) ys
       ≡ remains (sortKey order) (spotOf place) (row order x (matches relation order x ys)) ++ rest-of relation order place xs ys
@@ -55,7 +56,8 @@ module _ (relation : Relation) (order : Order) (x : Node) where
       rest-next relation order place x xs ys
       ∙ ap (λ ps. remains (sortKey order) (spotOf place) ps ++ rest-of relation order place xs ys) (row-kept ys)
 
--- in either order a sweep starts at the first leader that may have pairs past the place, and nothing of the listing is lost
+-- in either order a sweep starts at the first leader that may have pairs past the place, and
+-- nothing of the listing is lost
 pub sweep-start : (relation : Relation) (order : Order) (place : Place) (as′ ds : List Node) (i : ℕ) → i ≡ servedIn place (leaders order as′ ds)
     → rest-of relation order place (drop i (leaders order as′ ds)) (followers order as′ ds)
     ≡ remains (sortKey order) (spotOf place) (listing relation order as′ ds)

@@ -1,10 +1,11 @@
--- The descendants inside an ancestor are a run: they begin with the first that stands after it and end with the first at which it isn't open.
--- A run that began late or ended early would leave out a pair, and one that went on would take a node outside; either would fall here.
+-- The descendants inside an ancestor are a run: they begin with the first that stands after it and
+-- end with the first at which it isn't open. A run that began late or ended early would leave out a
+-- pair, and one that went on would take a node outside; either would fall here.
 use mathlib.Core.Path.{_≡_, refl, ap, sym, subst, _∙_}
 use mathlib.Core.Logic.{_⊎_, inl, inr, ⊎-elim}
-use mathlib.Core.Bool.{Bool, true, false, not, _&&_}
+use mathlib.Core.Bool.{Bool, true, false, not}
 use mathlib.Core.List.{List, [], _∷_, _++_}
-use Prim.Native.Nat.{ℕ, zero, suc, _+_, _-_, _*_, _/_, _%_, _≤_, _<_}
+use Prim.Native.Nat.{ℕ, zero, suc, _+_, _-_, _/_, _%_, _≤_, _<_}
 use native.Mathlib.Nat.{not-suc-le-zero}
 use native.Mathlib.Omega.{arith}
 use lib.Dec.{ltb}
@@ -33,7 +34,7 @@ use Rattle.pairs.specs.Sweep.{Running, Further, runningb, runEnd, stretc
 
 module _ {A : Type 0} where
   -- what holds of all, or of all pairs, holds from an index on
-  pub all-drop : (P : A → Type 0) (k : ℕ) (xs : List A) → All P xs → All P (drop k xs)
+  all-drop : (P : A → Type 0) (k : ℕ) (xs : List A) → All P xs → All P (drop k xs)
   all-drop P zero xs h = h
   all-drop P (suc k) [] h = tt
   all-drop P (suc k) (x ∷ xs) h = all-drop P k xs (h .1)
@@ -54,7 +55,7 @@ module _ (a : Node) where
   run-next d zs r = record { sound = r .sound .1; fine = r .fine .1; pairs = r .pairs .1 }
 
   -- a later node at which the ancestor is open lies inside it
-  pub open-inside : (d : Node) → Sound d → Fine a d → openb d a ≡ true → insideb d a ≡ true
+  open-inside : (d : Node) → Sound d → Fine a d → openb d a ≡ true → insideb d a ≡ true
   open-inside d s f o =
       let p = open-read d a o in
       ⊎-elim (λ q. absurd (omega (arith, p))) (λ q. nested-read d a q .0) (fine-settles d a (s .span) f (p .document))
@@ -98,7 +99,7 @@ module _ (a : Node) where
       match-none relation zs (all-both (λ z s p. not-so (λ h. never (inside-open z a (s .span) h) p)) zs t o)
 
   -- all nodes of the run lie inside
-  pub run-inside : (zs : List Node) → Run a zs → matches Inside Ancestor a zs ≡ take (firstAt (λ d. not (openb d a)) zs) zs
+  run-inside : (zs : List Node) → Run a zs → matches Inside Ancestor a zs ≡ take (firstAt (λ d. not (openb d a)) zs) zs
   unfolding matches relatedb pairOf keep firstAt
   run-inside [] r = refl
   run-inside (d ∷ zs) r =
@@ -171,7 +172,7 @@ module _ (ws : List ℕ) (a : Node) where
   unfolding runningb
   running-node k d b h q e = rw (lt-ltb _ _ h, ← q) e
 
-  pub running-read : (k : ℕ) → runningb ws a k ≡ true → (k < count ws) × (openb (nodeAt ws k) a ≡ true)
+  running-read : (k : ℕ) → runningb ws a k ≡ true → (k < count ws) × (openb (nodeAt ws k) a ≡ true)
   unfolding runningb
   running-read k h = let p = and-read (ltb k (count ws)) h in (ltb-true _ _ (p .0), p .1)
 
@@ -184,8 +185,9 @@ module _ (ws : List ℕ) (a : Node) where
       ends (inl t) = rw (nodes-from ws k (ltb-true _ _ t), rw t at h) refl
       ends (inr t) = rw (nodes-behind ws k (ltb-false _ _ t)) refl
 
-  -- after a descendant at which it is open, from some index on, the search for the run's end finds the same
-  pub further-to : (k n : ℕ) → k ≤ n → Running ws a k → runningb ws a n ≡ true → Running ws a (n + 1) × (runEnd ws a (n + 1) ≡ runEnd ws a k)
+  -- after a descendant at which it is open, from some index on, the search for the run's end finds
+  -- the same
+  further-to : (k n : ℕ) → k ≤ n → Running ws a k → runningb ws a n ≡ true → Running ws a (n + 1) × (runEnd ws a (n + 1) ≡ runEnd ws a k)
   unfolding nodeAt
   further-to k n h r o =
       let p = running-read n o in

@@ -1,5 +1,6 @@
--- A row is served follower by follower: one that fits is stored, one that doesn't ends it, and so does the last.
--- A pair stored one off, a follower skipped or a count of what fits that is one off falls here.
+-- A row is served follower by follower: one that fits is stored, one that doesn't ends it, and so
+-- does the last. A pair stored one off, a follower skipped or a count of what fits that is one off
+-- falls here.
 use Prim.Native.Nat.{ℕ, zero, suc, _+_, _-_, _*_, _/_, _%_, _≤_, _<_, zero-le}
 use mathlib.Core.Path.{_≡_, refl, sym, ap, subst, _∙_}
 use mathlib.Core.Bool.{Bool, true, false}
@@ -7,13 +8,13 @@ use mathlib.Core.List.{List, [], _∷_, _++_, map-append}
 use mathlib.Core.Logic.{_⊎_, inl, inr}
 use native.Mathlib.Nat.{not-suc-le-zero, sub-zero, zero-sub}
 use native.Mathlib.Omega.{arith}
-use lib.Dec.{eqb, leb, ltb}
+use lib.Dec.{eqb, ltb}
 use lib.ListN.{length, take, drop, length-take, length-drop, take-append-drop, drop-of-length-le}
 use lib.Seq.{length-take-le, take-nil, drop-drop}
 use borrow.Author.Tests.{eq-eqb, ne-eqb, ltb-true, ltb-false, le-leb, lt-leb}
 use Rattle.nodes.specs.declared.node.Node.{Node}
 use Rattle.nodes.specs.Choose.{firstAt}
-use Rattle.nodes.specs.Words.{NODE-WORDS, nodes, count, nodeAt}
+use Rattle.nodes.specs.Words.{nodes, count, nodeAt}
 use Rattle.nodes.proofs.Tests.{either}
 use Rattle.nodes.proofs.WordLaws.{length-nodes, nodes-from, nodes-behind, nodes-drop, nodes-take}
 use Rattle.paging.specs.Serve.{serve, store}
@@ -115,7 +116,7 @@ module _ (order : Order) (x : Node) where
     left : length (drop fit (take wanted zs)) ≡ wanted - fit
     left = length-drop fit (take wanted zs) ∙ ap (λ n. n - fit) (length-take-le wanted zs w)
 
-    pub counted : (room out - written ≤ fit) ⊎ (wanted ≤ fit)
+    counted : (room out - written ≤ fit) ⊎ (wanted ≤ fit)
         → _≡_ {A = List ℕ × ℕ × Bool} (us, written + fit, eqb fit wanted) (servedRow order out written x (take wanted zs))
     counted g = last g (either (ltb fit wanted)) ∙ sym served-first
       where
@@ -164,7 +165,8 @@ unfolding firstAt
 first-zero [] = refl
 first-zero (n ∷ ns) = rw (le-leb 0 (n .start) zero-le) refl
 
--- a search along a stretch for a start ends at a node that has it, goes on after one that hasn't, and ends with the stretch
+-- a search along a stretch for a start ends at a node that has it, goes on after one that hasn't,
+-- and ends with the stretch
 module _ (ws : List ℕ) (k to start answer : ℕ) (p : Placed ws k) (q : Placed ws to) (s : firstAt (startsFrom start) (stretch ws k to) + k / 4 ≡ answer) where
   pub start-found : (n : Node) → k < to → n ≡ nodeAt ws (k / 4) → start ≤ n .start → k / 4 ≡ answer
   unfolding firstAt

@@ -7,7 +7,6 @@ use mathlib.Core.List.{List, [], _∷_, reverse}
 use Prim.Native.Nat.{ℕ, _+_, _-_, _/_, _%_, _≤_, _<_}
 use native.Mathlib.Nat.{sub-zero, le-refl}
 use native.Mathlib.Omega.{arith}
-use lib.ListN.{take, drop}
 use Rattle.nodes.specs.declared.node.Node.{Node}
 use Rattle.nodes.specs.Choose.{firstAt, keep}
 use Rattle.nodes.specs.Node.{deeperb}
@@ -24,7 +23,7 @@ use Rattle.pairs.proofs.Matching.{firsts-turned, inside-all, directly-t
 use Rattle.pairs.proofs.Stretches.{stretch-ahead}
 
 -- from r on up to the top lies what matches
-abbrev pub Stretch : Relation → Node → List ℕ → ℕ → ℕ → Type 0
+abbrev Stretch : Relation → Node → List ℕ → ℕ → ℕ → Type 0
 Stretch relation d ws used r =
     (r % 4 ≡ 0) × (r ≤ used) × (reverse (matches relation Descendant d (opened used ws)) ≡ stretch ws r used)
 

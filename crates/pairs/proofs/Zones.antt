@@ -1,5 +1,6 @@
--- A sweep along the ancestors hands out each one's run past the place, and where the runs begin only moves on.
--- A descendant passed before an ancestor that contains it, or a follower handed out before the place, would fall here.
+-- A sweep along the ancestors hands out each one's run past the place, and where the runs begin
+-- only moves on. A descendant passed before an ancestor that contains it, or a follower handed out
+-- before the place, would fall here.
 use mathlib.Core.Path.{_≡_, refl, ap, sym, subst, _∙_}
 use mathlib.Core.Logic.{inl, inr}
 use mathlib.Core.Bool.{Bool, true, false, not}
@@ -14,7 +15,7 @@ use Rattle.nodes.specs.declared.node.Node.{Node}
 use Rattle.nodes.specs.Answer.{TAKEN}
 use Rattle.nodes.specs.Choose.{All, Pairs, keep, firstAt}
 use Rattle.nodes.specs.Node.{afterb, openb}
-use Rattle.nodes.specs.Words.{node, nodes, count, nodeAt}
+use Rattle.nodes.specs.Words.{nodes, count, nodeAt}
 use Rattle.nodes.proofs.Choices.{all-map, take-all-of, keep-all-of}
 use Rattle.nodes.proofs.NodeLaws.{after-trans, open-read}
 use Rattle.nodes.proofs.Tests.{either, not-none}
@@ -85,7 +86,8 @@ module _ (ws : List ℕ) (a : Node) where
       (rising a (take (firstAt (λ d. not (openb d a)) zs) zs) (pairs-take Fine (firstAt (λ d. not (openb d a)) zs) zs (running-run ws a (from / 4) r .pairs))
       (all-map (λ z o. open-read z a (not-none _ o) .document) (take (firstAt (λ d. not (openb d a)) zs) zs) (first-failed (λ d. not (openb d a)) zs)))
 
-  -- from the first descendant of the run that starts late enough on lies what is left of what matches
+  -- from the first descendant of the run that starts late enough on lies what is left of what
+  -- matches
   run-ahead : (relation : Relation) (from to ahead past : ℕ) → Running ws a (from / 4) → to / 4 ≡ runEnd ws a (from / 4)
       → Running ws a (ahead / 4) → to / 4 ≡ runEnd ws a (ahead / 4) → ahead / 4 ≡ firstAt (startsFrom past) (stretch ws from to) + from / 4
       → matches relation Ancestor a (drop (ahead / 4) (nodes ws)) ≡ fromStart past (matches relation Ancestor a (drop (from / 4) (nodes ws)))
@@ -103,7 +105,8 @@ module _ (ws : List ℕ) (a : Node) where
       let e = run-stops ws a (from / 4) (ap (λ z. runningb ws z (from / 4)) (sym q) ∙ sym o ∙ n) in
       rw (none-match ws a relation (from / 4) (from / 4) r (omega (arith, e))) (drop-nil {A = Node} (firstAt (startsFrom past) []))
 
-  -- the run of an ancestor that is open there, and what is left of it from the first that starts late enough on
+  -- the run of an ancestor that is open there, and what is left of it from the first that starts
+  -- late enough on
   module _ (from to ahead past : ℕ) (x : Node) (p : Placed ws from) (r : Running ws a (from / 4)) (q : x ≡ a) (m : to % 4 ≡ 0)
       (e : to / 4 ≡ runEnd ws x (from / 4)) where
     end-at : to / 4 ≡ runEnd ws a (from / 4)

@@ -1,4 +1,5 @@
--- Words of the contracts of private functions: what a sweep along the lists keeps. No public contract cites this file.
+-- Words of the contracts of private functions: what a sweep along the lists keeps. No public
+-- contract cites this file.
 use Prim.Native.Nat.{ℕ, _+_, _*_, _-_, _/_, _%_, _≤_}
 use mathlib.Core.Path.{_≡_}
 use mathlib.Core.Logic.{_⊎_}
@@ -33,15 +34,16 @@ Placed words at = (length words % NODE-WORDS ≡ 0) × (at % NODE-WORDS ≡ 0) �
 abbrev pub stretch : List ℕ → ℕ → ℕ → List Node
 stretch words from to = take (to / NODE-WORDS - from / NODE-WORDS) (drop (from / NODE-WORDS) (nodes words))
 
--- a node starts at a start or later
+-- a node starts at `start` or later
 abbrev pub startsFrom : ℕ → Node → Bool
 startsFrom start n = leb start (n .start)
 
--- what is left of some nodes from the first on that starts at a start or later
+-- the nodes from the first on that starts at `start` or later
 unfoldable pub fromStart : ℕ → List Node → List Node
 fromStart start ns = drop (firstAt (startsFrom start) ns) ns
 
--- the output, the count and whether all found room, once a leader's pairs with some followers are served from a count on
+-- the output, the count and whether all found room, once a leader's pairs with some followers are
+-- served from a count on
 abbrev pub servedRow : Order → List ℕ → ℕ → Node → List Node → List ℕ × ℕ × Bool
 servedRow order out written leader ns = serve pairWords PAIR-WORDS out written (row order leader ns)
 
@@ -54,13 +56,15 @@ servedAll relation order place out ancestors descendants =
 abbrev pub From : Node → Node → Type 0
 From d n = (n ≡ d) ⊎ (afterb n d ≡ true)
 
--- a row of ancestors, the innermost first, stands for all the ancestors before at every node from d on
+-- a row of ancestors, the innermost first, stands for all the ancestors before at every node from d
+-- on
 pub record Open (d : Node) (before s : List Node) : Type 0 where
   pub stands : Stands (From d) before s
   pub among : All (λ e. In e before) s
   pub behind : All (λ e. afterb d e ≡ true) before
 
--- the ancestors up to a place are passed, and in the words in use of a stack lie those that stand for them
+-- the ancestors up to a place are passed, and in the words in use of a stack lie those that stand
+-- for them
 pub record Opening (ancestors : List ℕ) (d : Node) (used passed : ℕ) (stack : List ℕ) : Type 0 where
   pub used-in : Fits used
   pub passed-in : Placed ancestors passed
@@ -82,7 +86,8 @@ runningb descendants a k = ltb k (count descendants) && openb (nodeAt descendant
 abbrev pub runEnd : List ℕ → Node → ℕ → ℕ
 runEnd descendants a from = firstAt (λ d. not (openb d a)) (drop from (nodes descendants)) + from
 
--- up to a later place the ancestor is open at every descendant, so that from there on its run ends where it does from here on
+-- up to a later place the ancestor is open at every descendant, so that from there on its run ends
+-- where it does from here on
 abbrev pub Further : List ℕ → Node → ℕ → ℕ → Type 0
 Further descendants a from to =
     (to % NODE-WORDS ≡ 0) × (from ≤ to) × Running descendants a (to / NODE-WORDS)

@@ -1,8 +1,9 @@
-// The listing in ancestor order: each ancestor in turn with the run of descendants that start in it.
+// The listing in ancestor order: each ancestor in turn with the run of descendants that start in
+// it.
 use crate::rows::Handed;
 use crate::rows::first_from;
-use crate::rows::hand_descendants;
 use crate::rows::node_from;
+use crate::rows::pair_with_descendants;
 use nodes::node::NODE_WORDS;
 use nodes::node::Node;
 use nodes::node::is_after;
@@ -28,19 +29,20 @@ ghost use Rattle.pairs.specs.Sweep.{Placed, Running, Further, runningb, 
 // How many words further on the search for the end of a run looks: eight descendants.
 const STRIDE: usize = 8 * NODE_WORDS;
 
-// The run of an ancestor was handed out, as far as it found room, and ended at a place.
+// What was handed out of an ancestor's run, and a guess of where the next run ends.
 struct Turn {
     handed: Handed,
-    end: usize,
+    guess: usize,
 }
 
-// The zone to look at next, and the next descendant.
+// The words of the zone and of the descendant to look at next.
 struct Passed {
     zone: usize,
     next: usize,
 }
 
-// Returns the place of the first descendant, from a place on, that stands after the ancestor.
+// Returns the word of the first descendant, from the word `from` on, that stands after the
+// ancestor, or the list's end.
 fn first_after(descendants: &[u32], from: usize, ancestor: Node) -> usize
     requires { ⌜ Placed (now descendants) from ⌝ }
     ensures { λ r. ⌜ (r % NODE-WORDS ≡ 0) × (r / NODE-WORDS
@@ -56,7 +58,7 @@ fn first_after(descendants: &[u32], from: usize, ancestor: Node) -> usize
     k
 }
 
-// Returns whether there is a descendant at a place and the ancestor is open at it.
+// Returns whether there is a descendant at the word `k` and the ancestor is open at it.
 fn is_running(descendants: &[u32], k: usize, ancestor: Node) -> bool
     requires { ⌜ (length (now descendants) % NODE-WORDS ≡ 0) × (k % NODE-WORDS ≡ 0) ⌝ }
     ensures { λ r. ⌜ r ≡ runningb (now (descendants .entry)) ancestor (k / NODE-WORDS) ⌝ }
@@ -67,8 +69,9 @@ fn is_running(descendants: &[u32], k: usize, ancestor: Node) -> bool
     is_open(node_from(descendants, k), ancestor)
 }
 
-// Returns a place up to which the run goes on from another, as far as a guess of its end tells. The descendants ascend,
-// so where the ancestor is open at one, it is open at all before it.
+// Returns a word up to which the ancestor stays open: `guess`, the node before it, or `from` where
+// neither is confirmed. The descendants ascend, so an ancestor that is open at one is open at all
+// between.
 fn past_guess(descendants: &[u32], from: usize, ancestor: Node, guess: usize) -> usize
     requires { ⌜ (from % NODE-WORDS ≡ 0) × (guess % NODE-WORDS ≡ 0) × Running (now descendants) ancestor (from / NODE-WORDS) ⌝ }
     ensures { λ r. ⌜ Further (now (descendants .entry)) ancestor from r ⌝ }
@@ -85,7 +88,8 @@ fn past_guess(descendants: &[u32], from: usize, ancestor: Node, guess: usize) ->
     from
 }
 
-// Returns a place up to which the run goes on from another, found by strides.
+// Returns a word up to which the ancestor stays open from the word `from` on, found eight
+// descendants at a time.
 fn past_strides(descendants: &[u32], from: usize, ancestor: Node) -> usize
     requires { ⌜ (from % NODE-WORDS ≡ 0) × Running (now descendants) ancestor (from / NODE-WORDS) ⌝ }
     ensures { λ r. ⌜ Further (now (descendants .entry)) ancestor from r ⌝ }
@@ -97,7 +101,7 @@ fn past_strides(descendants: &[u32], from: usize, ancestor: Node) -> usize
     k
 }
 
-// Returns where the run ends, found one by one from a place on.
+// Returns the end of the run, looking at each descendant from the word `from` on.
 fn past_run(descendants: &[u32], from: usize, ancestor: Node) -> usize
     requires { ⌜ (from % NODE-WORDS ≡ 0) × Running (now descendants) ancestor (from / NODE-WORDS) ⌝ }
     ensures { λ r. ⌜ (r % NODE-WORDS ≡ 0) × (r / NODE-WORDS ≡ runEnd (now (descendants .entry)) ancestor (from / NODE-WORDS)) ⌝ }
@@ -109,8 +113,9 @@ fn past_run(descendants: &[u32], from: usize, ancestor: Node) -> usize
     k
 }
 
-// Returns where the run ends that begins at a place: the first descendant at which the ancestor isn't open. Most runs are
-// of one. Else the end of the run before is a good guess, as zones that nest end their runs together.
+// Returns the end of the run that begins at the word `from`: the word of the first descendant at
+// which the ancestor isn't open. The second descendant is tested first, then `guess`, the end of
+// the run before: nested zones end their runs together.
 fn run_end(descendants: &[u32], from: usize, ancestor: Node, guess: usize) -> usize
     requires { ⌜ (from % NODE-WORDS ≡ 0) × (guess % NODE-WORDS ≡ 0) × Running (now descendants) ancestor (from / NODE-WORDS)
         × (runningb (now descendants) ancestor (from / NODE-WORDS) ≡ true) ⌝ }
@@ -128,8 +133,8 @@ fn run_end(descendants: &[u32], from: usize, ancestor: Node, guess: usize) -> us
     past_run(descendants, far, ancestor)
 }
 
-// Returns a place up to which a zone holds the descendants from another on. Often these are all that are left of the
-// run, or all but one.
+// Returns a word up to which the zone holds the descendants from the word `from` on. The end of the
+// outer run, `to`, is tried first, then strides.
 fn past_held(descendants: &[u32], from: usize, zone: Node, to: usize) -> usize
     requires { ⌜ (from % NODE-WORDS ≡ 0) × (to % NODE-WORDS ≡ 0) × Running (now descendants) zone (from / NODE-WORDS) ⌝ }
     ensures { λ r. ⌜ Further (now (descendants .entry)) zone from r ⌝ }
@@ -138,9 +143,10 @@ fn past_held(descendants: &[u32], from: usize, zone: Node, to: usize) -> usize
     past_strides(descendants, near, zone)
 }
 
-// Returns the next descendant to look at after one that isn't one level deeper than the ancestor whose run is handed
-// out. Where many are left, and the next zone holds this one and the one after it, all that the zone holds are passed:
-// they lie deeper still. A zone that has ended, or holds no more than this one, makes way for the zone after it.
+// Returns what to look at after the descendant at the word `k`, which is no child of the ancestor.
+// If more than eight descendants are left, and the zone holds this one and the next, what it holds
+// is passed, as it lies deeper still. A zone that starts before the descendant gives way to the one
+// after it.
 fn past_inner(ancestors: &[u32], zone: usize, descendants: &[u32], k: usize, to: usize) -> Passed
     requires { ⌜ (checkTwo (now ancestors) (now descendants) .answer ≡ TAKEN) × Placed (now ancestors) zone
         × Placed (now descendants) k × (k < length (now descendants)) × Placed (now descendants) to ⌝ }
@@ -180,8 +186,8 @@ fn past_inner(ancestors: &[u32], zone: usize, descendants: &[u32], k: usize, to:
     }
 }
 
-// Hands out the pairs of the ancestor at a place with those of its run that are one level deeper. All of the run lies
-// inside it, so only levels are compared.
+// Hands out the pairs of the ancestor at the word `i` with its children, those of its run that are
+// one level deeper. All of the run lies inside the ancestor, so only levels are compared.
 fn hand_children(
     out: &mut [u32],
     written: usize,
@@ -209,7 +215,7 @@ fn hand_children(
     let mut k = from;
     while k < to {
         if node_from(descendants, k).level == level {
-            handed = hand_descendants(
+            handed = pair_with_descendants(
                 out,
                 handed.count,
                 ancestors,
@@ -231,7 +237,8 @@ fn hand_children(
     handed
 }
 
-// Hands out the pairs of the ancestor at a place with its run from one place to its end.
+// Hands out the pairs of the ancestor at the word `i` with its run from the word `from` to its end,
+// `to`.
 fn hand_run(
     out: &mut [u32],
     written: usize,
@@ -252,13 +259,21 @@ fn hand_run(
         (drop (from / NODE-WORDS) (nodes (now (descendants .entry))))) ⌝ }
 {
     match relation {
-        Relation::Inside => hand_descendants(out, written, ancestors, i, descendants, from, to),
+        Relation::Inside => pair_with_descendants(
+            out,
+            written,
+            ancestors,
+            i,
+            descendants,
+            from,
+            to,
+        ),
         Relation::Directly => hand_children(out, written, ancestors, i, descendants, from, to),
     }
 }
 
-// Hands out the pairs of the ancestor at a place with those of its run that start at a start or later. Most ancestors
-// that have no run are told by one test.
+// Hands out the pairs of the ancestor at the word `i` with those of its run that start at `past` or
+// later. An ancestor without a run is told by one test.
 fn hand_ancestor(
     out: &mut [u32],
     written: usize,
@@ -273,7 +288,7 @@ fn hand_ancestor(
     requires { ⌜ (checkTwo (now ancestors) (now descendants) .answer ≡ TAKEN) × Placed (now ancestors) i × (i < length (now ancestors))
         × Placed (now descendants) from × (guess % NODE-WORDS ≡ 0)
         × Running (now descendants) (nodeAt (now ancestors) (i / NODE-WORDS)) (from / NODE-WORDS) ⌝ }
-    ensures { λ r. ⌜ (r .end % NODE-WORDS ≡ 0) × ((now (out .exit), r .handed .count, r .handed .done)
+    ensures { λ r. ⌜ (r .guess % NODE-WORDS ≡ 0) × ((now (out .exit), r .handed .count, r .handed .done)
         ≡ servedRow Order.Ancestor (now (out .entry)) written (nodeAt (now (ancestors .entry)) (i / NODE-WORDS))
         (fromStart past (matches relation Order.Ancestor (nodeAt (now (ancestors .entry)) (i / NODE-WORDS))
         (drop (from / NODE-WORDS) (nodes (now (descendants .entry))))))) ⌝ }
@@ -285,7 +300,7 @@ fn hand_ancestor(
                 count: written,
                 done: true,
             },
-            end: guess,
+            guess: guess,
         };
     }
     let end = run_end(descendants, from, ancestor, guess);
@@ -302,12 +317,13 @@ fn hand_ancestor(
     );
     Turn {
         handed: handed,
-        end: end,
+        guess: end,
     }
 }
 
-// Hands out what remains of the listing in ancestor order. The sweep begins at the first ancestor that may have pairs
-// past the place. Where the next ancestor's run begins only moves on, as the ancestors ascend.
+// Hands out what remains of the listing in ancestor order. The sweep begins at the first ancestor
+// that may have pairs past the place. Where the next ancestor's run begins only moves on, as the
+// ancestors ascend.
 pub(crate) fn sweep_ancestors(
     ancestors: &[u32],
     descendants: &[u32],
@@ -326,7 +342,7 @@ pub(crate) fn sweep_ancestors(
         done: true,
     };
     let mut from = 0;
-    let mut end = 0;
+    let mut guess = 0;
     let mut i = NODE_WORDS * first;
     while i < ancestors.len() {
         from = first_after(descendants, from, node_from(ancestors, i));
@@ -339,13 +355,13 @@ pub(crate) fn sweep_ancestors(
             i,
             descendants,
             from,
-            end,
+            guess,
         );
         handed = turn.handed;
         if !handed.done {
             return handed;
         }
-        end = turn.end;
+        guess = turn.guess;
         past = 0;
         i += NODE_WORDS;
     }

@@ -4,8 +4,8 @@ use crate::open::open_before;
 use crate::open::still_open;
 use crate::rows::Handed;
 use crate::rows::first_from;
-use crate::rows::hand_ancestors;
 use crate::rows::node_from;
+use crate::rows::pair_with_ancestors;
 use nodes::node::NODE_WORDS;
 use nodes::node::Node;
 use nodes::node::is_one_deeper;
@@ -26,8 +26,9 @@ ghost use Rattle.lists.specs.Walk.{opened, Chain, Upon, Fits};
 ghost use Rattle.tickets.specs.Row.{matches};
 ghost use Rattle.pairs.specs.Sweep.{Placed, stretch, fromStart, servedRow, servedAll};
 
-// Returns the place on the stack from which on the ancestors have the relation with a descendant that lies inside all of
-// them. Directly inside it can only lie in the innermost, as the levels rise towards it.
+// Returns the word of the stack from which on the ancestors have the relation with a descendant
+// that lies inside all of them. Directly inside it can only lie in the innermost, as the levels
+// rise towards it.
 fn first_match(relation: Relation, stack: &[u32], used: usize, descendant: Node) -> usize
     requires { ⌜ Placed (now stack) used × Chain (opened used (now stack)) × Upon descendant (opened used (now stack)) ⌝ }
     ensures { λ r. ⌜ (r % NODE-WORDS ≡ 0) × (r ≤ used)
@@ -47,8 +48,8 @@ fn first_match(relation: Relation, stack: &[u32], used: usize, descendant: Node)
     }
 }
 
-// Hands out the pairs of the descendant at a place with the ancestors on the stack, all of which contain it, that start
-// at a start or later.
+// Hands out the pairs of the descendant at the word `at` with those ancestors on the stack that
+// start at `past` or later. All on the stack contain it.
 fn hand_descendant(
     out: &mut [u32],
     written: usize,
@@ -68,12 +69,13 @@ fn hand_descendant(
 {
     let from = first_match(relation, stack, used, node_from(descendants, at));
     let ahead = first_from(stack, from, used, past);
-    hand_ancestors(out, written, descendants, at, stack, ahead, used)
+    pair_with_ancestors(out, written, descendants, at, stack, ahead, used)
 }
 
-// Hands out what remains of the listing in descendant order. The sweep begins at the first descendant that may have pairs past the
-// place. Each descendant finds on the stack the ancestors that started before it and have not ended: first those that
-// ended are taken off, then those that started in between and are still open are put on.
+// Hands out what remains of the listing in descendant order. The sweep begins at the first
+// descendant that may have pairs past the place. Each descendant finds on the stack the ancestors
+// that started before it and have not ended: first those that ended are taken off, then those that
+// started in between and are still open are put on.
 pub(crate) fn sweep_descendants(
     ancestors: &[u32],
     descendants: &[u32],

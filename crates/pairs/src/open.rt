@@ -1,5 +1,6 @@
-// The ancestors that are open where a sweep along the descendants stands. They lie on a stack, the innermost on top; each lies inside the
-// one below it and has a higher level, so there are never more of them than levels.
+// The ancestors that are open where a sweep along the descendants stands. They lie on a stack, the
+// innermost on top; each lies inside the one below it and has a higher level, so there are never
+// more of them than levels.
 use crate::rows::node_from;
 use nodes::node::MOST_LEVELS;
 use nodes::node::NODE_WORDS;
@@ -9,7 +10,7 @@ use nodes::node::is_open;
 ghost use mathlib.Core.Path.{_≡_};
 ghost use mathlib.Core.Bool.{true, false, cond};
 ghost use mathlib.Core.List.{_∷_};
-ghost use Prim.Native.Nat.{_/_, _%_, _≤_, _<_};
+ghost use Prim.Native.Nat.{_/_, _≤_, _<_};
 ghost use lib.ListN.{length, drop};
 ghost use Rattle.nodes.specs.Answer.{TAKEN};
 ghost use Rattle.nodes.specs.Choose.{All};
@@ -22,13 +23,14 @@ ghost use Rattle.pairs.specs.Sweep.{Placed, Opening};
 // The stack's words.
 pub(crate) const STACK_WORDS: usize = NODE_WORDS * MOST_LEVELS;
 
-// How far a sweep has come along the ancestors: how many words of the stack are in use, and the place of the next ancestor.
+// How far a sweep has come along the ancestors: how many words of the stack are in use, and the
+// word of the next ancestor.
 pub(crate) struct Opened {
     pub used: usize,
     pub passed: usize,
 }
 
-// Writes the ancestor at a word of the stack.
+// Writes the ancestor at the word `used` of the stack.
 fn put_open(stack: &mut [u32], used: usize, ancestor: Node)
     requires { ⌜ Placed (now stack) used × (used < length (now stack)) ⌝ }
     ensures { λ r. ⌜ now (stack .exit) ≡ putNode (now (stack .entry)) (used / NODE-WORDS) ancestor ⌝ }
@@ -39,8 +41,9 @@ fn put_open(stack: &mut [u32], used: usize, ancestor: Node)
     stack[used + 3] = ancestor.level;
 }
 
-// Returns how many words of the stack are left once the ancestors on top that ended before the node are taken off. What
-// lies under an open one contains it and is open too, so the first open one ends the search.
+// Returns how many words of the stack are left once the ancestors on top that ended before the node
+// are taken off. What lies under an open one contains it and is open too, so the first open one
+// ends the search.
 pub(crate) fn still_open(stack: &[u32; STACK_WORDS], used: usize, node: Node) -> usize
     requires { ⌜ Fits used ⌝ }
     ensures { λ r. ⌜ Fits r × (r ≤ used) × (opened r (now (stack .entry)) ≡ unended node (opened used (now (stack .entry)))) ⌝ }
@@ -55,8 +58,8 @@ pub(crate) fn still_open(stack: &[u32; STACK_WORDS], used: usize, node: Node) ->
     left
 }
 
-// Puts an ancestor onto the stack if it is open at the descendant. All that lie there are open at it too, so the
-// ancestor, which starts after them, lies inside the innermost.
+// Puts an ancestor onto the stack if it is open at the descendant. All that lie there are open at
+// it too, so the ancestor, which starts after them, lies inside the innermost.
 fn open_next(stack: &mut [u32; STACK_WORDS], used: usize, ancestor: Node, descendant: Node) -> usize
     requires { ⌜ Fits used × (ancestor .level ≤ MOST-LEVELS)
         × (openb descendant ancestor ≡ true → Chain (ancestor ∷ opened used (now stack))) ⌝ }
@@ -70,7 +73,8 @@ fn open_next(stack: &mut [u32; STACK_WORDS], used: usize, ancestor: Node, descen
     used + NODE_WORDS
 }
 
-// Puts the ancestors that stand before the descendant and are open at it onto the stack, one after the other.
+// Puts the ancestors that stand before the descendant and are open at it onto the stack, one after
+// the other.
 pub(crate) fn open_before(
     stack: &mut [u32; STACK_WORDS],
     used: usize,

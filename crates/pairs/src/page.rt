@@ -20,8 +20,8 @@ ghost use Rattle.tickets.specs.Ticket.{ticket};
 ghost use Rattle.pairs.specs.Page.{pageOf, outputAfter};
 ghost use Rattle.pairs.specs.Sweep.{keyIn, placeIn, servedAll};
 
-// What a page call answers: the verdict on its two lists, how many pairs it wrote, whether that was all that remained, and the ticket for
-// the next page.
+// What a page call answers: the verdict on its two lists, how many pairs it wrote, whether that was
+// all that remained, and the ticket for the next page.
 pub struct Page {
     pub verdict: Verdict,
     pub count: usize,
@@ -65,7 +65,8 @@ fn key_at(order: Order, out: &[u32], index: usize) -> Key
     }
 }
 
-// The ticket after so many pairs were written: its place is the key of the last of them, or the old place when there was none.
+// The ticket after so many pairs were written: its place is the key of the last of them, or the old
+// place when there was none.
 fn ticket_after(old: Ticket, out: &[u32], count: usize) -> Ticket
     requires { ⌜ count ≤ room (now out) ⌝ }
     ensures { λ r. ⌜ r ≡ ticket (old .relation) (old .order) (placeIn (old .order) (old .place) (nodes (now (out .entry))) count) ⌝ }
@@ -83,8 +84,9 @@ fn ticket_after(old: Ticket, out: &[u32], count: usize) -> Ticket
     }
 }
 
-// The caller gets the next page of a listing: the first pairs past the ticket's place, as many as the output holds, and a ticket for what is
-// left. A call whose lists are refused hands out nothing, returns its ticket and alters no word of the output.
+// The caller gets the next page of a listing: the first pairs past the ticket's place, as many as
+// the output holds, and a ticket for what is left. A call whose lists are refused hands out
+// nothing, returns its ticket and alters no word of the output.
 pub fn next_page(ancestors: &[u32], descendants: &[u32], ticket: Ticket, out: &mut [u32]) -> Page
     ensures { λ r. ⌜ (r ≡ pageOf (now (ancestors .entry)) (now (descendants .entry)) ticket (now (out .entry)))
         × (now (out .exit) ≡ outputAfter (now (ancestors .entry)) (now (descendants .entry)) ticket (now (out .entry))) ⌝ }

@@ -1,5 +1,5 @@
-// The rows of a listing: a leader, which is the node that the order sorts by first, with each of its followers. A place
-// in a list is the word at which a node starts, or the list's end.
+// The rows of a listing: a leader, which is the node that the order sorts by first, with each of
+// its followers. Nodes are found by the word at which they start.
 use nodes::node::NODE_WORDS;
 use nodes::node::Node;
 use nodes::node::node_at;
@@ -18,13 +18,14 @@ ghost use Rattle.tickets.specs.Listing.{pairOf};
 ghost use Rattle.tickets.specs.Row.{PAIR-WORDS, pairWords, room};
 ghost use Rattle.pairs.specs.Sweep.{Placed, stretch, startsFrom, servedRow};
 
-// How far a listing was handed out: the pairs written so far, and whether all that were to be written found room.
+// How far a listing was handed out: the pairs written so far, and whether all that were to be
+// written found room.
 pub(crate) struct Handed {
     pub count: usize,
     pub done: bool,
 }
 
-// Returns the node that starts at a word.
+// Returns the node that starts at the word `at`.
 pub(crate) fn node_from(words: &[u32], at: usize) -> Node
     requires { ⌜ Placed (now words) at × (at < length (now words)) ⌝ }
     ensures { λ r. ⌜ r ≡ nodeAt (now (words .entry)) (at / NODE-WORDS) ⌝ }
@@ -37,7 +38,8 @@ pub(crate) fn node_from(words: &[u32], at: usize) -> Node
     }
 }
 
-// Writes the words of an ancestor and then those of a descendant, as the pair at an index of the output.
+// Writes the words of an ancestor and then those of a descendant, as the pair at an index of the
+// output.
 fn put_nodes(out: &mut [u32], index: usize, ancestor: Node, descendant: Node)
     requires { ⌜ index < room (now out) ⌝ }
     ensures { λ r. ⌜ now (out .exit) ≡ store pairWords PAIR-WORDS (now (out .entry)) index (record { ancestor = ancestor; descendant = descendant }) ⌝ }
@@ -64,7 +66,8 @@ fn put_pair(out: &mut [u32], index: usize, order: Order, leader: Node, follower:
     }
 }
 
-// Writes the pairs of a leader with all followers after those that the output holds already. There is room for them.
+// Writes the pairs of a leader with all followers after those that the output holds already. There
+// is room for them.
 fn put_row(out: &mut [u32], written: usize, order: Order, leader: Node, followers: &[u32])
     requires { ⌜ written + count (now followers) ≤ room (now out) ⌝ }
     ensures { λ r. ⌜ (now (out .exit), written + count (now (followers .entry)), true)
@@ -87,8 +90,8 @@ fn fitting(left: usize, wanted: usize) -> usize
     wanted
 }
 
-// Hands out the pairs of a leader with the followers from one place to another, as many as fit. These are counted
-// first, so that the loop that copies them asks nothing.
+// Hands out the pairs of a leader with the followers from the word `from` to the word `to`, as many
+// as fit. These are counted first, so that the loop that copies them asks nothing.
 fn hand_stretch(
     out: &mut [u32],
     written: usize,
@@ -117,10 +120,11 @@ fn hand_stretch(
     }
 }
 
-// Hands out the pairs of the descendant at a place with the ancestors from one place to another, as many as fit. Many
-// rows are of one pair, so the first is written by itself. For the others the descendant is read again: a node that is
-// held while another is stored would be copied word by word.
-pub(crate) fn hand_ancestors(
+// Hands out the pairs of the descendant at the word `at` with the ancestors from `from` to `to`, as
+// many as fit. Many rows have one pair, so the first is written by itself. For the others the
+// descendant is read again: a node that is held while another is stored would be copied word by
+// word.
+pub(crate) fn pair_with_ancestors(
     out: &mut [u32],
     written: usize,
     descendants: &[u32],
@@ -169,9 +173,10 @@ pub(crate) fn hand_ancestors(
     )
 }
 
-// The same for the ancestor at a place with the descendants from one place to another. One function for both orders
-// would have two callers and be too large to become part of each.
-pub(crate) fn hand_descendants(
+// Hands out the pairs of the ancestor at the word `at` with the descendants from `from` to `to`, in
+// the same way. One function that takes the order was too large to become part of its callers
+// (docs/DECISIONS.md).
+pub(crate) fn pair_with_descendants(
     out: &mut [u32],
     written: usize,
     ancestors: &[u32],
@@ -220,7 +225,8 @@ pub(crate) fn hand_descendants(
     )
 }
 
-// Returns the place of the first follower, from one place up to another, that starts at a start or later.
+// Returns the word of the first follower, from `from` up to `to`, that starts at `start` or later,
+// or `to`.
 pub(crate) fn first_from(followers: &[u32], from: usize, to: usize, start: u64) -> usize
     requires { ⌜ Placed (now followers) from × Placed (now followers) to × (from ≤ to) ⌝ }
     ensures { λ r. ⌜ (r % NODE-WORDS ≡ 0) × (r / NODE-WORDS

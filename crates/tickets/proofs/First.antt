@@ -7,7 +7,7 @@ use mathlib.Core.List.{List, [], _∷_}
 use mathlib.Core.Logic.{inl, inr}
 use native.Mathlib.Nat.{not-suc-le-zero}
 use native.Mathlib.Omega.{arith}
-use lib.ListN.{length, take, drop, length-drop}
+use lib.ListN.{length, take, drop}
 use Rattle.nodes.specs.declared.node.Node.{Node}
 use Rattle.nodes.specs.Choose.{All, firstAt}
 use Rattle.nodes.specs.Words.{nodes, count, nodeAt}
@@ -73,10 +73,6 @@ module _ (test : Node → Bool) (ws : List ℕ) where
 
   pub search-from : (from : ℕ) → from ≤ count ws → Searched test ws (firstAt test (drop from (nodes ws)) + from) from
   search-from from h = (h, refl)
-
-  -- the answer lies in the words or at their end
-  pub search-in : (from answer : ℕ) → from ≤ count ws → answer ≡ firstAt test (drop from (nodes ws)) + from → answer ≤ count ws
-  search-in from answer h q = omega (arith, first-in test (drop from (nodes ws)), length-drop from (nodes ws), length-nodes ws)
 
   -- a node that passes ends the search
   pub search-found : (answer k : ℕ) (x : Node) → Searched test ws answer k → k < count ws → x ≡ nodeAt ws k → test x ≡ true → k ≡ answer

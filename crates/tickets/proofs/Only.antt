@@ -1,5 +1,6 @@
--- Each public contract is an equation with a definition, and two things that equal a third are equal; so no second answer satisfies it.
--- `Post` is what a function's `ensures` says of its result and of what it was lent; a contract that left a field open would fall here.
+-- Each public contract is an equation with a definition, and two things that equal a third are
+-- equal; so no second answer satisfies it. `Post` is what a function's `ensures` says of its result
+-- and of what it was lent; a contract that left a field open would fall here.
 use mathlib.Core.Path.{_≡_}
 use Rattle.nodes.proofs.Only.{only}
 use Rattle.tickets.proofs.row.is_served.Reads as is-served

@@ -1,5 +1,6 @@
--- A pair's key begins with its leader's document and start, so what is known of the leader's two numbers settles all of its pairs.
--- A leader that was passed too early, or a follower that lay past the place before an earlier one, would fall here.
+-- A pair's key begins with its leader's document and start, so what is known of the leader's two
+-- numbers settles all of its pairs. A leader that was passed too early, or a follower that lay past
+-- the place before an earlier one, would fall here.
 use Prim.Native.Nat.{ℕ, _+_, _≤_, _<_, zero-le}
 use mathlib.Core.Path.{_≡_, refl, sym, _∙_}
 use mathlib.Core.Bool.{Bool, true, false, _&&_, _||_}
@@ -23,7 +24,8 @@ use Rattle.tickets.specs.declared.ticket.Place.the-variants.{Fresh, Afte
 use Rattle.tickets.specs.Row.{pastFrom, servedb}
 use Rattle.tickets.specs.Ticket.{spotOf}
 
--- the pair of a leader and a follower lies past a place: its document and two starts do, the leader's first
+-- the pair of a leader and a follower lies past a place: its document and two starts do, the
+-- leader's first
 unfoldable pub aheadb : Place → Node → Node → Bool
 aheadb place leader follower = pastb (spotOf place) (leader .document ∷ leader .start ∷ follower .start ∷ [])
 
@@ -68,7 +70,8 @@ Past place past x = (y : Node) → aheadb place x y ≡ leb past (y .start)
 abbrev Beyond : Key → Node → Type 0
 Beyond k x = (k .document < x .document) ⊎ ((k .document ≡ x .document) × (k .leader < x .start))
 
--- all followers of a leader that stands after the place's own lie past it, and of that one those that start after the place's follower
+-- all followers of a leader that stands after the place's own lie past it, and of that one those
+-- that start after the place's follower
 module _ (k : Key) (x y : Node) where
   ahead-all : Beyond k x → aheadb (After k) x y ≡ true
   unfolding aheadb pastb aboveb
@@ -106,7 +109,8 @@ unserved k x h =
           [ inl s ↦ inr (d, eqb-true _ _ s) | inr s ↦ let n : k .leader ≡ x .start → ⊥ = eqb-false _ _ s in inl (inr (d, omega arith)) ]
     ]
 
--- the number that a place and a leader give: 0 where the place is fresh or the leader stands after its own
+-- the number that a place and a leader give: 0 where the place is fresh or the leader stands after
+-- its own
 past-fresh : (x : Node) → pastFrom Fresh x ≡ 0
 unfolding pastFrom
 past-fresh x = refl

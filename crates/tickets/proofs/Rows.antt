@@ -1,5 +1,6 @@
--- What remains of a listing is what remains of its rows, and a row remains from its first follower past the place on.
--- A row passed over that had a pair past the place, or a follower taken too early, would fall here.
+-- What remains of a listing is what remains of its rows, and a row remains from its first follower
+-- past the place on. A row passed over that had a pair past the place, or a follower taken too
+-- early, would fall here.
 use Prim.Native.Nat.{ℕ, _≤_, _<_}
 use mathlib.Core.Path.{_≡_, refl, ap, _∙_}
 use mathlib.Core.Bool.{Bool, true, false}

@@ -39,7 +39,8 @@ row order leader ns = map (pairOf order leader) ns
 unfoldable pub matches : Relation → Order → Node → List Node → List Node
 matches relation order leader ns = keep (λ n. relatedb relation (pairOf order leader n)) ns
 
--- the start from which on a leader's followers lie past a place, where the leader doesn't stand before the place's own
+-- the start from which on a leader's followers lie past a place, where the leader doesn't stand
+-- before the place's own
 unfoldable pub pastFrom : Place → Node → ℕ
 pastFrom Fresh leader = 0
 pastFrom (After k) leader = cond (eqb (k .document) (leader .document) && eqb (k .leader) (leader .start)) (k .follower + 1) 0

@@ -1,4 +1,5 @@
-// How the rows of a listing lie to a ticket's place. A row is a leader, which is the node that the order sorts by first, with each of its followers.
+// How the rows of a listing lie to a ticket's place. A row is a leader, which is the node that the
+// order sorts by first, with each of its followers.
 use crate::ticket::Place;
 use nodes::node::NODE_WORDS;
 use nodes::node::Node;
@@ -11,8 +12,10 @@ ghost use Rattle.tickets.specs.Row.{pastFrom, servedb, servedIn};
 // How many words a pair takes in an output: the ancestor's and then the descendant's.
 pub const PAIR_WORDS: usize = 2 * NODE_WORDS;
 
-// Returns the start from which on a leader's followers lie past a place, if the leader doesn't stand before the
-// place's own: for that leader itself just past the place's follower, for any other 0, which is all of them.
+// Returns the least start of a follower whose pair with the leader lies past the place: one more
+// than the place's follower if the leader is the place's own, else 0, which is every follower. It
+// is 0 for an earlier leader too, though none of its pairs lies past the place: `is_served` tells
+// those apart.
 pub fn past_from(place: Place, leader: Node) -> u64
     ensures { λ r. ⌜ r ≡ pastFrom place leader ⌝ }
 {
@@ -30,7 +33,8 @@ pub fn past_from(place: Place, leader: Node) -> u64
     }
 }
 
-// The caller learns whether a leader stands before the leader of a place; then none of its pairs lies past the place.
+// The caller learns whether a leader stands before the leader of a place; then none of its pairs
+// lies past the place.
 pub fn is_served(place: Place, leader: Node) -> bool
     ensures { λ r. ⌜ r ≡ servedb place leader ⌝ }
 {
@@ -48,7 +52,8 @@ pub fn is_served(place: Place, leader: Node) -> bool
     }
 }
 
-// The caller gets the index of the first leader that doesn't stand before the leader of a place, or the number of leaders.
+// The caller gets the index of the first leader that doesn't stand before the leader of a place, or
+// the number of leaders.
 pub fn served_count(place: Place, leaders: &[u32]) -> usize
     ensures { λ r. ⌜ r ≡ servedIn place (nodes (now (leaders .entry))) ⌝ }
 {

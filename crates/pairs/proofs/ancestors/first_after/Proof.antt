@@ -1,15 +1,15 @@
--- The invariant: the search through what is left finds what the search from the first place on finds.
--- A descendant passed that stands after the ancestor, or a place one off, falls at the next turn.
+-- The invariant: the search through what is left finds what the search from the first place on
+-- finds. A descendant passed that stands after the ancestor, or a place one off, falls at the next
+-- turn.
 use borrow.Author.Needs.{needs}
-use Prim.Native.Nat.{ℕ, _+_, _-_, _/_, _%_, _≤_}
-use mathlib.Core.Path.{_≡_, refl, sym, ap, subst, _∙_}
+use Prim.Native.Nat.{_+_, _-_, _/_}
+use mathlib.Core.Path.{_≡_, sym, subst, _∙_}
 use native.Mathlib.Omega.{arith}
 use lib.ListN.{length, drop}
 use denote.Ref.{now}
 use Rattle.nodes.specs.Choose.{firstAt}
 use Rattle.nodes.specs.Node.{afterb}
-use Rattle.nodes.specs.Words.{nodes, count}
-use Rattle.nodes.proofs.Tests.{not-read}
+use Rattle.nodes.specs.Words.{nodes}
 use Rattle.tickets.proofs.First.{Searched, search-from, search-found, search-on, search-end}
 use Rattle.pairs.specs.Sweep.{Placed}
 use Rattle.pairs.proofs.ancestors.first_after.Statement.{statement}

@@ -1,9 +1,9 @@
--- Where the ancestor isn't open at the first descendant after it, it has no run; else what is left of its run from a start on is handed out.
--- A run taken to be empty that isn't, or a start passed, falls at a return.
+-- Where the ancestor isn't open at the first descendant after it, it has no run; else what is left
+-- of its run from a start on is handed out. A run taken to be empty that isn't, or a start passed,
+-- falls at a return.
 use borrow.Author.Needs.{needs}
-use Prim.Native.Nat.{_/_, _%_}
-use mathlib.Core.Path.{_≡_, sym, subst, ap, _∙_}
-use native.Mathlib.Omega.{arith}
+use Prim.Native.Nat.{_/_}
+use mathlib.Core.Path.{sym, subst, ap, _∙_}
 use denote.Ref.{now}
 use Rattle.nodes.specs.Words.{nodeAt}
 use Rattle.nodes.proofs.Tests.{not-read, not-none}

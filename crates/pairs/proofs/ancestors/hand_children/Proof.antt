@@ -1,7 +1,8 @@
--- The invariant: handing out the children from here on gives what handing out all of them gives. A descendant one level deeper is
--- handed out, and any other is passed, with what an inner zone holds. A child lost, or handed out twice, falls at the next turn.
+-- The invariant: handing out the children from here on gives what handing out all of them gives. A
+-- descendant one level deeper is handed out, and any other is passed, with what an inner zone
+-- holds. A child lost, or handed out twice, falls at the next turn.
 use borrow.Author.Needs.{needs}
-use Prim.Native.Nat.{ℕ, _+_, _-_, _/_, _%_, _≤_, _<_}
+use Prim.Native.Nat.{_+_, _-_, _/_, _%_, _≤_, _<_}
 use mathlib.Core.Path.{_≡_, refl, sym, ap, _∙_}
 use mathlib.Core.Bool.{true}
 use mathlib.Core.List.{List, []}
@@ -64,14 +65,14 @@ node-from-requires-2 c κs =
     let l = c .before .loop in
     ((p .3 .0, l .inv .4, omega (arith, p .4)), omega (arith, p .4))
 
-add-hand-descendants : tie.Need-add-hand-descendants Inv-loop μ-loop
-add-hand-descendants c =
+add-pair-with-descendants : tie.Need-add-pair-with-descendants Inv-loop μ-loop
+add-pair-with-descendants c =
     let p = c .before .before .before .before .before .before .before .before .before .before .before .pre .4 in
     let t = c .before .before .before .before .loop-test .taken in
     search needs
 
-hand-descendants-requires : tie.Need-hand-descendants-requires Inv-loop μ-loop
-hand-descendants-requires c κs =
+pair-with-descendants-requires : tie.Need-pair-with-descendants-requires Inv-loop μ-loop
+pair-with-descendants-requires c κs =
     let p = c .before .before .before .before .before .before .before .before .before .before .before .pre in
     let l = c .before .before .before .before .before .loop in
     let m = l .inv .4 in
@@ -90,7 +91,7 @@ returns c =
     let t = c .before .before .before .before .before .before .before .before .before .loop-test .taken in
     let row = child-row (now (a .descendants)) (nodeAt (now (a .ancestors)) (a .i / 4)) (a .from) (l .k) _ _ (p .3 .0, i .4, omega (arith, p .4)) (omega (arith, p .4))
     (p .5) (i .5) (omega (arith, p .6, i .4, p .4)) (c .before .before .before .before .before .before .before .before .node-from2 .ensures) (c .before .before .before .before .before .before .if1 .taken) (i .1) in
-    left-stop pairWords PAIR-WORDS _ _ _ _ (c .before .before .before .before .hand-descendants .ensures) (not-read _ (c .if2 .taken)) row (i .7)
+    left-stop pairWords PAIR-WORDS _ _ _ _ (c .before .before .before .before .pair-with-descendants .ensures) (not-read _ (c .if2 .taken)) row (i .7)
 
 add-k : tie.Need-add-k Inv-loop μ-loop
 add-k c =
@@ -119,7 +120,7 @@ loop-again c =
       omega (arith, i .4),
       omega (arith, i .5),
       done,
-      left-on pairWords PAIR-WORDS _ _ _ _ (c .before .before .before .before .hand-descendants .ensures) done row (i .7),
+      left-on pairWords PAIR-WORDS _ _ _ _ (c .before .before .before .before .pair-with-descendants .ensures) done row (i .7),
     )
 
 past-inner-requires : tie.Need-past-inner-requires Inv-loop μ-loop
@@ -178,8 +179,8 @@ hand-children-spec =
     add-zone
     loop-holds
     node-from-requires-2
-    add-hand-descendants
-    hand-descendants-requires
+    add-pair-with-descendants
+    pair-with-descendants-requires
     same-length
     returns
     add-k

@@ -1,14 +1,11 @@
--- All of the run lies inside, so inside it is handed out as it lies; directly inside are the children in it.
--- The relations exchanged, or a run cut short, fall at a return.
+-- All of the run lies inside, so inside it is handed out as it lies; directly inside are the
+-- children in it. The relations exchanged, or a run cut short, fall at a return.
 use borrow.Author.Needs.{needs}
 use Prim.Native.Nat.{_/_}
-use mathlib.Core.Path.{_≡_, sym, ap, _∙_}
-use native.Mathlib.Omega.{arith}
-use lib.ListN.{drop}
+use mathlib.Core.Path.{ap, _∙_}
 use denote.Ref.{now}
-use Rattle.nodes.specs.Words.{nodes, nodeAt}
+use Rattle.nodes.specs.Words.{nodeAt}
 use Rattle.tickets.specs.declared.ticket.Order.the-variants.{Ancestor}
-use Rattle.tickets.specs.Row.{matches}
 use Rattle.pairs.specs.Sweep.{servedRow}
 use Rattle.pairs.proofs.Running.{run-stretch}
 use Rattle.pairs.proofs.ancestors.hand_run.Statement.{statement}
@@ -17,8 +14,8 @@ use Rattle.pairs.proofs.ancestors.hand_run.Tie as tie
 enum-told : tie.Need-enum-told
 enum-told c = search needs
 
-hand-descendants-requires : tie.Need-hand-descendants-requires
-hand-descendants-requires c κs = search needs
+pair-with-descendants-requires : tie.Need-pair-with-descendants-requires
+pair-with-descendants-requires c κs = search needs
 
 enum-told-2 : tie.Need-enum-told-2
 enum-told-2 c = search needs
@@ -34,7 +31,7 @@ returns c =
     let a = c .before .before .before .before .before .before .before .before .before .args in
     let p = c .before .before .before .before .before .before .before .before .before .pre in
     rw (c .before .before .before .before .enum-told .given .1)
-    (c .before .before .hand-descendants .ensures
+    (c .before .before .pair-with-descendants .ensures
     ∙ ap (servedRow Ancestor (now (a .out)) (a .written) (nodeAt (now (a .ancestors)) (a .i / 4)))
     (run-stretch (now (a .descendants)) (nodeAt (now (a .ancestors)) (a .i / 4)) (a .from) (a .to) (p .5) (p .6)))
 
@@ -49,7 +46,7 @@ hand-run-spec =
     tie.close
     (tie.spec
     enum-told
-    hand-descendants-requires
+    pair-with-descendants-requires
     enum-told-2
     hand-children-requires
     same-length

@@ -1,7 +1,6 @@
 -- Past the last descendant there is none, and before that the node at the place tells.
--- A place one off, or a document not compared, falls at its return.
+-- A place one off, or another node tested, falls at its return.
 use borrow.Author.Needs.{needs}
-use mathlib.Core.Path.{_≡_}
 use native.Mathlib.Omega.{arith}
 use Rattle.pairs.proofs.Running.{running-none, running-node}
 use Rattle.pairs.proofs.ancestors.is_running.Statement.{statement}

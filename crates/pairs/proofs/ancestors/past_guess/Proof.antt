@@ -1,11 +1,11 @@
--- A descendant at which the ancestor is open, next to the guess, settles all before it; without one the place stays.
--- A guess taken untested falls at its return.
+-- A descendant at which the ancestor is open, next to the guess, settles all before it; without one
+-- the place stays. A guess taken untested falls at its return.
 use borrow.Author.Needs.{needs}
 use Prim.Native.Nat.{_-_}
-use mathlib.Core.Path.{_≡_, sym, _∙_}
+use mathlib.Core.Path.{sym, _∙_}
 use native.Mathlib.Omega.{arith}
 use denote.Ref.{now}
-use Rattle.pairs.proofs.Running.{further-none, further-next}
+use Rattle.pairs.proofs.Running.{further-next}
 use Rattle.pairs.proofs.ancestors.past_guess.Statement.{statement}
 use Rattle.pairs.proofs.ancestors.past_guess.Tie as tie
 

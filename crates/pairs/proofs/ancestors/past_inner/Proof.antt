@@ -1,5 +1,6 @@
--- Only where the zone is open at the next descendant, and this one stands after the zone, is more than this one passed: what the zone holds.
--- A descendant passed that the zone doesn't hold, or a zone left while it may still hold some, falls at its return.
+-- Only where the zone is open at the next descendant, and this one stands after the zone, is more
+-- than this one passed: what the zone holds. A descendant passed that the zone doesn't hold falls
+-- at its return; a zone left early would cost time alone.
 use borrow.Author.Needs.{needs}
 use Prim.Native.Nat.{_+_}
 use mathlib.Core.Path.{_≡_, sym, _∙_}

@@ -1,8 +1,9 @@
--- The invariant: up to here the run goes on. Where the ancestor is open at the last descendant of a stride, it is open at all of it.
--- A stride taken untested, or one that tests a descendant before its last, falls at the next turn.
+-- The invariant: up to here the run goes on. Where the ancestor is open at the last descendant of a
+-- stride, it is open at all of it. A stride taken untested, or one that tests a descendant before
+-- its last, falls at the next turn.
 use borrow.Author.Needs.{needs}
 use Prim.Native.Nat.{_+_, _-_}
-use mathlib.Core.Path.{_≡_, sym, _∙_}
+use mathlib.Core.Path.{sym, _∙_}
 use native.Mathlib.Omega.{arith}
 use lib.ListN.{length}
 use denote.Ref.{now}

@@ -1,8 +1,9 @@
--- The first descendant is in the run, and each step goes on from a place up to which the run goes; where it doesn't go on, it ends.
--- A place returned that was not tested, or one after which the run goes on, falls at its return.
+-- The first descendant is in the run, and each step goes on from a place up to which the run goes;
+-- where it doesn't go on, it ends. A place returned that was not tested, or one after which the run
+-- goes on, falls at its return.
 use borrow.Author.Needs.{needs}
 use Prim.Native.Nat.{_+_}
-use mathlib.Core.Path.{_≡_, sym, _∙_}
+use mathlib.Core.Path.{sym, _∙_}
 use native.Mathlib.Omega.{arith}
 use denote.Ref.{now}
 use Rattle.nodes.proofs.Tests.{not-read, not-none}

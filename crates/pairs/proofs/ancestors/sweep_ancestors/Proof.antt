@@ -1,6 +1,7 @@
--- The invariant: handing out the rows of the ancestors from i on gives what handing out all that remains gives, for each place for which
--- the sweep starts as it did, as the loop doesn't read the place, and no descendant before the run's beginning stands after the ancestor.
--- A row lost, served twice or served after the room has run out falls at a return or at the next turn.
+-- The invariant: handing out the rows of the ancestors from i on gives what handing out all that
+-- remains gives, for each place for which the sweep starts as it did, as the loop doesn't read the
+-- place, and no descendant before the run's beginning stands after the ancestor. A row lost, served
+-- twice or served after the room has run out falls at a return or at the next turn.
 use borrow.Author.Needs.{needs}
 use mathlib.Core.Path.{_≡_, refl, ap, _∙_}
 use mathlib.Core.Bool.{true}
@@ -25,15 +26,15 @@ use Rattle.pairs.proofs.ancestors.sweep_ancestors.Statement.{statement}
 use Rattle.pairs.proofs.ancestors.sweep_ancestors.Tie as tie
 
 abbrev Inv-loop : tie.InvT-loop
-Inv-loop ancestors descendants relation out₀ first past₀ handed₀ from₀ end₀ i₀ out past handed from end i =
-    (length out ≡ length out₀) × Placed ancestors i × Placed descendants from × (end % 4 ≡ 0) × Reached ancestors descendants (i / 4) (from / 4)
+Inv-loop ancestors descendants relation out₀ first past₀ handed₀ from₀ guess₀ i₀ out past handed from guess i =
+    (length out ≡ length out₀) × Placed ancestors i × Placed descendants from × (guess % 4 ≡ 0) × Reached ancestors descendants (i / 4) (from / 4)
     × (handed .done ≡ true)
     × ((place : Place) → Started place ancestors first past₀ → Tells place ancestors past i
     × (serve pairWords PAIR-WORDS out (handed .count) (rest-of relation Ancestor place (drop (i / 4) (nodes ancestors)) (nodes descendants))
     ≡ servedAll relation Ancestor place out₀ ancestors descendants))
 
 abbrev μ-loop : tie.MeasureT-loop
-μ-loop ancestors descendants relation out₀ first past₀ handed₀ from₀ end₀ i₀ out past handed from end i = length ancestors - i
+μ-loop ancestors descendants relation out₀ first past₀ handed₀ from₀ guess₀ i₀ out past handed from guess i = length ancestors - i
 
 served-count-requires : tie.Need-served-count-requires Inv-loop μ-loop
 served-count-requires c κs = search needs

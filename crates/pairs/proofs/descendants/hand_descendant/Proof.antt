@@ -29,15 +29,15 @@ first-match-requires c κs =
 first-from-requires : tie.Need-first-from-requires
 first-from-requires c κs = search needs
 
-hand-ancestors-requires : tie.Need-hand-ancestors-requires
-hand-ancestors-requires c κs =
+pair-with-ancestors-requires : tie.Need-pair-with-ancestors-requires
+pair-with-ancestors-requires c κs =
     let start = c .before .before .before .before .before .before .before .before .before in
     let a = start .args in
     let p = start .pre in
     let m = c .before .before .before .before .first-match .ensures in
     let f = c .before .before .first-from .ensures in
     let l = ahead-in (now (a .stack)) _ (a .used) _ (a .past) (f .1) (m .1) (p .2 .0) (f .0) in
-    let g = c .hand-ancestors-arg2 .given in
+    let g = c .pair-with-ancestors-arg2 .given in
     (p .0, p .1, (omega arith, f .0, omega arith), (omega arith, omega arith, omega arith))
 
 same-length : tie.Need-same-length
@@ -49,7 +49,7 @@ returns c =
     let m = c .before .before .before .before .before .before .before .first-match .ensures in
     let f = c .before .before .before .before .before .first-from .ensures in
     let n = c .before .before .before .before .before .before .before .before .node-from .ensures in
-    c .before .before .hand-ancestors .ensures
+    c .before .before .pair-with-ancestors .ensures
     ∙ ap (servedRow Descendant (now (a .out)) (a .written) (nodeAt (now (a .descendants)) (a .at / 4)))
     (match-ahead (now (a .stack)) _ (a .used) _ (a .past) (f .1) (a .relation) _ _ n (m .2))
 
@@ -60,6 +60,6 @@ hand-descendant-spec =
     node-from-requires
     first-match-requires
     first-from-requires
-    hand-ancestors-requires
+    pair-with-ancestors-requires
     same-length
     returns)

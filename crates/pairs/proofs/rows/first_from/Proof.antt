@@ -1,8 +1,8 @@
--- The invariant: the search along what is left of the stretch finds what the search along all of it finds.
--- A follower passed that starts late enough, or a place one off, falls at the next turn.
+-- The invariant: the search along what is left of the stretch finds what the search along all of it
+-- finds. A follower passed that starts late enough, or a place one off, falls at the next turn.
 use borrow.Author.Needs.{needs}
-use Prim.Native.Nat.{ℕ, _+_, _-_, _/_, _%_, _≤_, _<_}
-use mathlib.Core.Path.{_≡_, refl, sym, ap, _∙_}
+use Prim.Native.Nat.{_+_, _-_, _/_, _≤_}
+use mathlib.Core.Path.{_≡_, refl}
 use native.Mathlib.Omega.{arith}
 use denote.Ref.{now}
 use Rattle.nodes.specs.Choose.{firstAt}

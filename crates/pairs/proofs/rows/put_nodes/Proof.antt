@@ -1,5 +1,5 @@
--- The eight stores are the words of the ancestor and then those of the descendant, from eight times the index on.
--- A word stored one off falls at the return, an index too large at a store.
+-- The eight stores are the words of the ancestor and then those of the descendant, from eight times
+-- the index on. A word stored one off falls at the return, an index too large at a store.
 use Prim.Native.Nat.{ℕ, _+_, _*_}
 use mathlib.Core.Path.{_≡_}
 use mathlib.Core.List.{List}

@@ -1,5 +1,6 @@
--- Of another leader all followers lie past the place, of the place's own those after its follower; each return is one case of the definition.
--- A number one off, or a leader of another document taken for the place's own, falls at its return.
+-- Of another leader all followers lie past the place, of the place's own those after its follower;
+-- each return is one case of the definition. A number one off, or a leader of another document
+-- taken for the place's own, falls at its return.
 use mathlib.Core.Path.{_≡_}
 use native.Mathlib.Omega.{arith}
 use borrow.Author.Needs.{needs}

@@ -5,23 +5,23 @@ use mathlib.Core.Path.{_∙_}
 use Prim.Native.Nat.{_+_}
 use native.Mathlib.Omega.{arith}
 use denote.Ref.{now}
-use Rattle.tickets.specs.declared.ticket.Order.the-variants.{Ancestor}
+use Rattle.tickets.specs.declared.ticket.Order.the-variants.{Descendant}
 use Rattle.tickets.specs.Listing.{pairOf}
 use Rattle.pairs.proofs.Stretches.{stored, continued, cut, none}
-use Rattle.pairs.proofs.rows.hand_descendants.Statement.{statement}
-use Rattle.pairs.proofs.rows.hand_descendants.Tie as tie
+use Rattle.pairs.proofs.rows.pair_with_ancestors.Statement.{statement}
+use Rattle.pairs.proofs.rows.pair_with_ancestors.Tie as tie
 
 returns : tie.Need-returns
 returns c =
     let a = c .before .before .before .before .args in
     let p = c .before .before .before .before .pre in
-    none Ancestor _ (now (a .descendants)) (a .from) (a .to) (p .2) (p .3) _ _ (omega arith)
+    none Descendant _ (now (a .ancestors)) (a .from) (a .to) (p .2) (p .3) _ _ (omega arith)
 
 returns-2 : tie.Need-returns-2
 returns-2 c =
     let a = c .before .before .before .before .before .args in
     let p = c .before .before .before .before .before .pre in
-    cut Ancestor _ (now (a .descendants)) (a .from) (a .to) (p .2) (p .3) _ _ (omega arith) (omega arith)
+    cut Descendant _ (now (a .ancestors)) (a .from) (a .to) (p .2) (p .3) _ _ (omega arith) (omega arith)
 
 node-from-requires : tie.Need-node-from-requires
 node-from-requires c κs = search needs
@@ -48,8 +48,8 @@ returns-3 c =
     let p = c .before .before .before .before .before .before .before .before .before .before .before .before .pre in
     let x = c .before .before .before .before .node-from2 .ensures in
     let y = c .before .before .before .before .before .node-from .ensures in
-    none Ancestor _ (now (a .descendants)) (a .from + 4) (a .to) (omega arith, omega arith, omega arith) (p .3) _ _ (omega arith)
-    ∙ stored Ancestor _ (now (a .descendants)) (a .from) (a .to) (p .2) (p .3) _ _ (a .written) _ _ (omega arith) y x (omega arith) (c .before .before .before .put-nodes .ensures)
+    none Descendant _ (now (a .ancestors)) (a .from + 4) (a .to) (omega arith, omega arith, omega arith) (p .3) _ _ (omega arith)
+    ∙ stored Descendant _ (now (a .ancestors)) (a .from) (a .to) (p .2) (p .3) _ _ (a .written) _ _ (omega arith) x y (omega arith) (c .before .before .before .put-nodes .ensures)
 
 add-hand-stretch : tie.Need-add-hand-stretch
 add-hand-stretch c = search needs
@@ -73,11 +73,11 @@ returns-4 c =
     let p = c .before .before .before .before .before .before .before .before .before .before .before .before .before .before .before .before .before .pre in
     let x = c .before .before .before .before .before .before .before .before .before .node-from2 .ensures in
     let y = c .before .before .before .before .before .before .before .before .before .before .node-from .ensures in
-    continued Ancestor _ (now (a .descendants)) (a .from) (a .to) (p .2) (p .3) _ _ _ (a .written) _ _ _ (c .before .before .hand-stretch .ensures) (c .before .before .before .node-from3 .ensures)
-    (omega arith) y x (omega arith) (c .before .before .before .before .before .before .before .before .put-nodes .ensures)
+    continued Descendant _ (now (a .ancestors)) (a .from) (a .to) (p .2) (p .3) _ _ _ (a .written) _ _ _ (c .before .before .hand-stretch .ensures) (c .before .before .before .node-from3 .ensures)
+    (omega arith) x y (omega arith) (c .before .before .before .before .before .before .before .before .put-nodes .ensures)
 
-pub hand-descendants-spec : {M : Type 1} → statement M
-hand-descendants-spec =
+pub pair-with-ancestors-spec : {M : Type 1} → statement M
+pair-with-ancestors-spec =
     tie.close
     (tie.spec
     returns
