@@ -1,6 +1,6 @@
 -- Words of the contracts of private functions: what a sweep along the lists keeps. No public
 -- contract cites this file.
-use Prim.Native.Nat.{ℕ, _+_, _*_, _-_, _/_, _%_, _≤_}
+use Prim.Native.Nat.{ℕ, _+_, _*_, _-_, _/_, _%_, _≤_, _<_}
 use mathlib.Core.Path.{_≡_}
 use mathlib.Core.Logic.{_⊎_}
 use mathlib.Core.Bool.{Bool, true, false, cond, not, _&&_}
@@ -13,17 +13,18 @@ use Rattle.nodes.specs.Choose.{All, In, firstAt}
 use Rattle.nodes.specs.Node.{afterb, openb}
 use Rattle.nodes.specs.Words.{NODE-WORDS, node, nodes, count, nodeAt}
 use Rattle.lists.specs.Check.{checkWords}
-use Rattle.lists.specs.Two.{oddsb}
+use Rattle.lists.specs.Two.{oddsb, checkTwo}
 use Rattle.lists.specs.Walk.{firsts, opened, Fits, Stands}
 use Rattle.paging.specs.Page.{remains}
 use Rattle.paging.specs.Serve.{serve}
 use Rattle.tickets.specs.declared.ticket.Key.{Key}
 use Rattle.tickets.specs.declared.ticket.Order.{Order}
+use Rattle.tickets.specs.declared.ticket.Order.the-variants.{Ancestor}
 use Rattle.tickets.specs.declared.ticket.Place.{Place}
 use Rattle.tickets.specs.declared.ticket.Place.the-variants.{After}
 use Rattle.tickets.specs.declared.ticket.Relation.{Relation}
 use Rattle.tickets.specs.Listing.{keyOf, sortKey, listing}
-use Rattle.tickets.specs.Row.{PAIR-WORDS, pairWords, row}
+use Rattle.tickets.specs.Row.{PAIR-WORDS, pairWords, row, matches}
 use Rattle.tickets.specs.Ticket.{spotOf}
 
 -- a place in a list of whole nodes: a word at which a node starts, or the list's end
@@ -92,6 +93,19 @@ abbrev pub Further : List ℕ → Node → ℕ → ℕ → Type 0
 Further descendants a from to =
     (to % NODE-WORDS ≡ 0) × (from ≤ to) × Running descendants a (to / NODE-WORDS)
     × (runEnd descendants a (to / NODE-WORDS) ≡ runEnd descendants a (from / NODE-WORDS))
+
+-- of two lists that are accepted together, the run of the ancestor at a word goes from one word to
+-- another
+abbrev pub RunFrom : List ℕ → ℕ → List ℕ → ℕ → ℕ → Type 0
+RunFrom ancestors i descendants from to =
+    (checkTwo ancestors descendants .answer ≡ TAKEN) × Placed ancestors i × (i < length ancestors) × Placed descendants from × Placed descendants to
+    × Running descendants (nodeAt ancestors (i / NODE-WORDS)) (from / NODE-WORDS)
+    × (to / NODE-WORDS ≡ runEnd descendants (nodeAt ancestors (i / NODE-WORDS)) (from / NODE-WORDS))
+
+-- what the ancestor at a word has the relation with among the descendants from a word on
+abbrev pub matchesFrom : Relation → List ℕ → ℕ → List ℕ → ℕ → List Node
+matchesFrom relation ancestors i descendants from =
+    matches relation Ancestor (nodeAt ancestors (i / NODE-WORDS)) (drop (from / NODE-WORDS) (nodes descendants))
 
 -- the key of the pair at an index of nodes that stand in twos
 unfoldable pub keyIn : Order → List Node → ℕ → Key

@@ -23,8 +23,7 @@ ghost use Rattle.nodes.specs.Choose.{firstAt};
 ghost use Rattle.nodes.specs.Node.{afterb, insideb};
 ghost use Rattle.nodes.specs.Words.{NODE-WORDS, nodes, count, nodeAt};
 ghost use Rattle.lists.specs.Two.{checkTwo};
-ghost use Rattle.tickets.specs.Row.{matches};
-ghost use Rattle.pairs.specs.Sweep.{Placed, Running, Further, runningb, runEnd, fromStart, servedRow, servedAll};
+ghost use Rattle.pairs.specs.Sweep.{Placed, Running, Further, runningb, runEnd, RunFrom, matchesFrom, fromStart, servedRow, servedAll};
 
 // How many words further on the search for the end of a run looks: eight descendants.
 const STRIDE: usize = 8 * NODE_WORDS;
@@ -197,14 +196,10 @@ fn hand_children(
     from: usize,
     to: usize,
 ) -> Handed
-    requires { ⌜ (checkTwo (now ancestors) (now descendants) .answer ≡ TAKEN) × Placed (now ancestors) i × (i < length (now ancestors))
-        × Placed (now descendants) from × Placed (now descendants) to
-        × Running (now descendants) (nodeAt (now ancestors) (i / NODE-WORDS)) (from / NODE-WORDS)
-        × (to / NODE-WORDS ≡ runEnd (now descendants) (nodeAt (now ancestors) (i / NODE-WORDS)) (from / NODE-WORDS)) ⌝ }
+    requires { ⌜ RunFrom (now ancestors) i (now descendants) from to ⌝ }
     ensures { λ r. ⌜ (now (out .exit), r .count, r .done)
         ≡ servedRow Order.Ancestor (now (out .entry)) written (nodeAt (now (ancestors .entry)) (i / NODE-WORDS))
-        (matches Relation.Directly Order.Ancestor (nodeAt (now (ancestors .entry)) (i / NODE-WORDS))
-        (drop (from / NODE-WORDS) (nodes (now (descendants .entry))))) ⌝ }
+        (matchesFrom Relation.Directly (now (ancestors .entry)) i (now (descendants .entry)) from) ⌝ }
 {
     let mut handed = Handed {
         count: written,
@@ -249,14 +244,10 @@ fn hand_run(
     from: usize,
     to: usize,
 ) -> Handed
-    requires { ⌜ (checkTwo (now ancestors) (now descendants) .answer ≡ TAKEN) × Placed (now ancestors) i × (i < length (now ancestors))
-        × Placed (now descendants) from × Placed (now descendants) to
-        × Running (now descendants) (nodeAt (now ancestors) (i / NODE-WORDS)) (from / NODE-WORDS)
-        × (to / NODE-WORDS ≡ runEnd (now descendants) (nodeAt (now ancestors) (i / NODE-WORDS)) (from / NODE-WORDS)) ⌝ }
+    requires { ⌜ RunFrom (now ancestors) i (now descendants) from to ⌝ }
     ensures { λ r. ⌜ (now (out .exit), r .count, r .done)
         ≡ servedRow Order.Ancestor (now (out .entry)) written (nodeAt (now (ancestors .entry)) (i / NODE-WORDS))
-        (matches relation Order.Ancestor (nodeAt (now (ancestors .entry)) (i / NODE-WORDS))
-        (drop (from / NODE-WORDS) (nodes (now (descendants .entry))))) ⌝ }
+        (matchesFrom relation (now (ancestors .entry)) i (now (descendants .entry)) from) ⌝ }
 {
     match relation {
         Relation::Inside => pair_with_descendants(
@@ -290,8 +281,7 @@ fn hand_ancestor(
         × Running (now descendants) (nodeAt (now ancestors) (i / NODE-WORDS)) (from / NODE-WORDS) ⌝ }
     ensures { λ r. ⌜ (r .guess % NODE-WORDS ≡ 0) × ((now (out .exit), r .handed .count, r .handed .done)
         ≡ servedRow Order.Ancestor (now (out .entry)) written (nodeAt (now (ancestors .entry)) (i / NODE-WORDS))
-        (fromStart past (matches relation Order.Ancestor (nodeAt (now (ancestors .entry)) (i / NODE-WORDS))
-        (drop (from / NODE-WORDS) (nodes (now (descendants .entry))))))) ⌝ }
+        (fromStart past (matchesFrom relation (now (ancestors .entry)) i (now (descendants .entry)) from))) ⌝ }
 {
     let ancestor = node_from(ancestors, i);
     if !is_running(descendants, from, ancestor) {
