@@ -1,7 +1,7 @@
 /* The bench's figures, one at a time.
 
    driver count CODE MEASURE SHAPE NODES TIMES
-       runs a measure so many times and prints nothing: the instructions of a run with one time less
+       runs a measure TIMES times and prints nothing: the instructions of a run with one time less
        those of a run with none are those of the measure
    driver time MEASURE SHAPE NODES
        prints each code and its median time in nanoseconds, the codes taking turns

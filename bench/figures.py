@@ -15,7 +15,7 @@ SHAPES = ("flat", "nests", "between", "random", "eight-zones", "few-samples")
 ALL_SHAPES = (*SHAPES, "documents", "twice", "fields", "side")
 MOST_NODES = 4096
 
-# The program takes a book of so many bytes, which has room for so many nodes in each of two lists.
+# The program takes a book of BOOK_BYTES, which has room for PRINTED_NODES in each of two lists.
 BOOK_BYTES, CONTENTS_BYTES, NODE_BYTES = 61440, 28, 16
 PRINTED_NODES = (BOOK_BYTES - CONTENTS_BYTES) // NODE_BYTES // 2
 EMPTY_BOOK = struct.pack("<7I", 2, 2, CONTENTS_BYTES, 0, 3, CONTENTS_BYTES, 0)
@@ -63,7 +63,7 @@ def printing_nothing():
 
 
 def printing(shape, nodes):
-    """The instructions of the printing program on the book of a shape, from its start to its end."""
+    """The instructions of the printing program, from its start to its end, on a shape's book."""
     taken, printed = run_counted("belfry", given=run("driver", "book", shape, nodes, text=False))
     if not printed.endswith(b"\npairs %d\n" % sizes(shape, nodes)["inside"]):
         raise SystemExit(f"the program printed something else of {shape}: {printed[-40:]}")

@@ -48,8 +48,8 @@ BY_ORDER = {"descendant": (sweep_samples, all_pairs), "ancestor": (sweep_zones,)
 
 
 def timed(join, zones, samples, pairs):
-    """The median processor time in nanoseconds of a join that has to find so many pairs: of a few
-    rounds at least, and of more until a second has passed."""
+    """The median processor time in nanoseconds of a join that has to find as many pairs as `pairs`
+    says: of a few rounds at least, and of more until a second has passed."""
     times = []
     while (len(times) < LEAST_ROUNDS
            or (len(times) < MOST_ROUNDS and sum(times) < ENOUGH_NANOSECONDS)):

@@ -22,8 +22,8 @@ extern struct shape shape;
 extern uint8_t book[];
 extern size_t book_bytes;
 
-/* Prepares a measure by its name on a shape with at most so many nodes in each list, or on a
-   document with at most so many marks; it answers 0 where there is no such measure or shape. The
+/* Prepares a measure by its name on a shape with at most `nodes` nodes in each list, or on a
+   document with at most `nodes` marks; it answers 0 where there is no such measure or shape. The
    names are check, links, number, book, and RELATION-ORDER-ROOM with the relation inside or
    directly, the order descendant or ancestor, and as room the pairs of a page, or all. */
 int prepare_measure(struct measure *measure, const char *name, const char *shape_name,

@@ -22,11 +22,13 @@ GROWTH = (64, 1024, MOST_NODES)
 TWINS = CODES[1:]
 CODES_HERE = TWINS if EMULATOR else CODES
 OTHER_SHAPES = ALL_SHAPES[len(SHAPES):]
+# A document of the shape `documents` has two nodes only.
+NUMBERED_SHAPES = tuple(shape for shape in ALL_SHAPES if shape != "documents")
 
-# The bars: the most that the archive may take beside a twin, for a node and of the stack.
+# The bars: the most that the archive may take beside a twin, for a node or mark and of the stack.
 MOST_RATIOS = {"clang-three": 0.95, "gcc-three": 0.95, "clang-fused": 1.15}
 MOST_SHARP, SHARP_LISTING, SHARP_SHAPES = 0.5, "directly-ancestor", ("nests", "between")
-MOST_CHECK, MOST_LINKS, MOST_STACK = 80, 80, 2584
+MOST_CHECK, MOST_LINKS, MOST_NUMBER, MOST_BOOK, MOST_STACK = 54.3, 80, 29.1, 41.6, 2584
 
 SHAPE_WORDS = {
     "flat": "zones side by side, a sample in each",
@@ -179,14 +181,16 @@ def print_codes():
     item("three: ordinary C that checks two lists in three passes, over each list and then over "
          "both (bench/twin.c)")
     item("fused: the same, with one pass for the good case (bench/twin.c)")
-    item("best: the best C that we can write, with the algorithms that took the fewest "
-         "instructions (bench/best.c)")
+    item("best: the best C that we could write for these shapes, with the algorithms that took "
+         f"the fewest instructions on the first {len(SHAPES)}; on others fused may take fewer, as "
+         "it does on 4,096 small documents in ancestor order (bench/best.c)")
 
 
 def print_shapes():
     print("\n## Shapes")
     say(f"Each list has at most {MOST_NODES:,} nodes. Zones are the ancestors and samples the "
-        f"descendants. The bars are about the first {len(SHAPES)} shapes.")
+        f"descendants. The bars beside the twins are about the first {len(SHAPES)} shapes, the "
+        "others about all.")
     counts = ("zones", "samples", "inside", "directly")
     table(("shape", "what it is", "zones", "samples", "pairs inside", "directly inside"),
           [(shape, SHAPE_WORDS[shape], *(f"{sizes(shape)[count]:,}" for count in counts))
@@ -206,14 +210,14 @@ def verdict(holds):
     return "pass" if holds else "miss"
 
 
-def worst(measure):
-    """What the archive takes most for a unit on one of the first shapes, and on which."""
+def worst(measure, shapes):
+    """What the archive takes most for a unit on one of the shapes, and on which."""
     return max((instructions("archive", measure, shape) / units(measure, shape), shape)
-               for shape in SHAPES)
+               for shape in shapes)
 
 
-def bar_on_worst(title, measure, most):
-    taken, shape = worst(measure)
+def bar_on_worst(title, measure, most, shapes=ALL_SHAPES):
+    taken, shape = worst(measure, shapes)
     return title, f"{taken:.1f}", shape, most, verdict(taken <= most)
 
 
@@ -221,6 +225,9 @@ def print_simple_bars():
     stack = max(taken[0] for call, taken in stacks().items() if call.startswith("list"))
     rows = [bar_on_worst("checks of two lists, instructions a node", "check", MOST_CHECK),
             bar_on_worst("links, instructions a node", "links", MOST_LINKS),
+            bar_on_worst("numbering, instructions a mark", "number", MOST_NUMBER,
+                         NUMBERED_SHAPES),
+            bar_on_worst("checking a book, instructions a node", "book", MOST_BOOK),
             ("stack of a listing, bytes", f"{stack:,}", "", f"{MOST_STACK:,}",
              verdict(stack <= MOST_STACK))]
     table(("bar", "archive", "worst shape", "at most", ""), rows)
@@ -236,7 +243,7 @@ def ratio(code, listing, shape):
 def ratio_cell(code, listing, shape):
     taken = times(f"{listing}-all", shape)
     time = f"; {taken['archive'] / taken[code]:.2f}" if taken else ""
-    return f"{ratio(code, listing, shape):.2f}{time}"
+    return f"{ratio(code, listing, shape):.3f}{time}"
 
 
 def holds_beside(code, listing, shape):
@@ -260,10 +267,10 @@ def print_twin_bars():
         f"the instructions are at most {MOST_RATIOS['clang-three']} of those of both three-pass "
         f"twins and at most {MOST_RATIOS['clang-fused']} of clang-fused's. For {SHARP_LISTING} on "
         f"{' and '.join(SHARP_SHAPES)} they have to be at most {MOST_SHARP} of the three-pass "
-        "twins'. Beside the best twins there is no bar: these ratios are what verification costs "
-        "so far.")
+        "twins'.")
     rows = [twin_bar(listing, shape) for listing in LISTINGS for shape in SHAPES]
     table(("listing", "shape", *TWINS, ""), rows)
+    say("Beside the best twins there is no bar.")
     return [row[-1] for row in rows]
 
 
@@ -338,7 +345,7 @@ def print_others():
         f"most {MOST_NODES:,} marks; a document of the shape `documents` has two nodes only and is "
         "left out. The book that is checked holds both lists.")
     measured("Links", "links", "a node")
-    measured("Numbering", "number", "a mark", [s for s in ALL_SHAPES if s != "documents"])
+    measured("Numbering", "number", "a mark", NUMBERED_SHAPES)
     measured("Checking a book", "book", "a node")
 
 
@@ -375,8 +382,9 @@ def growth_row(shape, measures):
 def print_growth():
     progress("growth")
     print("\n## How the cost grows")
-    say("The archive's instructions for an input node, with at most so many nodes in each list. "
-        "Those of a listing inside are shared by the nodes too, however many pairs it writes.")
+    say("The archive's instructions for an input node, with at most as many nodes in each list as "
+        "the column says. Those of a listing inside are shared by the nodes too, however many "
+        "pairs it writes.")
     measures = {"checks": "check", "descendant order": "inside-descendant-all",
                 "ancestor order": "inside-ancestor-all"}
     table(("shape", *(f"{name}, {nodes:,}" for name in measures for nodes in GROWTH)),

@@ -127,7 +127,7 @@ static void build_random(struct building *b)
         close_element(b);
 }
 
-/* Zones side by side, so many of which hold as many samples as are given for each. */
+/* Zones side by side, of which `holders` hold `samples` each. */
 static void build_some(struct building *b, size_t holders, size_t samples)
 {
     size_t apart = b->most < holders ? 1 : b->most / holders;

@@ -15,12 +15,12 @@ struct shape {
 
 extern const char *const shape_names[SHAPES];
 
-/* Builds the shape of a name with at most so many nodes in each list; it answers 0 where there is
+/* Builds the shape of a name with at most `nodes` nodes in each list; it answers 0 where there is
    no such shape. The lists need no root, so the outermost zones have level 1. */
 int build_shape(struct shape *shape, const char *name, size_t nodes);
 
-/* Builds the same within a root, so that the marks are those of one document and at most so many; a
-   nest has one zone less. Of a shape with many documents it builds one. */
+/* Builds the same within a root, so that the marks are those of one document. There are at most
+   `marks`, and a nest has one zone less. Of a shape with many documents it builds one. */
 int build_document(struct shape *shape, const char *name, size_t marks);
 
 /* The next random number after a state, which may begin with any number. The same state gives the

@@ -4,7 +4,7 @@
    measured; all rows are read into an output as the page call writes it.
 
    sqlite count ORDER SHAPE NODES TIMES
-       runs the query so many times and prints nothing
+       runs the query TIMES times and prints nothing
    sqlite time ORDER SHAPE NODES
        prints the query's median time in nanoseconds, and how many rows it has
    sqlite plan ORDER SHAPE NODES

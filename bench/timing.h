@@ -9,8 +9,8 @@ enum { MOST_ROUNDS = 201, LEAST_ROUNDS = 5 };
 /* The nanoseconds that the program has run. */
 double now(void);
 
-/* Whether there should be another round after so many since a moment: there are a few at least, and
-   more until a second has passed. */
+/* Whether there should be another after `rounds` rounds since a moment: there are a few at least,
+   and more until a second has passed. */
 int is_round_due(size_t rounds, double begun);
 
 /* The median of times, which it puts in order. */

@@ -16,7 +16,7 @@ ghost use Rattle.lists.specs.Check.{checkWords};
 ghost use Rattle.forest.specs.Climb.{Linking, Ended, Elder, firstb};
 ghost use Rattle.forest.specs.Links.{LINK-WORDS};
 
-// Whether the node at an index is the first one of its document in an accepted list.
+// Returns whether the node at an index is the first one of its document in an accepted list.
 pub(crate) fn is_first(list: &[u32], index: usize) -> bool
     ensures { λ r. ⌜ r ≡ firstb (nodes (now (list .entry))) index ⌝ }
 {

@@ -51,9 +51,9 @@ fn put_leaf(out: &mut [u32], index: usize, parent: u32)
     );
 }
 
-// Links the next node. The first one of a document has neither a parent nor an elder, its last
-// sibling before it. Any other is the first child of the node before, if that one hasn't ended, and
-// else the next sibling of its elder.
+// Links the next node. The first node of a document has no parent and no elder (the elder is the
+// last sibling before a node). Any other is the first child of the node before, if that hasn't
+// ended, or else the next sibling of its elder.
 fn link_node(list: &[u32], out: &mut [u32], index: usize)
     requires { ⌜ (checkWords (now list) .answer ≡ TAKEN) × (index < count (now list)) × (count (now list) ≤ length (now out) / LINK-WORDS)
         × Linking (nodes (now list)) index (now out) ⌝ }
@@ -75,8 +75,8 @@ fn link_node(list: &[u32], out: &mut [u32], index: usize)
     put_next(out, elder, index as u32);
 }
 
-// The links of an accepted list's nodes are written one after the other. A node's parent and elder
-// come before it, so each turn leaves the links as far as the nodes passed tell them.
+// Writes the links of an accepted list's nodes one after the other. A node's parent and elder come
+// before it, so each turn leaves the links as far as the nodes passed tell them.
 fn link_all(list: &[u32], out: &mut [u32])
     requires { ⌜ (checkWords (now list) .answer ≡ TAKEN) × (count (now list) ≤ length (now out) / LINK-WORDS) ⌝ }
     ensures { λ r. ⌜ now (out .exit) ≡ written (linksIn (now (list .entry))) (now (out .entry)) ⌝ }
@@ -88,8 +88,8 @@ fn link_all(list: &[u32], out: &mut [u32])
     }
 }
 
-// The caller gets the links of the list's nodes in the output, three words a node in list order,
-// and the number of nodes; or the list's refusal or ROOM, and an output as it was.
+// Writes the links of the list's nodes into the output, three words a node in list order, and
+// returns their number; on refusal or ROOM the output stays as it was.
 pub fn link_list(list: &[u32], out: &mut [u32]) -> Linked
     ensures { λ r. ⌜ (r ≡ linkedOf (now (list .entry)) (now (out .entry)))
         × (now (out .exit) ≡ linksOutput (now (list .entry)) (now (out .entry))) ⌝ }

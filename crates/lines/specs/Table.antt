@@ -1,4 +1,4 @@
--- The table that numbers are put into a text with, two digits at a time.
+-- The table of two-digit numbers from which decimals are written.
 use Prim.Native.Nat.{ℕ, _+_, _*_, _/_, _%_, _<_}
 use mathlib.Core.Path.{_≡_}
 use mathlib.Core.List.{List, [], _∷_}

@@ -27,10 +27,11 @@ ghost use Rattle.printing.specs.Print.{PAGE-PAIRS};
 
 // How many pairs are printed at a time: a full page is written in one block of 24 to 135 thousand
 // bytes. Each page checks both lists again, so larger ones cost less; but their buffers are cleared
-// at the start. This size takes 266,240 bytes of stack, out of 458,753 for all arrays of the program.
+// at the start. This size takes 266,240 bytes of stack, out of 458,753 for all arrays of the
+// program.
 const PAGE_PAIRS: usize = 4096;
 
-// A proved loop has to end. No run uses up so many pages: a listing of 4,096 descendants in 63
+// A proved loop has to end. No run uses that many pages: a listing of 4,096 descendants in 63
 // ancestors each has 63.
 const MOST_PAGES: u64 = 4294967295;
 
