@@ -110,7 +110,7 @@ loop-again c =
     let l = c .before .before .before .before .before .before .before .before .before .before .loop in
     let i = l .inv in
     let t = c .before .before .before .before .before .before .before .before .before .loop-test .taken in
-    let done : _ ≡ true = not-none _ (c .if2 .left) in
+    let done : c .before .before .before .before .pair-with-descendants .result .done ≡ true = not-none _ (c .if2 .left) in
     let row = child-row (now (a .descendants)) (nodeAt (now (a .ancestors)) (a .i / 4)) (a .from) (l .k) _ _ (p .3 .0, i .4, omega (arith, p .4)) (omega (arith, p .4))
     (p .5) (i .5) (omega (arith, p .6, i .4, p .4)) (c .before .before .before .before .before .before .before .before .node-from2 .ensures) (c .before .before .before .before .before .before .if1 .taken) (i .1) in (
       omega arith,

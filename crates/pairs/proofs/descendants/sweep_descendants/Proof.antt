@@ -132,7 +132,7 @@ loop-again c =
     let o = here .before .before .open-before .ensures in
     let t = at-descendant (now (a .ancestors)) (now (a .descendants)) (given .pre) (l .j) test _
     (here .before .before .before .before .before .before .node-from .ensures) _ _ _ (o .0) (o .1) (o .2) in
-    let done = not-none _ (c .if1 .left) in (
+    let done : c .before .before .before .before .hand-descendant .result .done ≡ true = not-none _ (c .if1 .left) in (
       omega arith,
       ready-next (now (a .ancestors)) (now (a .descendants)) (given .pre) (l .j) test _ _ _ t (l .inv .1 .at),
       done,
