@@ -1,6 +1,6 @@
 //! Random numbers that anyone can draw again from their seed.
 
-use std::thread;
+use crate::telling::Telling;
 
 /// Words at which arithmetic on 32 bits, or a comparison of halves, would go wrong.
 pub const EDGES: [u32; 9] = [0, 1, 2, 65_535, 65_536, (1 << 31) - 1, 1 << 31, u32::MAX - 1, u32::MAX];
@@ -85,23 +85,10 @@ impl Random {
     }
 }
 
-/// Says the seed of a case that panicked.
-struct Telling {
-    seed: u64,
-}
-
-impl Drop for Telling {
-    fn drop(&mut self) {
-        if thread::panicking() {
-            eprintln!("this was the case of seed {}", self.seed);
-        }
-    }
-}
-
-/// Runs so many cases, each with a seed of its own, from the first seed on.
+/// Runs the case with each of `cases` seeds, from the first seed on.
 pub fn each_case(first_seed: u64, cases: u64, mut case: impl FnMut(&mut Random)) {
     for seed in first_seed..first_seed + cases {
-        let telling = Telling { seed };
-        case(&mut Random::new(telling.seed));
+        let telling = Telling { kind: "case of seed", case: seed };
+        case(&mut Random::new(telling.case));
     }
 }

@@ -1,17 +1,12 @@
-//! Listings that are followed from page to page while both lists are edited, some calls are refused, and other tickets are used in between.
-//!
-//! Each is held against demand 3 alone: when an accepted call says done, every pair that stood unaltered in every accepted call has been handed out,
-//! once; no document and two starts come twice; each pair stood in the lists of the call that handed it out; a call that isn't done fills its room;
-//! and a refused call counts for nothing. There is no model of paging here: what a call handed out, and whether it was accepted and done, is taken
-//! from the call. A listing from a made-up ticket is held against the same words, of the pairs behind that ticket's place.
+//! Listings that are followed from page to page while both lists are edited, some calls are refused,
+//! and other tickets are used in between. Each is held against demand 3 (`outside::history`).
 
-use belfrychest::raw::{self, Ticket};
-use outside::asking::meaning;
+use belfrychest::raw::{Page, Ticket};
+use outside::history::{History, Lists};
 use outside::making::lists::{damage, family, some_of};
 use outside::making::tickets::made_up;
-use outside::model::nodes::{nodes, words, Node};
-use outside::model::pages::{pairs, Pair, PAIR_WORDS};
-use outside::paint::Word;
+use outside::model::nodes::{words, Node};
+use outside::model::pages::PAIR_WORDS;
 use outside::random::{each_case, Random};
 
 /// The listings that are followed from a fresh ticket, for each relation and each order.
@@ -25,104 +20,14 @@ const SEEDS: u64 = 1 << 42;
 /// Fewer histories of a kind say too little.
 const LEAST: u64 = 100;
 
-#[derive(Clone)]
-struct Lists {
-    ancestors: Vec<Node>,
-    descendants: Vec<Node>,
+/// Returns a ticket that is made up for these lists.
+fn ticket_for(lists: &Lists, random: &mut Random) -> Ticket {
+    made_up(random, &words(&lists.ancestors), &words(&lists.descendants))
 }
 
-impl Lists {
-    fn hold(&self, pair: &Pair) -> bool {
-        self.ancestors.contains(&pair.ancestor) && self.descendants.contains(&pair.descendant)
-    }
-
-    /// Whether nodes of the pair's starts stand in the lists, be they these or others.
-    fn hold_starts(&self, pair: &Pair) -> bool {
-        let stands = |list: &[Node], node: &Node| list.iter().any(|other| (other.document, other.start) == (node.document, node.start));
-        stands(&self.ancestors, &pair.ancestor) && stands(&self.descendants, &pair.descendant)
-    }
-
-    fn ticket(&self, random: &mut Random) -> Ticket {
-        made_up(random, &words(&self.ancestors), &words(&self.descendants))
-    }
-}
-
-/// One listing, as far as it has been followed.
-struct History {
-    /// The ticket that it began with, and the one for the next call.
-    first_ticket: Ticket,
-    ticket: Ticket,
-    /// The pairs of the listing that stood unaltered in every accepted call. There are none to speak of before the first.
-    standing: Option<Vec<Pair>>,
-    handed_out: Vec<Pair>,
-    pages: usize,
-    refused: usize,
-    altered: usize,
-}
-
-impl History {
-    fn from(ticket: Ticket) -> History {
-        History { first_ticket: ticket, ticket, standing: None, handed_out: Vec::new(), pages: 0, refused: 0, altered: 0 }
-    }
-
-    /// Makes the next call with an output of so many words. Tells whether it was done, or nothing if it was refused.
-    fn call(&mut self, lists: &Lists, room: usize) -> Option<bool> {
-        let [coat, _] = u32::COATS;
-        let mut out = vec![coat; room];
-        let page = raw::list(&words(&lists.ancestors), &words(&lists.descendants), self.ticket, &mut out);
-        assert!(out[PAIR_WORDS * page.count..].iter().all(|&word| word == coat), "altered behind {} pairs", page.count);
-        if page.answer != 0 {
-            assert_eq!((page.count, page.done, page.ticket), (0, 0, self.ticket), "a refused call");
-            self.refused += 1;
-            return None;
-        }
-        assert!(page.done == 1 || page.count == room / PAIR_WORDS, "not done, and {} pairs in a room of {room} words", page.count);
-        self.take(lists, &out[..PAIR_WORDS * page.count]);
-        self.keep_standing(lists);
-        self.ticket = page.ticket;
-        if page.done == 1 {
-            self.hold_done();
-        }
-        Some(page.done == 1)
-    }
-
-    /// Whether a pair has the relation that the first ticket asks for, and stands behind its place.
-    fn is_asked_for(&self, pair: &Pair) -> bool {
-        let asked = meaning(&self.first_ticket);
-        pair.has(asked.relation) && asked.place.map_or(true, |place| pair.key(asked.order) > place)
-    }
-
-    /// Takes what a call handed out: pairs that stood in its own lists and were asked for, and no document and two starts again.
-    fn take(&mut self, lists: &Lists, words: &[u32]) {
-        let starts = |pair: &Pair| (pair.ancestor.document, pair.ancestor.start, pair.descendant.start);
-        for two in nodes(words).chunks(2) {
-            let pair = Pair { ancestor: two[0], descendant: two[1] };
-            assert!(lists.hold(&pair), "handed out, and not in the lists: {pair:?}");
-            assert!(self.is_asked_for(&pair), "handed out, and not asked for: {pair:?}");
-            assert!(self.handed_out.iter().all(|earlier| starts(earlier) != starts(&pair)), "twice: {pair:?}");
-            self.handed_out.push(pair);
-        }
-        self.pages += usize::from(!words.is_empty());
-    }
-
-    /// Keeps of the pairs that stood so far those that stand in these lists too. At the first accepted call they are all that are asked for.
-    fn keep_standing(&mut self, lists: &Lists) {
-        let mut standing = self.standing.take().unwrap_or_else(|| {
-            let all = pairs(meaning(&self.first_ticket).relation, &lists.ancestors, &lists.descendants);
-            all.into_iter().filter(|pair| self.is_asked_for(pair)).collect()
-        });
-        self.altered += standing.iter().filter(|pair| !lists.hold(pair) && lists.hold_starts(pair)).count();
-        standing.retain(|pair| lists.hold(pair));
-        self.standing = Some(standing);
-    }
-
-    /// A call said done: every pair that stood unaltered has been handed out, once.
-    fn hold_done(&self) {
-        for pair in self.standing.iter().flatten() {
-            let times = self.handed_out.iter().filter(|handed_out| *handed_out == pair).count();
-            assert_eq!(times, 1, "done, and handed out {times} times: {pair:?}");
-        }
-    }
+/// Makes a listing's next call on these lists, and returns its answer.
+fn call(history: &mut History, lists: &Lists, room: usize) -> Page {
+    history.call(&words(&lists.ancestors), &words(&lists.descendants), room)
 }
 
 /// The lists after no edit, one or two, which may damage them. All nodes of the documents are there to be put in.
@@ -167,19 +72,21 @@ fn put_in(list: &mut Vec<Node>, node: Node) {
 fn follow(random: &mut Random, first_ticket: impl Fn(Ticket) -> Ticket) -> History {
     let all = family(random, SIZE);
     let mut lists = Lists { ancestors: some_of(random, &all), descendants: some_of(random, &all) };
-    let mut history = History::from(first_ticket(lists.ticket(random)));
+    let mut history = History::from(first_ticket(ticket_for(&lists, random)));
     for _ in 0..random.pick(&[0, 1, 4, 14]) {
         let next = edited(random, &lists, &all);
         let room = PAIR_WORDS * random.pick(&[0, 1, 1, 1, 2, 4]) + random.below(PAIR_WORDS);
-        if history.call(&next, room).is_some() {
+        if call(&mut history, &next, room).answer == 0 {
             lists = next;
         }
         if random.one_in(4) {
-            History::from(lists.ticket(random)).call(&lists, random.below(9 * PAIR_WORDS));
+            let mut other = History::from(ticket_for(&lists, random));
+            call(&mut other, &lists, random.below(9 * PAIR_WORDS));
         }
     }
     let enough = PAIR_WORDS * (lists.ancestors.len() * lists.descendants.len() + 1);
-    assert_eq!(history.call(&lists, enough), Some(true), "accepted lists, and room for all their pairs");
+    let last = call(&mut history, &lists, enough);
+    assert_eq!((last.answer, last.done), (0, 1), "accepted lists, and room for all their pairs");
     history
 }
 

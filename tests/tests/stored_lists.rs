@@ -1,0 +1,40 @@
+//! The checks of one list and of two, and the part at the faulty node, on the cases of
+//! `tests/cases/lists.txt`: against what is stored there, and against the model.
+
+use belfrychest::raw;
+use outside::asking;
+use outside::stored::{answer, each_case, listed, two_lists, words, Case};
+
+const CASES: &str = include_str!("../cases/lists.txt");
+
+fn verdict(given: raw::Verdict) -> String {
+    format!("{} list {} index {}", answer(given.answer), given.list, given.index)
+}
+
+/// Returns the line of one list.
+fn one(list: &[u32]) -> String {
+    asking::check(list);
+    verdict(raw::check(list))
+}
+
+/// Returns the line of two lists, which both calls of two lists must agree on.
+fn two(ancestors: &[u32], descendants: &[u32]) -> String {
+    asking::faulty(ancestors, descendants);
+    let raw::Part { answer, list, index, from, words } = raw::faulty(ancestors, descendants);
+    let checked = raw::check_two(ancestors, descendants);
+    assert_eq!(checked, raw::Verdict { answer, list, index }, "given by belfry_check_two and by belfry_faulty");
+    let faulty = [ancestors, descendants][list as usize];
+    format!("{}, part of {words} words{}", verdict(checked), listed(&faulty[from..from + words]))
+}
+
+fn lines(case: &Case) -> Vec<String> {
+    match two_lists(case.given) {
+        Some((first, second)) => vec![two(&first, &second), format!("swapped: {}", two(&second, &first))],
+        None => vec![one(&words(case.given))],
+    }
+}
+
+#[test]
+fn lists() {
+    each_case(CASES, 101, lines);
+}
