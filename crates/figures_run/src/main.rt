@@ -1,52 +1,99 @@
-// Document 01's figures that no theorem covers, and once more those that one does: for each case what the code answers. The cases are those of
-// standard input, in three sections (lists, pairs, marks), and those of single nodes, which are written in code.
-mod list_cases;
-mod list_print;
-mod mark_call;
-mod mark_cases;
-mod mark_change;
-mod mark_words;
-mod node_cases;
-mod paint;
-mod pair;
-mod pair_call;
-mod pair_cases;
-mod pair_print;
-mod pair_run;
-mod print;
-mod section;
-mod standing;
-mod tally;
-mod text;
-mod words;
+// Document 01's figures that no theorem covers, but for those of the book: empty lists, and lists of
+// 4,096 nodes, of one node more and of one word more. For each the program prints what the calls
+// answer.
+use io::print_decimal;
+use io::write_all;
+use libc::STDOUT_FILENO;
+use lists::list::check_list;
+use lists::verdict::Verdict;
+use nodes::answer::name_of;
+use nodes::node::Node;
+use nodes::node::node_count;
+use nodes::node::put_node;
+use pairs::page::Page;
+use pairs::page::next_page;
+use std::num::wrapping_add_u32;
+use tickets::ticket::Order;
+use tickets::ticket::Relation;
+use tickets::ticket::fresh;
 
-use crate::print::print_line;
-use crate::section::before_sections;
-use crate::section::next_section;
-use io::read_full;
-use libc::STDIN_FILENO;
-
-// How many bytes of standard input there is room for.
-const MOST_BYTES: usize = 131072;
-
-// Runs every case, or says that the text of standard input is too long to be read whole.
 fn main() {
-    let mut text = [0u8; MOST_BYTES];
-    let length = read_full(STDIN_FILENO, &mut text);
-    if length == MOST_BYTES {
-        print_line(b"the cases are not run: their text has 131072 bytes or more");
-        return;
-    }
-    run_sections(&text[0..length]);
+    let mut most = [0u32; 16384];
+    let mut one_node_more = [0u32; 16388];
+    let mut one_word_more = [0u32; 16385];
+    texts_case(b"empty lists", &mut [0u32; 0]);
+    texts_case(b"4096 nodes", &mut most);
+    texts_case(b"4097 nodes", &mut one_node_more);
+    texts_case(b"16385 words", &mut one_word_more);
 }
 
-// Runs the cases that are written in code, and then those of the text's three sections.
-fn run_sections(text: &[u8]) {
-    let lists = next_section(text);
-    let pairs = next_section(lists);
-    let marks = next_section(pairs);
-    node_cases::run();
-    list_cases::run_lines(before_sections(lists));
-    pair_cases::run_lines(before_sections(pairs));
-    mark_cases::run_lines(before_sections(marks));
+// Prints a text.
+fn print(text: &[u8]) {
+    write_all(STDOUT_FILENO, text);
+}
+
+// Prints a text and the number after it.
+fn print_number(text: &[u8], number: usize) {
+    print(text);
+    print_decimal(STDOUT_FILENO, number as u64);
+}
+
+// Prints an answer's number and name, the list that it speaks of and the index there.
+fn print_verdict(verdict: Verdict) {
+    let name = name_of(verdict.answer);
+    print_number(b": ", verdict.answer as usize);
+    print(b" [");
+    print(&name);
+    print(b"]");
+    print_number(b" list ", verdict.list as usize);
+    print_number(b" index ", verdict.index);
+}
+
+// Prints the number of a page's pairs, and whether they were all that remained.
+fn print_page(page: Page) {
+    print_number(b", pairs ", page.count);
+    if page.done {
+        print(b", done\n");
+        return;
+    }
+    print(b", not done\n");
+}
+
+// Makes a list of the words: as many texts, one after the other, as they have room for. What words
+// are left over stay as they were.
+fn put_texts(words: &mut [u32]) {
+    let count = node_count(words);
+    let mut place = 0;
+    let mut index = 0;
+    while index < count {
+        let text = Node {
+            document: 5,
+            start: place,
+            end: place,
+            level: 1,
+        };
+        put_node(words, index, text);
+        place = wrapping_add_u32(place, 1);
+        index += 1;
+    }
+}
+
+// The case of a list of texts that the words have room for: alone, and joined with itself.
+fn texts_case(label: &[u8], words: &mut [u32]) {
+    put_texts(words);
+    print(label);
+    print_verdict(check_list(words));
+    print(b"\n");
+    page_case(label, words);
+}
+
+// The page of a list joined with itself, into an output with room for one pair.
+fn page_case(label: &[u8], words: &[u32]) {
+    let mut out = [0u32; 8];
+    let ticket = fresh(Relation::Inside, Order::Descendant);
+    let page = next_page(words, words, ticket, &mut out);
+    print(label);
+    print(b", joined");
+    print_verdict(page.verdict);
+    print_page(page);
 }
