@@ -38,13 +38,13 @@ static void note(struct notes *notes, uint64_t number)
     notes->note[notes->count++] = number;
 }
 
-static void note_answer(struct notes *notes, uint32_t answer, uint32_t list, uint32_t index)
+static void note_verdict(struct notes *notes, belfry_verdict v)
 {
-    if (notes == &expected && answer < ANSWERS)
-        seen[answer]++;
-    note(notes, answer);
-    note(notes, list);
-    note(notes, index);
+    if (notes == &expected && v.answer < ANSWERS)
+        seen[v.answer]++;
+    note(notes, v.answer);
+    note(notes, v.list);
+    note(notes, v.index);
 }
 
 /* The output before a call; some words after its end are part of it, which no call may alter. */
@@ -78,9 +78,9 @@ static void note_checks(struct notes *notes, const struct code *code, const stru
     belfry_verdict other = code->check(in->descendants, in->descendant_words);
     belfry_verdict two =
         code->check_two(in->ancestors, in->ancestor_words, in->descendants, in->descendant_words);
-    note_answer(notes, one.answer, one.list, one.index);
-    note_answer(notes, other.answer, other.list, other.index);
-    note_answer(notes, two.answer, two.list, two.index);
+    note_verdict(notes, one);
+    note_verdict(notes, other);
+    note_verdict(notes, two);
 }
 
 /* Page after page with one room, from a ticket on, until one is done or nothing is written. */
@@ -92,7 +92,7 @@ static void note_pages(struct notes *notes, const struct code *code, const struc
         clear_out(room_words);
         page = code->list(in->ancestors, in->ancestor_words, in->descendants, in->descendant_words,
                           ticket, out, room_words);
-        note_answer(notes, page.answer, page.list, page.index);
+        note_verdict(notes, page.verdict);
         note(notes, page.done);
         note(notes, page.count);
         note_ticket(notes, page.ticket);
@@ -104,7 +104,7 @@ static void note_pages(struct notes *notes, const struct code *code, const struc
 static void note_listings(struct notes *notes, const struct code *code, const struct input *in)
 {
     for (uint32_t kind = 0; kind < 4; kind++) {
-        belfry_ticket fresh = {.relation = kind & 1, .order = kind >> 1};
+        belfry_ticket fresh = BELFRY_TICKET(kind & 1, kind >> 1);
         belfry_ticket made_up = in->ticket;
         made_up.relation = kind & 1;
         made_up.order = kind >> 1;
@@ -116,7 +116,7 @@ static void note_listings(struct notes *notes, const struct code *code, const st
 
 static void note_written(struct notes *notes, belfry_result result, size_t room_words)
 {
-    note_answer(notes, result.answer, result.list, result.index);
+    note_verdict(notes, result.verdict);
     note(notes, result.count);
     note_out(notes, room_words);
 }
@@ -133,9 +133,9 @@ static void note_others(struct notes *notes, const struct code *code, const stru
     }
     belfry_book book = code->book_check(in->book, in->book_bytes);
     belfry_body body = code->book_body(in->book, in->book_bytes, in->tag);
-    note_answer(notes, book.answer, book.list, book.index);
+    note_verdict(notes, book.verdict);
     note(notes, book.lists);
-    note_answer(notes, body.answer, body.list, body.index);
+    note_verdict(notes, body.verdict);
     note(notes, body.from);
     note(notes, body.bytes);
 }

@@ -43,8 +43,8 @@ static int prepare_listing(struct measure *measure, const char *name)
     if (sscanf(name, "%15[^-]-%15[^-]-%15s", relation, order, room) != 3)
         return 0;
     measure->kind = LISTING;
-    measure->ticket = (belfry_ticket){.relation = strcmp(relation, "inside") != 0,
-                                      .order = strcmp(order, "descendant") != 0};
+    measure->ticket =
+        BELFRY_TICKET(strcmp(relation, "inside") != 0, strcmp(order, "descendant") != 0);
     measure->room = strcmp(room, "all") == 0 ? MOST_PAIRS : strtoul(room, NULL, 10);
     return 0 < measure->room && measure->room <= MOST_PAIRS;
 }
@@ -78,7 +78,7 @@ static size_t list_all(const struct measure *measure, const struct code *code)
         belfry_page page = code->list(shape.zone, BELFRY_NODE_WORDS * shape.zones, shape.sample,
                                       BELFRY_NODE_WORDS * shape.samples, ticket, out,
                                       BELFRY_PAIR_WORDS * measure->room);
-        if (page.answer != 0)
+        if (page.verdict.answer != 0)
             fail("a listing was refused");
         pairs += page.count;
         ticket = page.ticket;
@@ -104,19 +104,19 @@ static size_t check_two(const struct code *code)
 static size_t link_zones(const struct code *code)
 {
     belfry_result result = code->links(shape.zone, BELFRY_NODE_WORDS * shape.zones, out, OUT_WORDS);
-    return taken(result.answer, result.count);
+    return taken(result.verdict.answer, result.count);
 }
 
 static size_t number_marks(const struct code *code)
 {
     belfry_result result = code->number(1, shape.mark, shape.marks, out, OUT_WORDS);
-    return taken(result.answer, result.count);
+    return taken(result.verdict.answer, result.count);
 }
 
 static size_t check_book(const struct code *code)
 {
     belfry_book opened = code->book_check(book, book_bytes);
-    return taken(opened.answer, opened.lists);
+    return taken(opened.verdict.answer, opened.lists);
 }
 
 size_t run_measure(const struct measure *measure, const struct code *code)

@@ -40,7 +40,7 @@ static void call_faulty(const struct code *code)
 
 static void call_list(const struct code *code, uint32_t relation, uint32_t order)
 {
-    belfry_ticket ticket = {.relation = relation, .order = order};
+    belfry_ticket ticket = BELFRY_TICKET(relation, order);
     code->list(lists.zone, zone_words, lists.sample, sample_words, ticket, out, OUT_WORDS);
 }
 

@@ -221,7 +221,7 @@ belfry_page TWIN(list)(const uint32_t *ancestors, size_t ancestor_words,
 {
     belfry_verdict v = check_both(ancestors, ancestor_words, descendants, descendant_words);
     if (v.answer != BELFRY_TAKEN)
-        return (belfry_page){v.answer, v.list, v.index, 0, 0, ticket};
+        return (belfry_page){v, 0, 0, ticket};
     struct lists lists = lists_of(ancestors, ancestor_words, descendants, descendant_words);
     struct pair *pairs = (struct pair *)out;
     struct writing w = {pairs, pairs + out_words / BELFRY_PAIR_WORDS};
@@ -229,12 +229,12 @@ belfry_page TWIN(list)(const uint32_t *ancestors, size_t ancestor_words,
         ticket.order ? sweep_ancestors(lists, &ticket, &w) : sweep_descendants(lists, &ticket, &w);
     if (w.out > pairs)
         ticket = ticket_after(ticket, w.out - 1);
-    return (belfry_page){BELFRY_TAKEN, 0, 0, done, w.out - pairs, ticket};
+    return (belfry_page){verdict_of(BELFRY_TAKEN), done, w.out - pairs, ticket};
 }
 
 static belfry_result result_of(belfry_verdict v, size_t count)
 {
-    return (belfry_result){v.answer, v.list, v.index, count};
+    return (belfry_result){v, count};
 }
 
 belfry_result TWIN(links)(const uint32_t *list, size_t words, uint32_t *out, size_t out_words)
@@ -364,14 +364,14 @@ static belfry_book check_book(const uint8_t *book, size_t bytes)
 {
     uint32_t lists = 0;
     if (!are_contents(book, bytes, &lists))
-        return (belfry_book){BELFRY_CONTENTS, 0, 0, 0};
+        return (belfry_book){verdict_of(BELFRY_CONTENTS), 0};
     for (uint32_t i = 0; i < lists; i++) {
         struct entry entry = entry_at(book, i);
         belfry_verdict verdict = check_body(book + entry.offset, entry.count);
         if (verdict.answer != BELFRY_TAKEN)
-            return (belfry_book){verdict.answer, i, verdict.index, 0};
+            return (belfry_book){{verdict.answer, i, verdict.index}, 0};
     }
-    return (belfry_book){BELFRY_TAKEN, 0, 0, lists};
+    return (belfry_book){verdict_of(BELFRY_TAKEN), lists};
 }
 
 belfry_book TWIN(book_check)(const uint8_t *book, size_t bytes)
@@ -382,15 +382,14 @@ belfry_book TWIN(book_check)(const uint8_t *book, size_t bytes)
 belfry_body TWIN(book_body)(const uint8_t *book, size_t bytes, uint32_t tag)
 {
     belfry_book b = check_book(book, bytes);
-    if (b.answer != BELFRY_TAKEN)
-        return (belfry_body){b.answer, b.list, b.index, 0, 0};
+    if (b.verdict.answer != BELFRY_TAKEN)
+        return (belfry_body){b.verdict, 0, 0};
     for (uint32_t i = 0; i < b.lists; i++) {
         struct entry entry = entry_at(book, i);
         if (entry.tag == tag)
-            return (belfry_body){BELFRY_TAKEN, 0, 0, entry.offset,
-                                 NODE_BYTES * (size_t)entry.count};
+            return (belfry_body){b.verdict, entry.offset, NODE_BYTES * (size_t)entry.count};
     }
-    return (belfry_body){BELFRY_ABSENT, 0, 0, 0, 0};
+    return (belfry_body){verdict_of(BELFRY_ABSENT), 0, 0};
 }
 
 #endif

@@ -1,6 +1,8 @@
-/* A terminal in a tractor's cab, which fetches the pairs of a field two at a time. It may be switched off between two pages, so it stores the
- * ticket's six words and nothing else. Meanwhile the office edits the lists: it inserts a zone, deletes a sample, and mistypes a zone's end, which
- * is refused and put right. When a page says done, every pair that stood all the while has been fetched, once. */
+/* A terminal in a tractor's cab, which fetches the pairs of a field two at a time. It may be
+ * switched off between two pages, so it stores the ticket's words and nothing else. Meanwhile the
+ * office edits the lists: it inserts a zone, deletes a sample, and mistypes a zone's end, which is
+ * refused and put right. When a page says done, every pair that stood all the while has been
+ * fetched, once. */
 #include <stdio.h>
 #include <string.h>
 
@@ -13,7 +15,7 @@ typedef struct {
     size_t length;
 } node_list;
 
-/* Makes room for a node at an index and puts it there. The caller sees to it that the list isn't full. */
+/* Inserts a node at an index. The caller makes sure that the list isn't full. */
 static void insert_node(node_list *list, size_t index, uint32_t document, uint32_t start, uint32_t end, uint32_t level) {
     const uint32_t node[BELFRY_NODE_WORDS] = {document, start, end, level};
     uint32_t *place = list->words + BELFRY_NODE_WORDS * index;
@@ -22,7 +24,7 @@ static void insert_node(node_list *list, size_t index, uint32_t document, uint32
     list->length += BELFRY_NODE_WORDS;
 }
 
-/* Moves up the nodes behind the one at an index, so that it is gone. */
+/* Deletes the node at an index. */
 static void delete_node(node_list *list, size_t index) {
     uint32_t *place = list->words + BELFRY_NODE_WORDS * index;
     list->length -= BELFRY_NODE_WORDS;
@@ -38,7 +40,8 @@ static void print_name(uint32_t answer) {
     printf("%.*s", letters, (const char *)name);
 }
 
-/* Fetches and prints the page after the stored ticket and stores the new one. After a refusal that is the old one again. */
+/* Fetches and prints the page after the stored ticket, and stores the new ticket. After a refusal
+ * that is the old one again. */
 static belfry_page fetch_page(const node_list *zones, const node_list *samples, uint32_t stored[BELFRY_TICKET_WORDS]) {
     uint32_t out[PAGE_PAIRS * BELFRY_PAIR_WORDS];
     belfry_ticket ticket;
@@ -47,7 +50,7 @@ static belfry_page fetch_page(const node_list *zones, const node_list *samples, 
     memcpy(stored, &page.ticket, sizeof page.ticket);
 
     printf("page: ");
-    print_name(page.answer);
+    print_name(page.verdict.answer);
     for (size_t i = 0; i < BELFRY_PAIR_WORDS * page.count; i += BELFRY_PAIR_WORDS)
         printf(", zone %u with sample %u", out[i + 1], out[i + BELFRY_NODE_WORDS + 1]);
     printf(page.done ? ", done\n" : "\n");
@@ -59,17 +62,20 @@ static void repair_end(node_list *zones, node_list *samples, uint32_t end) {
     belfry_part part = belfry_faulty(zones->words, zones->length, samples->words, samples->length);
     if (part.words == 0)
         return;
-    uint32_t *node = (part.list == BELFRY_ANCESTORS ? zones : samples)->words + part.from;
+    node_list *faulty = part.verdict.list == BELFRY_ANCESTORS ? zones : samples;
+    uint32_t *node = faulty->words + part.from;
     printf("repair: ");
-    print_name(part.answer);
-    printf(" in list %u at word %zu, from %u to %u; now to %u\n", part.list, part.from, node[1], node[2], end);
+    print_name(part.verdict.answer);
+    printf(" in list %u at word %zu, from %u to %u; now to %u\n", part.verdict.list, part.from, node[1], node[2], end);
     node[2] = end;
 }
 
 int main(void) {
     node_list zones = {{101, 20, 170, 2, 101, 60, 130, 3, 101, 180, 220, 2}, 12};
     node_list samples = {{101, 30, 50, 3, 101, 70, 90, 4, 101, 100, 120, 5, 101, 140, 160, 3, 101, 190, 200, 3, 101, 205, 215, 3}, 24};
-    uint32_t stored[BELFRY_TICKET_WORDS] = {BELFRY_INSIDE, BELFRY_DESCENDANT_ORDER, BELFRY_FRESH, 0, 0, 0};
+    const belfry_ticket fresh = BELFRY_TICKET(BELFRY_INSIDE, BELFRY_DESCENDANT_ORDER);
+    uint32_t stored[BELFRY_TICKET_WORDS];
+    memcpy(stored, &fresh, sizeof stored);
 
     fetch_page(&zones, &samples, stored);
     printf("edit: a zone from 95 to 125 is inserted\n");
@@ -80,12 +86,12 @@ int main(void) {
     fetch_page(&zones, &samples, stored);
     printf("edit: the zone at 180 is given the end 22\n");
     zones.words[3 * BELFRY_NODE_WORDS + 2] = 22;
-    if (fetch_page(&zones, &samples, stored).answer != BELFRY_TAKEN)
+    if (fetch_page(&zones, &samples, stored).verdict.answer != BELFRY_TAKEN)
         repair_end(&zones, &samples, 220);
 
     belfry_page page;
     do
         page = fetch_page(&zones, &samples, stored);
-    while (page.answer == BELFRY_TAKEN && !page.done);
+    while (page.verdict.answer == BELFRY_TAKEN && !page.done);
     return page.done ? 0 : 1;
 }

@@ -193,15 +193,14 @@ class Verdict:
 
 _word32 = ctypes.c_uint32
 _size = ctypes.c_size_t
-_VERDICT = [("answer", _word32), ("list", _word32), ("index", _word32)]
 
 
 class _Verdict(ctypes.Structure):
-    _fields_ = _VERDICT
+    _fields_ = [("answer", _word32), ("list", _word32), ("index", _word32)]
 
 
 class _Part(ctypes.Structure):
-    _fields_ = _VERDICT + [("start", _size), ("words", _size)]
+    _fields_ = [("verdict", _Verdict), ("start", _size), ("words", _size)]
 
 
 class _Ticket(ctypes.Structure):
@@ -209,11 +208,11 @@ class _Ticket(ctypes.Structure):
 
 
 class _Page(ctypes.Structure):
-    _fields_ = _VERDICT + [("done", _word32), ("count", _size), ("ticket", _Ticket)]
+    _fields_ = [("verdict", _Verdict), ("done", _word32), ("count", _size), ("ticket", _Ticket)]
 
 
 class _Written(ctypes.Structure):
-    _fields_ = _VERDICT + [("count", _size)]
+    _fields_ = [("verdict", _Verdict), ("count", _size)]
 
 
 class _Unnumbered(ctypes.Structure):
@@ -221,11 +220,11 @@ class _Unnumbered(ctypes.Structure):
 
 
 class _Book(ctypes.Structure):
-    _fields_ = _VERDICT + [("lists", _word32)]
+    _fields_ = [("verdict", _Verdict), ("lists", _word32)]
 
 
 class _Body(ctypes.Structure):
-    _fields_ = _VERDICT + [("start", _size), ("bytes", _size)]
+    _fields_ = [("verdict", _Verdict), ("start", _size), ("bytes", _size)]
 
 
 def _library_path() -> Path:
@@ -374,10 +373,10 @@ def _ticket_words(ticket: Ticket) -> Tuple[int, ...]:
     return tuple(_word(what, number) for what, number in zip(ticket._fields, ticket))
 
 
-def _settle(answer: int, list: int = 0, index: int = 0) -> None:
+def _settle(verdict: Union[Verdict, _Verdict]) -> None:
     """Raises a refusal."""
-    if answer != Answer.TAKEN:
-        raise Refused(answer, list, index)
+    if verdict.answer != Answer.TAKEN:
+        raise Refused(verdict.answer, verdict.list, verdict.index)
 
 
 def _fresh(what: str, buffer: Buffer, item_words: int, result_words: int) -> Words:
@@ -405,14 +404,12 @@ def verdict_two(ancestors: Buffer, descendants: Buffer) -> Verdict:
 
 def check(nodes: Buffer) -> None:
     """Raises `Refused` unless the list is accepted."""
-    found = verdict(nodes)
-    _settle(found.answer, found.list, found.index)
+    _settle(verdict(nodes))
 
 
 def check_two(ancestors: Buffer, descendants: Buffer) -> None:
     """Raises `Refused` unless both lists are accepted and agree."""
-    found = verdict_two(ancestors, descendants)
-    _settle(found.answer, found.list, found.index)
+    _settle(verdict_two(ancestors, descendants))
 
 
 def faulty(ancestors: Buffer, descendants: Buffer) -> memoryview:
@@ -424,7 +421,7 @@ def faulty(ancestors: Buffer, descendants: Buffer) -> memoryview:
         found = _faulty(zones.address, zones.length, samples.address, samples.length)
     if found.words == 0:
         return memoryview(array("I"))
-    return _part((ancestors, descendants)[found.list], _WORD_BYTES * found.start, _WORD_BYTES * found.words)
+    return _part((ancestors, descendants)[found.verdict.list], _WORD_BYTES * found.start, _WORD_BYTES * found.words)
 
 
 # Listing pairs.
@@ -439,7 +436,7 @@ def page(ancestors: Buffer, descendants: Buffer, ticket: Ticket, out: Buffer) ->
             _lent("out", out, _WORDS, writable=True) as room:
         _keep_apart(room, zones, samples)
         found = _list(zones.address, zones.length, samples.address, samples.length, given, room.address, room.length)
-    _settle(found.answer, found.list, found.index)
+    _settle(found.verdict)
     reached = Ticket(*(getattr(found.ticket, field) for field in Ticket._fields))
     return Page(found.count, found.done != 0, reached)
 
@@ -475,7 +472,7 @@ def number_into(document: int, marks: Buffer, out: Buffer) -> int:
     with _lent("marks", marks, _WORDS) as given, _lent("out", out, _WORDS, writable=True) as room:
         _keep_apart(room, given)
         found = _number(word, given.address, given.length, room.address, room.length)
-    _settle(found.answer, found.list, found.index)
+    _settle(found.verdict)
     return int(found.count)
 
 
@@ -491,7 +488,7 @@ def unnumber_into(table: Buffer, out: Buffer) -> Tuple[int, int]:
     with _lent("table", table, _WORDS) as given, _lent("out", out, _WORDS, writable=True) as room:
         _keep_apart(room, given)
         found = _unnumber(given.address, given.length, room.address, room.length)
-    _settle(found.answer)
+    _settle(_Verdict(found.answer))
     return found.document, found.count
 
 
@@ -509,7 +506,7 @@ def pick_into(table: Buffer, tag: int, out: Buffer) -> int:
     with _lent("table", table, _WORDS) as given, _lent("out", out, _WORDS, writable=True) as room:
         _keep_apart(room, given)
         found = _pick(given.address, given.length, word, room.address, room.length)
-    _settle(found.answer, found.list, found.index)
+    _settle(found.verdict)
     return int(found.count)
 
 
@@ -525,7 +522,7 @@ def links_into(nodes: Buffer, out: Buffer) -> int:
     with _lent("nodes", nodes, _WORDS) as given, _lent("out", out, _WORDS, writable=True) as room:
         _keep_apart(room, given)
         found = _links(given.address, given.length, room.address, room.length)
-    _settle(found.answer, found.list, found.index)
+    _settle(found.verdict)
     return int(found.count)
 
 
@@ -542,7 +539,7 @@ def book_check(book: Buffer) -> int:
     """How many lists a book has. Raises `Refused` unless it is a book; `list` is then the number of the faulty list in it."""
     with _lent("book", book, _BYTES) as given:
         found = _book_check(given.address, given.length)
-    _settle(found.answer, found.list, found.index)
+    _settle(found.verdict)
     return int(found.lists)
 
 
@@ -554,7 +551,7 @@ def book_body(book: Buffer, tag: int) -> memoryview:
     word = _word("tag", tag)
     with _lent("book", book, _BYTES) as given:
         found = _book_body(given.address, given.length, word)
-    _settle(found.answer, found.list, found.index)
+    _settle(found.verdict)
     return _part(book, found.start, found.bytes)
 
 
@@ -563,7 +560,7 @@ def book_write_into(entries: Buffer, nodes: Buffer, out: Buffer) -> int:
     with _lent("entries", entries, _WORDS) as wanted, _lent("nodes", nodes, _WORDS) as given, _lent("out", out, _BYTES, writable=True) as room:
         _keep_apart(room, wanted, given)
         found = _book_write(wanted.address, wanted.length, given.address, given.length, room.address, room.length)
-    _settle(found.answer, found.list, found.index)
+    _settle(found.verdict)
     return int(found.count)
 
 

@@ -1,5 +1,5 @@
-/* Calls each function on the farm of document 01 and holds every field of the answers, and every word of the outputs, against what has to be there.
- * Valid as C99 and as C++. Prints what differs. */
+/* Calls each function on the farm of document 01 and holds every field of the answers, and every
+ * word of the outputs, against what has to be there. Valid as C99 and as C++. Prints what differs. */
 #include <stdio.h>
 #include <string.h>
 
@@ -12,7 +12,7 @@ static const uint32_t marks[] = {1, 2, 2, 3, 65536, 0, 0, 3, 0, 0, 0};
 static const uint32_t table[] = {5, 1, 11, 1, 1, 5, 2, 10, 2, 2, 5, 3, 7, 3, 2, 5, 4, 6, 4, 3, 5, 5, 5, 5, 65536, 5, 8, 9, 3, 3};
 static const uint32_t zones[] = {5, 2, 10, 2, 5, 3, 7, 3};
 static const uint32_t samples[] = {5, 4, 6, 4, 5, 8, 9, 3};
-/* The samples in the wrong order, and a text behind them: the node at index 1 is at fault. */
+/* The samples in the wrong order, and a text after them: the node at index 1 is at fault. */
 static const uint32_t turned[] = {5, 8, 9, 3, 5, 4, 6, 4, 5, 5, 5, 5};
 
 static int differing;
@@ -24,14 +24,14 @@ static void expect(const char *what, size_t found, size_t wanted) {
     differing = 1;
 }
 
-static void expect_verdict(const char *what, const uint32_t found[3], uint32_t answer, uint32_t list, uint32_t index) {
+static void expect_verdict(const char *what, belfry_verdict found, uint32_t answer, uint32_t list, uint32_t index) {
     printf("%s\n", what);
-    expect("the answer", found[0], answer);
-    expect("the list", found[1], list);
-    expect("the index", found[2], index);
+    expect("the answer", found.answer, answer);
+    expect("the list", found.list, list);
+    expect("the index", found.index, index);
 }
 
-/* The first words of an output are the wanted ones and those behind them still painted. */
+/* The first words of an output are the wanted ones, and those after them are still painted. */
 static void expect_words(const uint32_t found[MOST], const uint32_t *wanted, size_t count) {
     uint32_t whole[MOST];
     memset(whole, PAINT, sizeof whole);
@@ -40,21 +40,15 @@ static void expect_words(const uint32_t found[MOST], const uint32_t *wanted, siz
         expect("a word of the output", found[i], whole[i]);
 }
 
-#define VERDICT(what, r, answer_wanted, list_wanted, index_wanted)               \
-    do {                                                                         \
-        const uint32_t found_[3] = {(r).answer, (r).list, (r).index};            \
-        expect_verdict(what, found_, answer_wanted, list_wanted, index_wanted);  \
-    } while (0)
-
 static void call_checks(void) {
     belfry_verdict one = belfry_check(turned, 12);
-    VERDICT("belfry_check", one, BELFRY_ORDER, 0, 1);
+    expect_verdict("belfry_check", one, BELFRY_ORDER, 0, 1);
 
     belfry_verdict two = belfry_check_two(zones, 8, turned, 12);
-    VERDICT("belfry_check_two", two, BELFRY_ORDER, BELFRY_DESCENDANTS, 1);
+    expect_verdict("belfry_check_two", two, BELFRY_ORDER, BELFRY_DESCENDANTS, 1);
 
     belfry_part part = belfry_faulty(zones, 8, turned, 12);
-    VERDICT("belfry_faulty", part, BELFRY_ORDER, BELFRY_DESCENDANTS, 1);
+    expect_verdict("belfry_faulty", part.verdict, BELFRY_ORDER, BELFRY_DESCENDANTS, 1);
     expect("from", part.from, 4);
     expect("words", part.words, 8);
 }
@@ -68,7 +62,8 @@ static void expect_ticket(belfry_ticket found, belfry_ticket wanted) {
     expect("second", found.second, wanted.second);
 }
 
-/* A page of two pairs in ancestor order, the last one, and a refused one. An order of 9 is ancestor order and comes back as 9. */
+/* A page of two pairs in ancestor order, the last one, and a refused one. An order of 9 is ancestor
+ * order and comes back as 9. */
 static void call_list(void) {
     const uint32_t first_pairs[] = {5, 2, 10, 2, 5, 4, 6, 4, 5, 2, 10, 2, 5, 8, 9, 3}, last_pair[] = {5, 3, 7, 3, 5, 4, 6, 4};
     const belfry_ticket fresh = {BELFRY_INSIDE, 9, BELFRY_FRESH, 71, 72, 73};
@@ -77,7 +72,7 @@ static void call_list(void) {
 
     memset(out, PAINT, sizeof out);
     belfry_page page = belfry_list(zones, 8, samples, 8, fresh, out, 2 * BELFRY_PAIR_WORDS);
-    VERDICT("belfry_list", page, BELFRY_TAKEN, 0, 0);
+    expect_verdict("belfry_list", page.verdict, BELFRY_TAKEN, 0, 0);
     expect("done", page.done, 0);
     expect("count", page.count, 2);
     expect_ticket(page.ticket, after_two);
@@ -85,7 +80,7 @@ static void call_list(void) {
 
     memset(out, PAINT, sizeof out);
     page = belfry_list(zones, 8, samples, 8, page.ticket, out, 2 * BELFRY_PAIR_WORDS);
-    VERDICT("belfry_list, the last page", page, BELFRY_TAKEN, 0, 0);
+    expect_verdict("belfry_list, the last page", page.verdict, BELFRY_TAKEN, 0, 0);
     expect("done", page.done, 1);
     expect("count", page.count, 1);
     expect_ticket(page.ticket, after_all);
@@ -93,18 +88,25 @@ static void call_list(void) {
 
     memset(out, PAINT, sizeof out);
     page = belfry_list(zones, 8, turned, 12, fresh, out, 2 * BELFRY_PAIR_WORDS);
-    VERDICT("belfry_list, refused", page, BELFRY_ORDER, BELFRY_DESCENDANTS, 1);
+    expect_verdict("belfry_list, refused", page.verdict, BELFRY_ORDER, BELFRY_DESCENDANTS, 1);
     expect("done", page.done, 0);
     expect("count", page.count, 0);
     expect_ticket(page.ticket, fresh);
     expect_words(out, out, 0);
 }
 
+/* The macro makes a ticket with the relation and the order asked for, which is fresh. */
+static void make_ticket(void) {
+    const belfry_ticket fresh = {BELFRY_DIRECTLY, BELFRY_ANCESTOR_ORDER, BELFRY_FRESH, 0, 0, 0};
+    printf("BELFRY_TICKET\n");
+    expect_ticket(BELFRY_TICKET(BELFRY_DIRECTLY, BELFRY_ANCESTOR_ORDER), fresh);
+}
+
 static void call_tables(void) {
     uint32_t out[MOST];
     memset(out, PAINT, sizeof out);
     belfry_result rows = belfry_number(5, marks, 11, out, MOST);
-    VERDICT("belfry_number", rows, BELFRY_TAKEN, 0, 0);
+    expect_verdict("belfry_number", rows.verdict, BELFRY_TAKEN, 0, 0);
     expect("count", rows.count, 6);
     expect_words(out, table, 30);
 
@@ -118,7 +120,7 @@ static void call_tables(void) {
 
     memset(out, PAINT, sizeof out);
     belfry_result picked = belfry_pick(table, 30, 2, out, MOST);
-    VERDICT("belfry_pick", picked, BELFRY_TAKEN, 0, 0);
+    expect_verdict("belfry_pick", picked.verdict, BELFRY_TAKEN, 0, 0);
     expect("count", picked.count, 2);
     expect_words(out, zones, 8);
 }
@@ -128,13 +130,13 @@ static void call_links(void) {
     uint32_t out[MOST];
     memset(out, PAINT, sizeof out);
     belfry_result linked = belfry_links(zones, 8, out, MOST);
-    VERDICT("belfry_links", linked, BELFRY_TAKEN, 0, 0);
+    expect_verdict("belfry_links", linked.verdict, BELFRY_TAKEN, 0, 0);
     expect("count", linked.count, 2);
     expect_words(out, links, 6);
 
     memset(out, PAINT, sizeof out);
     linked = belfry_links(turned, 12, out, MOST);
-    VERDICT("belfry_links, refused", linked, BELFRY_ORDER, 0, 1);
+    expect_verdict("belfry_links, refused", linked.verdict, BELFRY_ORDER, 0, 1);
     expect("count", linked.count, 0);
     expect_words(out, out, 0);
 }
@@ -151,19 +153,19 @@ static void call_book(void) {
     uint8_t book[BELFRY_BOOK_BYTES(2, 4) + 1];
     memset(book, PAINT, sizeof book);
     belfry_result written = belfry_book_write(entries, 4, nodes, 16, book, sizeof book);
-    VERDICT("belfry_book_write", written, BELFRY_TAKEN, 0, 0);
+    expect_verdict("belfry_book_write", written.verdict, BELFRY_TAKEN, 0, 0);
     expect("count", written.count, 92);
     expect("the size of the book", BELFRY_BOOK_BYTES(2, 4), 92);
     for (size_t i = 0; i < 23; i++)
         expect("a number of the book", number_at(book, i), numbers[i]);
-    expect("the byte behind the book", book[92], PAINT);
+    expect("the byte after the book", book[92], PAINT);
 
     belfry_book opened = belfry_book_check(book, 92);
-    VERDICT("belfry_book_check", opened, BELFRY_TAKEN, 0, 0);
+    expect_verdict("belfry_book_check", opened.verdict, BELFRY_TAKEN, 0, 0);
     expect("lists", opened.lists, 2);
 
     belfry_body body = belfry_book_body(book, 92, 3);
-    VERDICT("belfry_book_body", body, BELFRY_TAKEN, 0, 0);
+    expect_verdict("belfry_book_body", body.verdict, BELFRY_TAKEN, 0, 0);
     expect("from", body.from, 60);
     expect("bytes", body.bytes, 32);
 }
@@ -176,11 +178,11 @@ static void call_faulty_book(void) {
     book[60 + 16 + 4] = 4;
 
     belfry_book refused = belfry_book_check(book, 92);
-    VERDICT("belfry_book_check, refused", refused, BELFRY_ORDER, 1, 1);
+    expect_verdict("belfry_book_check, refused", refused.verdict, BELFRY_ORDER, 1, 1);
     expect("lists", refused.lists, 0);
 
     belfry_body nowhere = belfry_book_body(book, 92, 3);
-    VERDICT("belfry_book_body, refused", nowhere, BELFRY_ORDER, 1, 1);
+    expect_verdict("belfry_book_body, refused", nowhere.verdict, BELFRY_ORDER, 1, 1);
     expect("from", nowhere.from, 0);
     expect("bytes", nowhere.bytes, 0);
 }
@@ -192,11 +194,12 @@ static void call_name(void) {
     printf("belfry_name\n");
     for (size_t i = 0; i < BELFRY_NAME_BYTES; i++)
         expect("a byte of the name", name[i], (uint8_t)"ABSENT  "[i]);
-    expect("the byte behind the name", name[BELFRY_NAME_BYTES], PAINT);
+    expect("the byte after the name", name[BELFRY_NAME_BYTES], PAINT);
 }
 
 int main(void) {
     call_checks();
+    make_ticket();
     call_list();
     call_tables();
     call_links();

@@ -692,9 +692,9 @@ class AgainstTheModel(unittest.TestCase):
 
 class TheModule(unittest.TestCase):
     def test_layouts_are_those_of_the_archive(self):
-        verdict = [("answer", 0), ("list", 4), ("index", 8)]
+        verdict = [("verdict", 0)]
         for struct_, size, fields in (
-            (belfry._Verdict, 12, verdict),
+            (belfry._Verdict, 12, [("answer", 0), ("list", 4), ("index", 8)]),
             (belfry._Part, 32, verdict + [("start", 16), ("words", 24)]),
             (belfry._Ticket, 24, [("relation", 0), ("order", 4), ("placed", 8), ("document", 12), ("first", 16), ("second", 20)]),
             (belfry._Page, 48, verdict + [("done", 12), ("count", 16), ("ticket", 24)]),

@@ -1,4 +1,5 @@
-//! Each call of the C interface, held against the model: all fields of what it answers and every word of the output. The answer is handed back.
+//! Each call of the C interface, held against the model: all fields of what it answers and every
+//! word of the output. Each function returns the answer.
 
 use crate::model::answers::{row, Answer, Verdict, Written};
 use crate::model::pages::{Order, Relation, Ticket};
@@ -6,13 +7,16 @@ use crate::model::{books, links, lists, marks, pages};
 use crate::paint::hold;
 use belfrychest::raw;
 
-fn raw_verdict(verdict: Verdict) -> raw::Verdict {
+/// The verdict of a call that is taken.
+pub const TAKEN: raw::Verdict = raw::Verdict { answer: 0, list: 0, index: 0 };
+
+/// The verdict of the model in the numbers of the C interface.
+pub fn raw_verdict(verdict: Verdict) -> raw::Verdict {
     raw::Verdict { answer: verdict.answer as u32, list: verdict.list, index: verdict.index }
 }
 
 fn raw_written<T>(written: &Written<T>) -> raw::Written {
-    let Verdict { answer, list, index } = written.verdict;
-    raw::Written { answer: answer as u32, list, index, count: written.count }
+    raw::Written { verdict: raw_verdict(written.verdict), count: written.count }
 }
 
 pub fn check(list: &[u32]) -> Answer {
@@ -28,10 +32,10 @@ pub fn check_two(ancestors: &[u32], descendants: &[u32]) -> Answer {
 }
 
 pub fn faulty(ancestors: &[u32], descendants: &[u32]) -> Answer {
-    let lists::Part { verdict: Verdict { answer, list, index }, from, words } = lists::faulty(ancestors, descendants);
-    let expected = raw::Part { answer: answer as u32, list, index, from, words };
+    let lists::Part { verdict, from, words } = lists::faulty(ancestors, descendants);
+    let expected = raw::Part { verdict: raw_verdict(verdict), from, words };
     assert_eq!(raw::faulty(ancestors, descendants), expected, "given and expected: faulty part of {ancestors:?} and {descendants:?}");
-    answer
+    verdict.answer
 }
 
 /// What the words of a ticket mean.
@@ -54,11 +58,10 @@ fn ticket_after(ticket: raw::Ticket, page: &pages::Page) -> raw::Ticket {
 pub fn list(ancestors: &[u32], descendants: &[u32], ticket: raw::Ticket, out: &mut [u32]) -> Answer {
     let page = pages::page(ancestors, descendants, &meaning(&ticket), out.len());
     let words = page.pairs.iter().map(pages::Pair::words).collect::<Vec<_>>().concat();
-    let Verdict { answer, list, index } = page.verdict;
     let after = ticket_after(ticket, &page);
-    let expected = raw::Page { answer: answer as u32, list, index, done: page.done.into(), count: page.pairs.len(), ticket: after };
+    let expected = raw::Page { verdict: raw_verdict(page.verdict), done: page.done.into(), count: page.pairs.len(), ticket: after };
     hold(&("page", ancestors, descendants, ticket), out, &words, expected, |out| raw::list(ancestors, descendants, ticket, out));
-    answer
+    page.verdict.answer
 }
 
 pub fn number(document: u32, marks: &[u32], out: &mut [u32]) -> Answer {
@@ -87,17 +90,17 @@ pub fn links(list: &[u32], out: &mut [u32]) -> Answer {
 }
 
 pub fn book_check(book: &[u8]) -> Answer {
-    let books::Opened { verdict: Verdict { answer, list, index }, entries } = books::check(book);
-    let expected = raw::Book { answer: answer as u32, list, index, lists: entries.len() as u32 };
+    let books::Opened { verdict, entries } = books::check(book);
+    let expected = raw::Book { verdict: raw_verdict(verdict), lists: entries.len() as u32 };
     assert_eq!(raw::book_check(book), expected, "given and expected: check of the book {book:?}");
-    answer
+    verdict.answer
 }
 
 pub fn book_body(book: &[u8], tag: u32) -> Answer {
-    let books::Body { verdict: Verdict { answer, list, index }, from, bytes } = books::body(book, tag);
-    let expected = raw::Body { answer: answer as u32, list, index, from, bytes };
+    let books::Body { verdict, from, bytes } = books::body(book, tag);
+    let expected = raw::Body { verdict: raw_verdict(verdict), from, bytes };
     assert_eq!(raw::book_body(book, tag), expected, "given and expected: tag {tag} in the book {book:?}");
-    answer
+    verdict.answer
 }
 
 pub fn book_write(entries: &[u32], nodes: &[u32], out: &mut [u8]) -> Answer {

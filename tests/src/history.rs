@@ -62,7 +62,7 @@ impl History {
         let mut out = vec![coat; room];
         let page = raw::list(ancestors, descendants, self.ticket, &mut out);
         assert!(out[PAIR_WORDS * page.count..].iter().all(|&word| word == coat), "altered after {} pairs", page.count);
-        if page.answer != 0 {
+        if page.verdict.answer != 0 {
             assert_eq!((page.count, page.done, page.ticket), (0, 0, self.ticket), "a refused call");
             self.refused += 1;
             return page;

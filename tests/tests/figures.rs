@@ -1,7 +1,7 @@
 //! The figures of document 01, word for word, of the library and of the model alike.
 
 use belfrychest::raw::{self, Ticket};
-use outside::asking;
+use outside::asking::{self, TAKEN};
 use outside::making::marks::FIGURE;
 use outside::making::tickets::FRESH;
 use outside::model::answers::Answer::{self, *};
@@ -36,7 +36,7 @@ fn page(ancestors: &[u32], descendants: &[u32], ticket: Ticket, room: usize) -> 
     let mut out = vec![0; room * PAIR_WORDS];
     asking::list(ancestors, descendants, ticket, &mut out);
     let page = raw::list(ancestors, descendants, ticket, &mut out);
-    assert_eq!(page.answer, Taken as u32);
+    assert_eq!(page.verdict.answer, Taken as u32);
     let starts = out.chunks(PAIR_WORDS).take(page.count).map(|pair| [pair[1], pair[NODE_WORDS + 1]]).collect();
     (starts, page.done == 1, page.ticket)
 }
@@ -102,7 +102,7 @@ fn book_of_zones_and_samples() {
     assert_eq!(book, BOOK);
     for (tag, from) in [(2, 28), (3, 60)] {
         assert_eq!(asking::book_body(BOOK, tag), Taken);
-        assert_eq!(raw::book_body(BOOK, tag), raw::Body { answer: 0, list: 0, index: 0, from, bytes: 32 });
+        assert_eq!(raw::book_body(BOOK, tag), raw::Body { verdict: TAKEN, from, bytes: 32 });
     }
     assert_eq!(printed(BOOK), "5 2 4\n5 3 4\n5 2 8\npairs 3\n");
     assert_eq!(printed(b""), "refused 15 CONTENTS\n");

@@ -76,7 +76,7 @@ fn follow(random: &mut Random, first_ticket: impl Fn(Ticket) -> Ticket) -> Histo
     for _ in 0..random.pick(&[0, 1, 4, 14]) {
         let next = edited(random, &lists, &all);
         let room = PAIR_WORDS * random.pick(&[0, 1, 1, 1, 2, 4]) + random.below(PAIR_WORDS);
-        if call(&mut history, &next, room).answer == 0 {
+        if call(&mut history, &next, room).verdict.answer == 0 {
             lists = next;
         }
         if random.one_in(4) {
@@ -86,7 +86,7 @@ fn follow(random: &mut Random, first_ticket: impl Fn(Ticket) -> Ticket) -> Histo
     }
     let enough = PAIR_WORDS * (lists.ancestors.len() * lists.descendants.len() + 1);
     let last = call(&mut history, &lists, enough);
-    assert_eq!((last.answer, last.done), (0, 1), "accepted lists, and room for all their pairs");
+    assert_eq!((last.verdict.answer, last.done), (0, 1), "accepted lists, and room for all their pairs");
     history
 }
 

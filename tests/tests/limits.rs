@@ -1,13 +1,13 @@
 //! Both sides of every limit. What is too large for the model, which tries all pairs, is known from how the case is put together.
 
 use belfrychest::raw::{self, Ticket};
-use outside::asking;
+use outside::asking::{self, raw_verdict, TAKEN};
 use outside::making::books::parts;
 use outside::making::lists::{nest, texts};
 use outside::making::marks::FIGURE;
 use outside::making::tickets::FRESH;
 use outside::model::answers::Answer::{self, *};
-use outside::model::answers::{ANCESTORS, DESCENDANTS};
+use outside::model::answers::{Verdict, ANCESTORS, DESCENDANTS};
 use outside::model::books::{self, bytes, contents_end, MOST_LISTS, NODE_BYTES, NUMBER_BYTES};
 use outside::model::links::{LINK_WORDS, NONE};
 use outside::model::lists::MOST_LEVEL;
@@ -32,7 +32,7 @@ fn fives(words: usize) -> Vec<u32> {
 }
 
 fn refused(answer: Answer) -> raw::Written {
-    raw::Written { answer: answer as u32, list: 0, index: 0, count: 0 }
+    raw::Written { verdict: raw_verdict(Verdict::of(answer)), count: 0 }
 }
 
 /// Fails unless every call refuses these words as a list, alone and as either of two.
@@ -43,9 +43,9 @@ fn draws(list: &[u32], answer: Answer) {
     hold(&answer, &mut [0; 12], &[], refused(answer), |out| raw::links(list, out));
     for (ancestors, descendants, number) in [(list, &other[..], ANCESTORS), (&other, list, DESCENDANTS), (list, list, ANCESTORS)] {
         assert_eq!(raw::check_two(ancestors, descendants), verdict(number));
-        let part = raw::Part { answer: answer as u32, list: number, index: 0, from: 0, words: 0 };
+        let part = raw::Part { verdict: verdict(number), from: 0, words: 0 };
         assert_eq!(raw::faulty(ancestors, descendants), part);
-        let page = raw::Page { answer: answer as u32, list: number, index: 0, done: 0, count: 0, ticket: FRESH };
+        let page = raw::Page { verdict: verdict(number), done: 0, count: 0, ticket: FRESH };
         hold(&answer, &mut [0; 12], &[], page, |out| raw::list(ancestors, descendants, FRESH, out));
     }
 }
@@ -53,9 +53,8 @@ fn draws(list: &[u32], answer: Answer) {
 #[test]
 fn nodes_of_a_list() {
     let longest = words(&texts(MOST));
-    let taken = raw::Verdict { answer: Taken as u32, list: 0, index: 0 };
-    assert_eq!(raw::check(&longest), taken);
-    assert_eq!(raw::check_two(&longest, &longest), taken);
+    assert_eq!(raw::check(&longest), TAKEN);
+    assert_eq!(raw::check_two(&longest, &longest), TAKEN);
     draws(&words(&texts(MOST + 1)), Long);
     draws(&fives(NODE_WORDS * (MOST + 1)), Long);
     draws(&fives(NODE_WORDS * MOST + 1), Ragged);
@@ -95,7 +94,7 @@ fn pairs_of_the_deepest_nest_with_the_longest_list() {
         let expected = all_pairs(&zones, &texts, order);
         let given = Ticket { order, ..FRESH };
         let ticket = Ticket { placed: 1, document: 5, first, second, ..given };
-        let page = raw::Page { answer: 0, list: 0, index: 0, done: 1, count, ticket };
+        let page = raw::Page { verdict: TAKEN, done: 1, count, ticket };
         hold(&order, &mut vec![0; expected.len()], &expected, page, |out| raw::list(&ancestors, &descendants, given, out));
         let mut one_less = vec![0; expected.len() - 1];
         let page = raw::list(&ancestors, &descendants, given, &mut one_less);
@@ -252,8 +251,8 @@ fn nodes_of_a_book() {
     let book = bytes(&lists);
     let size = contents_end(MOST_LISTS) + MOST_LISTS * MOST * NODE_BYTES;
     assert_eq!(book.len(), size);
-    assert_eq!(raw::book_check(&book), raw::Book { answer: 0, list: 0, index: 0, lists: MOST_LISTS as u32 });
-    let last = raw::Body { answer: 0, list: 0, index: 0, from: size - MOST * NODE_BYTES, bytes: MOST * NODE_BYTES };
+    assert_eq!(raw::book_check(&book), raw::Book { verdict: TAKEN, lists: MOST_LISTS as u32 });
+    let last = raw::Body { verdict: TAKEN, from: size - MOST * NODE_BYTES, bytes: MOST * NODE_BYTES };
     assert_eq!(raw::book_body(&book, MOST_LISTS as u32 - 1), last);
     let (entries, nodes) = parts(&lists);
     let taken = raw::Written { count: size, ..refused(Taken) };

@@ -1,7 +1,7 @@
 //! Every refusal, at every place where it can be drawn. What must be answered is known from how each case is put together.
 
 use belfrychest::raw::{self, Ticket};
-use outside::asking;
+use outside::asking::{self, raw_verdict};
 use outside::making::books::parts;
 use outside::making::marks::FIGURE;
 use outside::making::tickets::FRESH;
@@ -75,13 +75,12 @@ fn each_fault_anywhere(test: impl Fn(&[Node], Answer, usize)) {
 /// Fails unless all calls of two lists refuse these with this verdict, show the part at the faulty node, give the ticket back and write nothing.
 fn refuses_two(ancestors: &[Node], descendants: &[Node], verdict: Verdict, part: [usize; 2]) {
     let (ancestors, descendants) = (words(ancestors), words(descendants));
-    let Verdict { answer, list, index } = verdict;
-    let answer = answer as u32;
-    assert_eq!(raw::check_two(&ancestors, &descendants), raw::Verdict { answer, list, index });
-    assert_eq!(raw::faulty(&ancestors, &descendants), raw::Part { answer, list, index, from: part[0], words: part[1] });
+    let expected = raw_verdict(verdict);
+    assert_eq!(raw::check_two(&ancestors, &descendants), expected);
+    assert_eq!(raw::faulty(&ancestors, &descendants), raw::Part { verdict: expected, from: part[0], words: part[1] });
     let odd = Ticket { relation: 7, order: u32::MAX, placed: 3, document: 5, first: 20, second: 10 };
     for ticket in [FRESH, odd, Ticket { order: 1, ..FRESH }, Ticket { placed: 1, ..FRESH }] {
-        let page = raw::Page { answer, list, index, done: 0, count: 0, ticket };
+        let page = raw::Page { verdict: expected, done: 0, count: 0, ticket };
         hold(&verdict, &mut [0; ROOM], &[], page, |out| raw::list(&ancestors, &descendants, ticket, out));
     }
 }
@@ -89,9 +88,10 @@ fn refuses_two(ancestors: &[Node], descendants: &[Node], verdict: Verdict, part:
 #[test]
 fn one_list() {
     each_fault_anywhere(|list, answer, index| {
-        let (list, answer, index) = (words(list), answer as u32, index as u32);
-        assert_eq!(raw::check(&list), raw::Verdict { answer, list: 0, index });
-        let refused = raw::Written { answer, list: 0, index, count: 0 };
+        let list = words(list);
+        let verdict = raw::Verdict { answer: answer as u32, list: 0, index: index as u32 };
+        assert_eq!(raw::check(&list), verdict);
+        let refused = raw::Written { verdict, count: 0 };
         hold(&refused, &mut [0; ROOM], &[], refused, |out| raw::links(&list, out));
     });
 }
@@ -122,14 +122,13 @@ fn any_list_of_a_book() {
 /// Fails unless a book of these lists is refused with this verdict when it is opened, when any tag is looked for in it, and when it is to be written.
 fn refuses_book(lists: &[Tagged], verdict: Verdict) {
     let book = bytes(lists);
-    let Verdict { answer, list, index } = verdict;
-    let answer = answer as u32;
-    assert_eq!(raw::book_check(&book), raw::Book { answer, list, index, lists: 0 });
+    let expected = raw_verdict(verdict);
+    assert_eq!(raw::book_check(&book), raw::Book { verdict: expected, lists: 0 });
     for tag in 0..=lists.len() as u32 {
-        assert_eq!(raw::book_body(&book, tag), raw::Body { answer, list, index, from: 0, bytes: 0 });
+        assert_eq!(raw::book_body(&book, tag), raw::Body { verdict: expected, from: 0, bytes: 0 });
     }
     let (entries, nodes) = parts(lists);
-    let refused = raw::Written { answer, list, index, count: 0 };
+    let refused = raw::Written { verdict: expected, count: 0 };
     hold(&verdict, &mut vec![0; book.len()], &[], refused, |out| raw::book_write(&entries, &nodes, out));
 }
 
@@ -150,7 +149,7 @@ fn two_lists_at_odds() {
 
 /// Fails unless the marks draw this answer, whatever the room.
 fn draws(marks: &[u32], answer: Answer) {
-    let refused = raw::Written { answer: answer as u32, list: 0, index: 0, count: 0 };
+    let refused = raw::Written { verdict: raw_verdict(Verdict::of(answer)), count: 0 };
     for room in [0, 1_000] {
         hold(&marks, &mut vec![0; room], &[], refused, |out| raw::number(5, marks, out));
     }

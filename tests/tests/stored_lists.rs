@@ -20,10 +20,10 @@ fn one(list: &[u32]) -> String {
 /// Returns the line of two lists, which both calls of two lists must agree on.
 fn two(ancestors: &[u32], descendants: &[u32]) -> String {
     asking::faulty(ancestors, descendants);
-    let raw::Part { answer, list, index, from, words } = raw::faulty(ancestors, descendants);
+    let raw::Part { verdict: found, from, words } = raw::faulty(ancestors, descendants);
     let checked = raw::check_two(ancestors, descendants);
-    assert_eq!(checked, raw::Verdict { answer, list, index }, "given by belfry_check_two and by belfry_faulty");
-    let faulty = [ancestors, descendants][list as usize];
+    assert_eq!(checked, found, "given by belfry_check_two and by belfry_faulty");
+    let faulty = [ancestors, descendants][found.list as usize];
     format!("{}, part of {words} words{}", verdict(checked), listed(&faulty[from..from + words]))
 }
 

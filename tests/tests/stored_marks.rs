@@ -28,13 +28,13 @@ fn number(document: u32, marks: &[u32], room: usize) -> String {
     asking::number(document, marks, &mut out);
     let written = raw::number(document, marks, &mut out);
     let rows = &out[..ROW_WORDS * written.count];
-    if written.answer == Taken as u32 {
+    if written.verdict.answer == Taken as u32 {
         let mut back = vec![0; marks.len()];
         assert_eq!(asking::unnumber(rows, &mut back), Taken, "the way back");
         assert_eq!(raw::unnumber(rows, &mut back).document, document, "the way back");
         assert_eq!(back, marks, "the way back");
     }
-    format!("{}, rows {}:{}", answer(written.answer), written.count, shown(rows))
+    format!("{}, rows {}:{}", answer(written.verdict.answer), written.count, shown(rows))
 }
 
 /// Returns the line of a table that is turned back. Taken, its marks number to the same table.
@@ -55,14 +55,15 @@ fn pick(tag: u32, table: &[u32], room: usize) -> String {
     let mut out = vec![0; room];
     asking::pick(table, tag, &mut out);
     let written = raw::pick(table, tag, &mut out);
-    format!("{}, nodes {}:{}", answer(written.answer), written.count, shown(&out[..NODE_WORDS * written.count]))
+    format!("{}, nodes {}:{}", answer(written.verdict.answer), written.count, shown(&out[..NODE_WORDS * written.count]))
 }
 
 fn links(list: &[u32], room: usize) -> String {
     let mut out = vec![0; room];
     asking::links(list, &mut out);
-    let raw::Written { answer: number, list: named, index, count } = raw::links(list, &mut out);
-    format!("{} list {named} index {index}, links {count}:{}", answer(number), shown(&out[..LINK_WORDS * count]))
+    let raw::Written { verdict, count } = raw::links(list, &mut out);
+    let named = format!("{} list {} index {}", answer(verdict.answer), verdict.list, verdict.index);
+    format!("{named}, links {count}:{}", shown(&out[..LINK_WORDS * count]))
 }
 
 /// Returns a letter for what a table with one word changed draws, or "=" if the change leaves it.

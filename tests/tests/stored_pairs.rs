@@ -64,7 +64,7 @@ fn call(history: &mut History, text: &str) -> String {
     let page = history.call(&ancestors, &descendants, room);
     let pairs = &history.handed_out[history.handed_out.len() - page.count..];
     let done = if page.done == 1 { "done" } else { "not done" };
-    let verdict = format!("answer {} list {} index {}", page.answer, page.list, page.index);
+    let verdict = format!("answer {} list {} index {}", page.verdict.answer, page.verdict.list, page.verdict.index);
     format!("{verdict}, pairs {}{}, {done}, ticket {}", page.count, shown(pairs), described(&page.ticket))
 }
 

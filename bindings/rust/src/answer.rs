@@ -133,11 +133,16 @@ impl fmt::Display for Refusal {
 
 impl Error for Refusal {}
 
-/// What the archive's three numbers say: the call was taken, or the refusal.
-pub(crate) fn settle(answer: u32, list: u32, index: u32) -> Result<(), Refusal> {
-    let answer = Answer::from_number(answer).expect("the archive answers with a number of the table");
+/// Returns the verdict's refusal as an error, or nothing if the call was taken.
+pub(crate) fn settle(verdict: raw::Verdict) -> Result<(), Refusal> {
+    let answer = Answer::from_number(verdict.answer).expect("the archive answers with a number of the table");
     if answer == Answer::Taken {
         return Ok(());
     }
-    Err(Refusal { answer, list: list as usize, index: index as usize })
+    Err(Refusal { answer, list: verdict.list as usize, index: verdict.index as usize })
+}
+
+/// Does what [`settle`] does, for an answer that names no node.
+pub(crate) fn settle_without_node(answer: u32) -> Result<(), Refusal> {
+    settle(raw::Verdict { answer, list: 0, index: 0 })
 }

@@ -8,14 +8,14 @@ use crate::raw;
 /// and the node's index in that list.
 pub fn book_check(book: &[u8]) -> Result<usize, Refusal> {
     let opened = raw::book_check(book);
-    settle(opened.answer, opened.list, opened.index)?;
+    settle(opened.verdict)?;
     Ok(opened.lists as usize)
 }
 
 /// The body of a tag's list, which is a part of the lent book itself. Refused as [`book_check`] is, then with ABSENT.
 pub fn book_body(book: &[u8], tag: u32) -> Result<&[u8], Refusal> {
     let body = raw::book_body(book, tag);
-    settle(body.answer, body.list, body.index)?;
+    settle(body.verdict)?;
     Ok(&book[body.from..body.from + body.bytes])
 }
 
@@ -33,6 +33,6 @@ pub fn book_bytes(lists: usize, nodes: usize) -> usize {
 /// bytes it takes. Refused with RAGGED, CONTENTS, then LEVEL to DEPTH as [`book_check`] is, then ROOM.
 pub fn book_write(entries: &[u32], nodes: &[u32], out: &mut [u8]) -> Result<usize, Refusal> {
     let written = raw::book_write(entries, nodes, out);
-    settle(written.answer, written.list, written.index)?;
+    settle(written.verdict)?;
     Ok(written.count)
 }

@@ -6,14 +6,12 @@ use crate::raw;
 
 /// Checks one list: RAGGED, LONG, then LEVEL to DEPTH from the first node at which one applies, with its index.
 pub fn check(list: &[u32]) -> Result<(), Refusal> {
-    let verdict = raw::check(list);
-    settle(verdict.answer, verdict.list, verdict.index)
+    settle(raw::check(list))
 }
 
 /// Checks two lists that are to be joined: the ancestors as [`check`] does, then the descendants, then JOINT.
 pub fn check_two(ancestors: &[u32], descendants: &[u32]) -> Result<(), Refusal> {
-    let verdict = raw::check_two(ancestors, descendants);
-    settle(verdict.answer, verdict.list, verdict.index)
+    settle(raw::check_two(ancestors, descendants))
 }
 
 /// What is wrong with two lists, and where.
@@ -28,7 +26,7 @@ pub struct Fault<'a> {
 /// Checks two lists as [`check_two`] does and shows the part to repair, which is a part of the lent list itself; none where both are taken.
 pub fn faulty<'a>(ancestors: &'a [u32], descendants: &'a [u32]) -> Option<Fault<'a>> {
     let part = raw::faulty(ancestors, descendants);
-    let refusal = settle(part.answer, part.list, part.index).err()?;
+    let refusal = settle(part.verdict).err()?;
     let list = if refusal.list == DESCENDANTS { descendants } else { ancestors };
     Some(Fault { refusal, part: &list[part.from..part.from + part.words] })
 }
@@ -37,6 +35,6 @@ pub fn faulty<'a>(ancestors: &'a [u32], descendants: &'a [u32]) -> Option<Fault<
 /// [`crate::NONE`], and says for how many nodes. Refused as [`check`] is, then with ROOM.
 pub fn links(list: &[u32], out: &mut [u32]) -> Result<usize, Refusal> {
     let written = raw::links(list, out);
-    settle(written.answer, written.list, written.index)?;
+    settle(written.verdict)?;
     Ok(written.count)
 }

@@ -28,6 +28,6 @@ impl Page {
 /// [`crate::check_two`] is; the caller's ticket then goes on being the one to use.
 pub fn next_page(ancestors: &[u32], descendants: &[u32], ticket: Ticket, out: &mut [u32]) -> Result<Page, Refusal> {
     let page = raw::list(ancestors, descendants, ticket.into(), out);
-    settle(page.answer, page.list, page.index)?;
+    settle(page.verdict)?;
     Ok(Page { count: page.count, done: page.done != 0, ticket: page.ticket.into() })
 }

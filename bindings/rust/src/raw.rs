@@ -1,11 +1,14 @@
-//! The C interface as it is: its structs, and each of its functions over slices. `bindings/c/belfrychest.h` says what each field holds and
-//! what each call reads, writes and answers.
+//! The C interface as it is: its structs, and each of its functions over slices.
+//! `bindings/c/belfrychest.h` says what each field holds and what each call reads, writes and
+//! answers.
 //!
-//! All that is unsafe in this crate is here, and it is sound for one reason throughout. A slice is handed over as its address and its length: the
-//! address is never null and is aligned, also for an empty slice; the archive reads and writes no more than the length says and keeps no address;
-//! and an output that is lent mutably overlaps nothing else that is lent.
+//! All unsafe code of this crate is here, and it is sound for one reason throughout. A slice is
+//! passed as its address and its length: the address is never null and is aligned, even for an empty
+//! slice; the archive reads and writes no more than the length says and keeps no address; and an
+//! output that is lent mutably overlaps nothing else that is lent.
 
-/// The answer of a check: its number, the list that it names, and the index of the faulty node there, or 0.
+/// The answer of a check: its number, the list that it names, and the index of the faulty node in
+/// that list, or 0.
 #[repr(C)]
 #[derive(Clone, Copy, Debug, PartialEq, Eq)]
 pub struct Verdict {
@@ -14,13 +17,12 @@ pub struct Verdict {
     pub index: u32,
 }
 
-/// The answer of a check, and the part of the named list that starts at the faulty node, in words; 0 and 0 when it is empty.
+/// The verdict on two lists, and the part of the list at fault that starts at the faulty node, in
+/// words; 0 and 0 when it is empty.
 #[repr(C)]
 #[derive(Clone, Copy, Debug, PartialEq, Eq)]
 pub struct Part {
-    pub answer: u32,
-    pub list: u32,
-    pub index: u32,
+    pub verdict: Verdict,
     pub from: usize,
     pub words: usize,
 }
@@ -37,25 +39,22 @@ pub struct Ticket {
     pub second: u32,
 }
 
-/// What a page call answers.
+/// What a page call answers: the verdict, whether nothing is left, how many pairs it wrote, and the
+/// ticket for the next page.
 #[repr(C)]
 #[derive(Clone, Copy, Debug, PartialEq, Eq)]
 pub struct Page {
-    pub answer: u32,
-    pub list: u32,
-    pub index: u32,
+    pub verdict: Verdict,
     pub done: u32,
     pub count: usize,
     pub ticket: Ticket,
 }
 
-/// What a call answers that writes.
+/// The verdict of a call that writes, and how much it wrote.
 #[repr(C)]
 #[derive(Clone, Copy, Debug, PartialEq, Eq)]
 pub struct Written {
-    pub answer: u32,
-    pub list: u32,
-    pub index: u32,
+    pub verdict: Verdict,
     pub count: usize,
 }
 
@@ -68,23 +67,19 @@ pub struct Unnumbered {
     pub count: usize,
 }
 
-/// The answer of the check of a book, and how many lists it has.
+/// The verdict on a book, and how many lists it has.
 #[repr(C)]
 #[derive(Clone, Copy, Debug, PartialEq, Eq)]
 pub struct Book {
-    pub answer: u32,
-    pub list: u32,
-    pub index: u32,
+    pub verdict: Verdict,
     pub lists: u32,
 }
 
-/// Where a list's body lies in a book, in bytes; 0 and 0 on refusal.
+/// The verdict on a book and a tag, and where the list's body lies, in bytes; 0 and 0 on refusal.
 #[repr(C)]
 #[derive(Clone, Copy, Debug, PartialEq, Eq)]
 pub struct Body {
-    pub answer: u32,
-    pub list: u32,
-    pub index: u32,
+    pub verdict: Verdict,
     pub from: usize,
     pub bytes: usize,
 }

@@ -1,4 +1,5 @@
-// The printing program: it reads a field book on standard input and prints which nodes of its second list lie inside which of its first.
+// The printing program: it reads a field book on standard input and prints which nodes of its
+// second list lie inside which of its first.
 use io::read_full;
 use libc::STDIN_FILENO;
 use printing::print::MOST_BYTES;

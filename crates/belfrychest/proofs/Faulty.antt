@@ -1,5 +1,6 @@
--- A part that isn't empty starts at the node that the verdict names and goes to the end of the list that it names; an empty one has no words.
--- A place or a length with which C would read other words would fall here.
+-- A part that isn't empty starts at the node that the verdict names and goes to the end of the list
+-- that it names; an empty one has no words. A place or a length with which C would read other words
+-- would fall here.
 use mathlib.Core.Path.{_≡_, refl}
 use mathlib.Core.Logic.{inl, inr}
 use mathlib.Core.Bool.{Bool, true, false, cond}
@@ -11,9 +12,9 @@ use lib.ListN.{length, take, drop}
 use lib.Seq.{take-length}
 use borrow.Author.Tests.{eqb-true}
 use Rattle.nodes.specs.Words.{NODE-WORDS}
-use Rattle.nodes.proofs.Tests.{either}
+use Rattle.laws.proofs.Tests.{either}
 use Rattle.lists.specs.Two.{checkTwo}
-use Rattle.lists.specs.Verdict.{DESCENDANTS}
+use Rattle.answers.specs.Verdict.{DESCENDANTS}
 use Rattle.repairs.specs.Part.{showsb, partAt, faultyPart}
 use Rattle.belfrychest.specs.Shown.{shownPart}
 
@@ -21,7 +22,7 @@ no-words : (part list : List ℕ) → length part ≡ 0 → take (length part) l
 no-words [] list e = refl
 no-words (w ∷ part) list e = absurd (omega (arith, e))
 
--- so many words of a list from a place on, which is 0 where there are none
+-- the words of a list from a place on, as many as the part has; the place is 0 where there are none
 part-of : (b : Bool) (list : List ℕ) (at : ℕ)
     → take (length (cond b (drop at list) [])) (drop (cond (eqb (length (cond b (drop at list) [])) 0) 0 at) list) ≡ cond b (drop at list) []
 part-of false list at = refl
@@ -33,7 +34,7 @@ part-of true list at =
 
 -- the words that C reads where the answer says are the part that the library gives
 pub faulty-words : (ancestors descendants : List ℕ) → let p = shownPart ancestors descendants in
-    take (p .words) (drop (p .from) (cond (eqb (p .list) DESCENDANTS) descendants ancestors)) ≡ faultyPart ancestors descendants
+    take (p .words) (drop (p .from) (cond (eqb (p .verdict .list) DESCENDANTS) descendants ancestors)) ≡ faultyPart ancestors descendants
 unfolding shownPart faultyPart partAt
 faulty-words ancestors descendants =
     let v = checkTwo ancestors descendants in

@@ -1,47 +1,48 @@
--- A page that wrote nothing leaves the place where it was, and else the place is behind a pair, whose three numbers the words take.
--- So a listing that C follows by the words is the one that the library follows; words that stood for another ticket would fall here.
-use mathlib.Core.Path.{_≡_, refl}
-use mathlib.Core.List.{List, [], _∷_}
-use mathlib.Core.Bool.{cond}
-use Prim.Native.Nat.{ℕ, suc}
-use native.Mathlib.Omega.{arith}
-use lib.Dec.{eqb}
-use lib.ListN.{length}
+-- The words that come back stand for the ticket that the library returns, so each next call from C
+-- is the library's next call. Words that stood for another ticket after any page, or that a refusal
+-- altered, would fall here.
+use mathlib.Core.Path.{_≡_, refl, ap, _∙_}
+use mathlib.Core.List.{List, [], _∷_, _++_}
 use borrow.Author.Tests.{ne-eqb}
-use Rattle.paging.specs.Page.{reached}
-use Rattle.tickets.specs.declared.ticket.Key.{Key}
-use Rattle.tickets.specs.declared.ticket.Place.{Place}
-use Rattle.tickets.specs.declared.ticket.Place.the-variants.{Fresh, After}
-use Rattle.tickets.specs.Listing.{Pair, keyOf}
-use Rattle.tickets.specs.Ticket.{ticket}
+use Rattle.answers.specs.Answer.{TAKEN}
+use Rattle.answers.specs.Verdict.{refusedb}
+use Rattle.lists.specs.Two.{checkTwo}
+use Rattle.tickets.specs.declared.ticket.Ticket.{Ticket}
+use Rattle.tickets.specs.Listing.{keyOf}
+use Rattle.pairs.specs.Calls.{Call, answer, ticketThrough, shownThrough}
 use Rattle.pairs.specs.Page.{handedOut, ticketAfter, pageOf}
-use Rattle.belfrychest.specs.declared.page.BelfryTicket.{BelfryTicket}
-use Rattle.belfrychest.specs.Shown.{relationOf, orderOf, placeOf, ticketOf, movedTo, ticketBack, shownPage}
+use Rattle.ticket_words.specs.declared.words.TicketWords.{TicketWords}
+use Rattle.ticket_words.specs.Words.{orderOf, ticketOf, ticketBack}
+use Rattle.ticket_words.proofs.Reached.{back}
+use Rattle.belfrychest.specs.Following.{answerToC, readByC, wordsThrough, readThrough}
+use Rattle.belfrychest.specs.Shown.{shownPage}
 
--- the place behind some pairs is behind the last of them
-moved : (t : BelfryTicket) (key : Pair → Key) (k : Key) (hs : List Pair)
-    → placeOf (movedTo t (reached (λ p. After (key p)) (After k) hs)) ≡ reached (λ p. After (key p)) (After k) hs
-unfolding reached placeOf
-moved t key k [] = refl
-moved t key k (h ∷ hs) = moved t key (key h) hs
+-- one call: the words that it returns stand for the ticket that the library returns
+pub one-call : (w : TicketWords) (c : Call) → ticketOf (answerToC w c .ticket) ≡ answer (ticketOf w) c .ticket
+unfolding shownPage pageOf ticketAfter ticketOf
+one-call w c = back (keyOf (orderOf (w .order))) w (handedOut (c .ancestors) (c .descendants) (ticketOf w) (c .out))
 
--- and the other two words stay
-kept : (t : BelfryTicket) (place : Place) → (movedTo t place .relation ≡ t .relation) × (movedTo t place .order ≡ t .order)
-kept t Fresh = (refl, refl)
-kept t (After k) = (refl, refl)
+-- any sequence of calls from any six words ends with words that stand for the ticket with which the
+-- library's own following ends
+pub same-ticket : (w : TicketWords) (cs : List Call) → ticketOf (wordsThrough w cs) ≡ ticketThrough (ticketOf w) cs
+unfolding wordsThrough ticketThrough
+same-ticket w [] = refl
+same-ticket w (c ∷ cs) = same-ticket (answerToC w c .ticket) cs ∙ ap (λ (t : Ticket). ticketThrough t cs) (one-call w c)
 
--- the words that come back stand for the place reached
-back : (t : BelfryTicket) (key : Pair → Key) (hs : List Pair)
-    → ticketOf (cond (eqb (length hs) 0) t (movedTo t (reached (λ p. After (key p)) (placeOf t) hs)))
-    ≡ ticket (relationOf (t .relation)) (orderOf (t .order)) (reached (λ p. After (key p)) (placeOf t) hs)
-unfolding reached ticketOf
-back t key [] = refl
-back t key (h ∷ hs) =
-    let same = kept t (reached (λ p. After (key p)) (After (key h)) hs) in
-    rw (ne-eqb (suc (length hs)) 0 (λ e. absurd (omega (arith, e))))
-    (λ k. ticket (relationOf (same .0 k)) (orderOf (same .1 k)) (moved t key (key h) hs k))
+-- and C reads the pairs that the library's own following shows
+pub same-pairs : (w : TicketWords) (cs : List Call) → readThrough w cs ≡ shownThrough (ticketOf w) cs
+unfolding readThrough shownThrough shownPage
+same-pairs w [] = refl
+same-pairs w (c ∷ cs) =
+    ap (λ ps. readByC w c ++ ps)
+    (same-pairs (answerToC w c .ticket) cs ∙ ap (λ (t : Ticket). shownThrough t cs) (one-call w c))
 
-pub followed : (t : BelfryTicket) (ancestors descendants out : List ℕ)
-    → ticketOf (shownPage t (pageOf ancestors descendants (ticketOf t) out) .ticket) ≡ pageOf ancestors descendants (ticketOf t) out .ticket
-unfolding shownPage ticketBack pageOf ticketAfter ticketOf
-followed t ancestors descendants out = back t (keyOf (orderOf (t .order))) (handedOut ancestors descendants (ticketOf t) out)
+-- the next call after them answers with the verdict, the count and done of the library's next call
+pub same-answer : (w : TicketWords) (cs : List Call) (c : Call)
+    → answerToC (wordsThrough w cs) c ≡ shownPage (wordsThrough w cs) (answer (ticketThrough (ticketOf w) cs) c)
+same-answer w cs c = ap (λ (t : Ticket). shownPage (wordsThrough w cs) (answer t c)) (same-ticket w cs)
+
+-- a refusal returns the six words as they were, whatever they are
+pub refusal-keeps-words : (w : TicketWords) (c : Call) → (answerToC w c .verdict .answer ≡ TAKEN → ⊥) → answerToC w c .ticket ≡ w
+unfolding shownPage pageOf handedOut ticketBack refusedb
+refusal-keeps-words w c h = rw (ne-eqb (checkTwo (c .ancestors) (c .descendants) .answer) TAKEN h)

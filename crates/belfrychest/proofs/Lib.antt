@@ -1,6 +1,6 @@
--- `Only` says that no second answer satisfies a contract, `Followed` that the words which go between C and the library stand for its tickets,
--- `Faulty` that the part at fault is where they say, and `Indices` that every index fits.
+-- `Followed` says that a listing which C follows by the words that come back is the one which the
+-- library follows, `Faulty` that the part at fault is where the answer says, and `Only` that no
+-- second answer satisfies a contract.
 pub mod Faulty
 pub mod Followed
-pub mod Indices
 pub mod Only

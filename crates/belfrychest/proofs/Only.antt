@@ -1,8 +1,9 @@
--- Each contract equates the answer, and the output where there is one, with a definition, and two things that equal a third are equal.
--- `Post` is what a function's `ensures` says of its result and of what was lent; a contract that left a field or a word open would fall here.
+-- Each contract equates the answer, and the output where there is one, with a definition, and two
+-- things that equal a third are equal. `Post` is what a function's `ensures` says of its result and
+-- of what was lent; a contract that left a field or a word open would fall here.
 use mathlib.Core.Path.{_≡_}
 use denote.Ref.{now}
-use Rattle.nodes.proofs.Only.{only}
+use Rattle.laws.proofs.Only.{only}
 use Rattle.belfrychest.proofs.book.belfry_book_body.Reads as book-body
 use Rattle.belfrychest.proofs.book.belfry_book_check.Reads as book-check
 use Rattle.belfrychest.proofs.book.belfry_book_write.Reads as book-write

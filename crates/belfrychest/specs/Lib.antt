@@ -1,2 +1,4 @@
--- What the contracts of `belfrychest` cite.
+-- `Shown` is what the contracts of `belfrychest` cite; `Following` is a listing that C follows
+-- through calls.
+pub mod Following
 pub mod Shown

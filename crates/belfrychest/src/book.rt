@@ -1,73 +1,36 @@
 // Books: their check, a list's body by its tag, and writing.
-use crate::list::shown;
-use crate::result::BelfryResult;
-use crate::result::counted;
+use answers::verdict::Counted;
+use books::book::Opened;
 use books::book::check_book;
+use books::find::Found;
 use books::find::find_tag;
 use writing::write::write_book;
 ghost use mathlib.Core.Path.{_≡_};
-ghost use Rattle.books.specs.Book.{openedOf};
+ghost use Rattle.books.specs.Book.{checkBook};
 ghost use Rattle.books.specs.Find.{foundTag};
-ghost use Rattle.writing.specs.Written.{writtenOf, writtenOutput};
-ghost use Rattle.belfrychest.specs.Shown.{shownResult, shownBook, shownBody};
+ghost use Rattle.writing.specs.WriteCall.{writtenOf, writtenOutput};
 
-// The answer of the check of a book, and how many lists it has, 0 on refusal.
-#[repr(C)]
-pub struct BelfryBook {
-    pub answer: u32,
-    pub list: u32,
-    pub index: u32,
-    pub lists: u32,
-}
-
-// Where the body of a list lies in a book, in bytes; 0 and 0 on refusal.
-#[repr(C)]
-pub struct BelfryBody {
-    pub answer: u32,
-    pub list: u32,
-    pub index: u32,
-    pub from: usize,
-    pub bytes: usize,
-}
-
-// The caller learns what `check_book` says of a book.
+// Returns what `check_book` returns.
 #[no_mangle]
-pub extern "C" fn belfry_book_check(book: &[u8]) -> BelfryBook
-    ensures { λ r. ⌜ r ≡ shownBook (openedOf (now (book .entry))) ⌝ }
+pub extern "C" fn belfry_book_check(book: &[u8]) -> Opened
+    ensures { λ r. ⌜ r ≡ checkBook (now (book .entry)) ⌝ }
 {
-    let opened = check_book(book);
-    let numbers = shown(opened.verdict);
-    BelfryBook {
-        answer: numbers.answer,
-        list: numbers.list,
-        index: numbers.index,
-        lists: opened.lists,
-    }
+    check_book(book)
 }
 
-// The caller learns where `find_tag` finds the body of a tag's list.
+// Returns what `find_tag` returns.
 #[no_mangle]
-pub extern "C" fn belfry_book_body(book: &[u8], tag: u32) -> BelfryBody
-    ensures { λ r. ⌜ r ≡ shownBody (foundTag (now (book .entry)) tag) ⌝ }
+pub extern "C" fn belfry_book_body(book: &[u8], tag: u32) -> Found
+    ensures { λ r. ⌜ r ≡ foundTag (now (book .entry)) tag ⌝ }
 {
-    let found = find_tag(book, tag);
-    let numbers = shown(found.verdict);
-    BelfryBody {
-        answer: numbers.answer,
-        list: numbers.list,
-        index: numbers.index,
-        from: found.from,
-        bytes: found.bytes,
-    }
+    find_tag(book, tag)
 }
 
-// The caller gets what `write_book` writes and answers.
+// Writes and returns what `write_book` does.
 #[no_mangle]
-pub extern "C" fn belfry_book_write(entries: &[u32], nodes: &[u32], out: &mut [u8]) -> BelfryResult
-    ensures { λ r. ⌜ (r ≡ shownResult (writtenOf (now (entries .entry)) (now (nodes .entry)) (now (out .entry)) .verdict)
-        (writtenOf (now (entries .entry)) (now (nodes .entry)) (now (out .entry)) .count))
+pub extern "C" fn belfry_book_write(entries: &[u32], nodes: &[u32], out: &mut [u8]) -> Counted
+    ensures { λ r. ⌜ (r ≡ writtenOf (now (entries .entry)) (now (nodes .entry)) (now (out .entry)))
         × (now (out .exit) ≡ writtenOutput (now (entries .entry)) (now (nodes .entry)) (now (out .entry))) ⌝ }
 {
-    let written = write_book(entries, nodes, out);
-    counted(written.verdict, written.count)
+    write_book(entries, nodes, out)
 }

@@ -1,7 +1,7 @@
-// The C interface: each function of the library under a name, with structs that C has too. Each answers as the library's function does.
+// The C interface: each function of the library under a name that C can call. Each returns what the
+// library's function returns, in a struct that C has too.
 pub mod book;
 pub mod list;
 pub mod name;
 pub mod page;
-pub mod result;
 pub mod table;

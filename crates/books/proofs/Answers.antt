@@ -2,7 +2,7 @@
 -- RAGGED or LONG drawn by a body would fall here.
 use mathlib.Core.Path.{_≡_, refl}
 use mathlib.Core.Logic.{_⊎_, inl, inr}
-use mathlib.Core.Bool.{Bool, true, false, cond}
+use mathlib.Core.Bool.{Bool, cond}
 use mathlib.Core.List.{List, [], _∷_, map}
 use Prim.Native.Nat.{ℕ, suc, _≤_}
 use native.Mathlib.Omega.{arith}
@@ -10,19 +10,14 @@ use lib.Dec.{eqb}
 use lib.ListN.{length}
 use borrow.Author.Tests.{eqb-true, eqb-false}
 use Rattle.nodes.specs.declared.node.Node.{Node}
-use Rattle.nodes.specs.Answer.{TAKEN, RAGGED, LONG, LEVEL, DEPTH, CONTENTS}
-use Rattle.nodes.proofs.Tests.{either}
+use Rattle.answers.specs.Answer.{TAKEN, RAGGED, LONG, LEVEL, DEPTH, CONTENTS}
+use Rattle.laws.proofs.Tests.{either, chosen}
 use Rattle.contents.specs.Contents.{listsIn, contentsOf, brokenb, contentsFault}
-use Rattle.lists.specs.declared.verdict.Verdict.{Verdict}
+use Rattle.answers.specs.declared.verdict.Verdict.{Verdict}
 use Rattle.lists.specs.Check.{checkFrom, checkNodes}
 use Rattle.lists.specs.Fault.{levelb, spanb, orderb, crossb, depthb, fault}
-use Rattle.lists.specs.Two.{refusedb}
-use Rattle.books.specs.Book.{nodesOf, checkBodies, checkParts, checkBook}
-
--- what holds of both answers holds of the one that a test chooses
-pub chosen : {A : Type 0} (P : A → Type 0) (b : Bool) {x y : A} → P x → P y → P (cond b x y)
-chosen P true p q = p
-chosen P false p q = q
+use Rattle.answers.specs.Verdict.{refusedb}
+use Rattle.books.specs.Book.{nodesOf, checkBodies, checkParts, bookVerdict}
 
 -- TAKEN, or an answer that a node draws
 abbrev pub ByNode : ℕ → Type 0
@@ -60,8 +55,8 @@ parts-draw fault bodies h = chosen (λ (v : Verdict). ByBook (v .answer)) (eqb f
 pub fault-draws : (broken : Bool) → ByBook (cond broken CONTENTS TAKEN)
 fault-draws broken = chosen ByBook broken (inr refl) (inl (inl refl))
 
-pub book-draws : (book : List ℕ) → ByBook (checkBook book .answer)
-unfolding checkBook contentsFault
+pub book-draws : (book : List ℕ) → ByBook (bookVerdict book .answer)
+unfolding bookVerdict contentsFault
 book-draws book =
     parts-draw (contentsFault book) (map (nodesOf book) (contentsOf book)) (fault-draws (brokenb (listsIn book) (contentsOf book) (length book)))
 
@@ -69,11 +64,11 @@ book-draws book =
 pub from-level : (a : ℕ) → ByBook a → 1 ≤ a → LEVEL ≤ a
 from-level a h l = elim h [ inl p ↦ elim p [ inl q ↦ omega arith | inr q ↦ q .0 ] | inr p ↦ omega arith ]
 
-pub book-never-ragged : (book : List ℕ) → checkBook book .answer ≡ RAGGED → ⊥
-book-never-ragged book h = let l = from-level (checkBook book .answer) (book-draws book) (omega arith) in omega arith
+pub book-never-ragged : (book : List ℕ) → bookVerdict book .answer ≡ RAGGED → ⊥
+book-never-ragged book h = let l = from-level (bookVerdict book .answer) (book-draws book) (omega arith) in omega arith
 
-pub book-never-long : (book : List ℕ) → checkBook book .answer ≡ LONG → ⊥
-book-never-long book h = let l = from-level (checkBook book .answer) (book-draws book) (omega arith) in omega arith
+pub book-never-long : (book : List ℕ) → bookVerdict book .answer ≡ LONG → ⊥
+book-never-long book h = let l = from-level (bookVerdict book .answer) (book-draws book) (omega arith) in omega arith
 
 -- what is taken has no fault before its bodies
 pub parts-faultless : (fault : ℕ) (bodies : List (List Node)) → checkParts fault bodies .answer ≡ TAKEN → fault ≡ TAKEN

@@ -12,20 +12,19 @@ use lib.ListN.{length, drop, length-drop}
 use lib.Seq.{length-take-le}
 use borrow.Author.Tests.{eq-eqb, ne-eqb, eqb-false}
 use Rattle.nodes.specs.declared.node.Node.{Node}
-use Rattle.nodes.specs.Answer.{TAKEN}
+use Rattle.answers.specs.Answer.{TAKEN}
 use Rattle.nodes.specs.Words.{MOST-NODES}
-use Rattle.nodes.proofs.Tests.{either, never}
+use Rattle.laws.proofs.Tests.{either, never}
 use Rattle.numbers.specs.Little.{NODE-BYTES}
 use Rattle.numbers.specs.Part.{partOf}
 use Rattle.contents.specs.declared.entry.Entry.{Entry}
 use Rattle.contents.specs.Contents.{listsIn, entryAt, contentsOf, contentsFault}
 use Rattle.contents.proofs.ContentLaws.{entry-within}
-use Rattle.lists.specs.declared.verdict.Verdict.{Verdict}
+use Rattle.answers.specs.declared.verdict.Verdict.{Verdict}
 use Rattle.lists.specs.Check.{checkNodes, checkBytes}
-use Rattle.lists.specs.Two.{refusedb, inList}
-use Rattle.lists.specs.Verdict.{taken}
+use Rattle.answers.specs.Verdict.{refusedb, inList, taken}
 use Rattle.lists.proofs.InBytes.{whole-bytes}
-use Rattle.books.specs.Book.{bodyOf, nodesOf, checkBodies, checkParts, checkBook, openedOf}
+use Rattle.books.specs.Book.{bodyOf, nodesOf, checkBodies, checkParts, bookVerdict, checkBook}
 
 -- a verdict refuses just if its answer isn't TAKEN
 pub refuses : (v : Verdict) → (v .answer ≡ TAKEN → ⊥) → refusedb v ≡ true
@@ -88,14 +87,14 @@ parts-taken fault bodies t =
 
 -- what an opened book carries
 module _ (book : List ℕ) where
-  pub book-taken : checkBook book .answer ≡ TAKEN → checkBook book ≡ taken
-  unfolding checkBook
+  pub book-taken : bookVerdict book .answer ≡ TAKEN → bookVerdict book ≡ taken
+  unfolding bookVerdict
   book-taken t = parts-taken (contentsFault book) (map (nodesOf book) (contentsOf book)) t
 
-  pub opened-verdict : openedOf book .verdict ≡ checkBook book
-  unfolding openedOf
+  pub opened-verdict : checkBook book .verdict ≡ bookVerdict book
+  unfolding checkBook
   opened-verdict = refl
 
-  pub opened-lists : checkBook book .answer ≡ TAKEN → openedOf book .lists ≡ listsIn book
-  unfolding openedOf
-  opened-lists h = rw (accepts (checkBook book) h)
+  pub opened-lists : bookVerdict book .answer ≡ TAKEN → checkBook book .lists ≡ listsIn book
+  unfolding checkBook
+  opened-lists h = rw (accepts (bookVerdict book) h)

@@ -1,25 +1,26 @@
--- A book that is refused has no list anywhere, and one that is taken has those that its contents count, each the first of its tag, since tags ascend.
--- A list found in a refused book, one behind the last, or another list of the same tag would fall here.
+-- A book that is refused has no list anywhere, and one that is taken has those that its contents
+-- count, each the first of its tag, since tags ascend. A list found in a refused book, one after
+-- the last, or another list of the same tag would fall here.
 use mathlib.Core.Path.{_≡_, refl, sym, ap, _∙_}
 use mathlib.Core.Bool.{true, false}
 use mathlib.Core.List.{List, [], _∷_, map}
 use Prim.Native.Nat.{ℕ, zero, suc, _*_, _≤_, _<_}
 use native.Mathlib.Omega.{arith}
-use lib.Dec.{ltb}
+use lib.Dec.{ltb, eqb}
 use lib.ListN.{length, getD}
 use borrow.Author.Tests.{lt-ltb, le-ltb, ltb-true, eq-eqb, ne-eqb}
-use Rattle.nodes.specs.Answer.{TAKEN, ABSENT}
-use Rattle.nodes.specs.Choose.{firstAt}
-use Rattle.nodes.proofs.Tests.{and-read}
+use Rattle.answers.specs.Answer.{TAKEN, ABSENT}
+use Rattle.laws.specs.Choose.{firstAt}
+use Rattle.laws.proofs.Tests.{and-read}
 use Rattle.numbers.specs.Little.{NODE-BYTES}
 use Rattle.contents.specs.declared.entry.Entry.{Entry}
 use Rattle.contents.specs.Contents.{entry, listsIn, contentsOf, entryAt, ascendb, contentsFault}
 use Rattle.contents.proofs.ContentLaws.{tags-ascend, count-contents, entry-of}
-use Rattle.lists.specs.declared.verdict.Verdict.{Verdict}
-use Rattle.lists.specs.Two.{refusedb}
-use Rattle.lists.specs.Verdict.{ANCESTORS, verdict, taken}
-use Rattle.books.specs.Book.{nodesOf, checkBook}
-use Rattle.books.specs.Find.{tagAt, found, verdictAt, foundAt, foundTag}
+use Rattle.answers.specs.declared.verdict.Verdict.{Verdict}
+use Rattle.answers.specs.Verdict.{refusedb, ANCESTORS, verdict, taken}
+use Rattle.laws.proofs.First.{first-there}
+use Rattle.books.specs.Book.{bodyOf, nodesOf, bookVerdict}
+use Rattle.books.specs.Find.{tagAt, found, verdictAt, foundAt, foundTag, hasTag, tagEntry, tagBody}
 use Rattle.books.proofs.Answers.{parts-faultless}
 use Rattle.books.proofs.BookLaws.{refuses, accepts, book-taken}
 
@@ -33,27 +34,32 @@ module _ (book : List ℕ) (position : ℕ) where
   unfolding foundAt
   there v q h = rw (q, h)
 
-  refused-at : (checkBook book .answer ≡ TAKEN → ⊥) → verdictAt book position ≡ checkBook book
+  refused-at : (bookVerdict book .answer ≡ TAKEN → ⊥) → verdictAt book position ≡ bookVerdict book
   unfolding verdictAt
-  refused-at h = rw (refuses (checkBook book) h)
+  refused-at h = rw (refuses (bookVerdict book) h)
 
-  absent-at : checkBook book .answer ≡ TAKEN → listsIn book ≤ position → verdictAt book position ≡ verdict ABSENT ANCESTORS 0
+  absent-at : bookVerdict book .answer ≡ TAKEN → listsIn book ≤ position → verdictAt book position ≡ verdict ABSENT ANCESTORS 0
   unfolding verdictAt
-  absent-at t h = rw (accepts (checkBook book) t, le-ltb position (listsIn book) h)
+  absent-at t h = rw (accepts (bookVerdict book) t, le-ltb position (listsIn book) h)
 
-  taken-at : checkBook book .answer ≡ TAKEN → position < listsIn book → verdictAt book position ≡ taken
+  taken-at : bookVerdict book .answer ≡ TAKEN → position < listsIn book → verdictAt book position ≡ taken
   unfolding verdictAt
-  taken-at t h = rw (accepts (checkBook book) t, lt-ltb position (listsIn book) h)
+  taken-at t h = rw (accepts (bookVerdict book) t, lt-ltb position (listsIn book) h)
 
-  pub book-refused : (checkBook book .answer ≡ TAKEN → ⊥) → foundAt book position ≡ found (checkBook book) 0 0
-  book-refused h = nowhere (checkBook book) (refused-at h) (refuses (checkBook book) h)
+  pub book-refused : (bookVerdict book .answer ≡ TAKEN → ⊥) → foundAt book position ≡ found (bookVerdict book) 0 0
+  book-refused h = nowhere (bookVerdict book) (refused-at h) (refuses (bookVerdict book) h)
 
-  pub list-absent : checkBook book .answer ≡ TAKEN → listsIn book ≤ position → foundAt book position ≡ found (verdict ABSENT ANCESTORS 0) 0 0
+  pub list-absent : bookVerdict book .answer ≡ TAKEN → listsIn book ≤ position → foundAt book position ≡ found (verdict ABSENT ANCESTORS 0) 0 0
   list-absent t h = nowhere (verdict ABSENT ANCESTORS 0) (absent-at t h) (refuses (verdict ABSENT ANCESTORS 0) (λ e. omega arith))
 
-  pub list-found : checkBook book .answer ≡ TAKEN → position < listsIn book
-      → foundAt book position ≡ found (checkBook book) (entryAt book position .offset) (NODE-BYTES * entryAt book position .count)
+  pub list-found : bookVerdict book .answer ≡ TAKEN → position < listsIn book
+      → foundAt book position ≡ found (bookVerdict book) (entryAt book position .offset) (NODE-BYTES * entryAt book position .count)
   list-found t h = rw (book-taken book t) (there taken (taken-at t h) (accepts taken refl))
+
+-- the contents of a book that is taken keep the rules
+pub book-faultless : (book : List ℕ) → bookVerdict book .answer ≡ TAKEN → contentsFault book ≡ TAKEN
+unfolding bookVerdict
+book-faultless book t = parts-faultless (contentsFault book) (map (nodesOf book) (contentsOf book)) t
 
 -- tags that strictly ascend: a list's tag is below all later ones, so each list is the first of its own tag
 above-all : (e : Entry) (es : List Entry) → ascendb (e ∷ es) ≡ true → (i : ℕ) → i < length es → e .tag < getD es i (entry 0 0 0) .tag
@@ -81,11 +87,33 @@ first-of-tag (e ∷ es) a (suc i) h =
     rw (ne-eqb (e .tag) tag (λ q. omega arith)) (ap suc (first-of-tag es (later-ascend e es a) i (omega arith)))
 
 -- in a book that is taken each list is found by its tag where it is found by its place
-pub tag-found : (book : List ℕ) → checkBook book .answer ≡ TAKEN → (position : ℕ) → position < listsIn book
-    → foundTag book (entryAt book position .tag) ≡ foundAt book position
-unfolding foundTag checkBook
-tag-found book t position h =
-    let good : contentsFault book ≡ TAKEN = parts-faultless (contentsFault book) (map (nodesOf book) (contentsOf book)) t in
-    let l = count-contents book good in
-    ap (λ e. foundAt book (tagAt (e .tag) (contentsOf book))) (sym (entry-of book good position h))
-    ∙ ap (foundAt book) (first-of-tag (contentsOf book) (tags-ascend book good) position (omega arith))
+module _ (book : List ℕ) (t : bookVerdict book .answer ≡ TAKEN) (position : ℕ) (h : position < listsIn book) where
+  good : contentsFault book ≡ TAKEN
+  good = book-faultless book t
+
+  own-tag : tagAt (entryAt book position .tag) (contentsOf book) ≡ position
+  own-tag =
+      let l = count-contents book good in
+      ap (λ e. tagAt (e .tag) (contentsOf book)) (sym (entry-of book good position h))
+      ∙ first-of-tag (contentsOf book) (tags-ascend book good) position (omega arith)
+
+  pub tag-found : foundTag book (entryAt book position .tag) ≡ foundAt book position
+  unfolding foundTag
+  tag-found = ap (foundAt book) own-tag
+
+  pub tag-there : hasTag book (listsIn book) (entryAt book position .tag) ≡ true
+  unfolding hasTag tagAt contentsOf
+  tag-there =
+      let own = own-tag in
+      let l = count-contents book good in
+      sym (first-there (λ e. eqb (e .tag) (entryAt book position .tag)) (contentsOf book))
+      ∙ lt-ltb (tagAt (entryAt book position .tag) (contentsOf book)) (length (contentsOf book)) (omega arith)
+
+  tag-entry : tagEntry book (listsIn book) (entryAt book position .tag) ≡ entryAt book position
+  unfolding tagEntry contentsOf
+  tag-entry = ap (λ i. getD (contentsOf book) i (entry 0 0 0)) own-tag ∙ entry-of book good position h
+
+  -- and its body is the one that its entry names
+  pub tag-body-at : tagBody book (listsIn book) (entryAt book position .tag) ≡ bodyOf book (entryAt book position)
+  unfolding tagBody
+  tag-body-at = ap (bodyOf book) tag-entry

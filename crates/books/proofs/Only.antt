@@ -1,11 +1,12 @@
 -- Each public contract is an equation with a definition, and two things that equal a third are equal; so no second answer satisfies it.
 -- `Post` is what a function's `ensures` says of its result and of what it was lent; a contract that left a field open would fall here.
 use mathlib.Core.Path.{_≡_}
-use denote.Ref.{now}
-use Rattle.nodes.proofs.Only.{only}
+use denote.Ref.{now, ptr}
+use Rattle.laws.proofs.Only.{only}
 use Rattle.books.proofs.book.check_book.Reads as check-book
 use Rattle.books.proofs.find.find_list.Reads as find-list
 use Rattle.books.proofs.find.find_tag.Reads as find-tag
+use Rattle.books.proofs.find.has_tag.Reads as has-tag
 use Rattle.books.proofs.find.tag_body.Reads as tag-body
 
 pub check-book-only : (κs : _) (a : _) (r r′ : _) (s s′ : _) → check-book.Post κs a r s → check-book.Post κs a r′ s′ → r ≡ r′
@@ -17,5 +18,9 @@ find-list-only κs a r r′ s s′ p q = only p q
 pub find-tag-only : (κs : _) (a : _) (r r′ : _) (s s′ : _) → find-tag.Post κs a r s → find-tag.Post κs a r′ s′ → r ≡ r′
 find-tag-only κs a r r′ s s′ p q = only p q
 
-pub tag-body-only : (κs : _) (a : _) (r r′ : _) (s s′ : _) → tag-body.Post κs a r s → tag-body.Post κs a r′ s′ → now r ≡ now r′
-tag-body-only κs a r r′ s s′ p q = only p q
+pub has-tag-only : (κs : _) (a : _) (r r′ : _) (s s′ : _) → has-tag.Post κs a r s → has-tag.Post κs a r′ s′ → r ≡ r′
+has-tag-only κs a r r′ s s′ p q = only p q
+
+pub tag-body-only : (κs : _) (a : _) (r r′ : _) (s s′ : _) → tag-body.Post κs a r s → tag-body.Post κs a r′ s′
+    → (now r ≡ now r′) × (ptr r ≡ ptr r′)
+tag-body-only κs a r r′ s s′ p q = (only (p .0) (q .0), only (p .1) (q .1))

@@ -3,22 +3,30 @@ use Prim.Native.Nat.{ℕ, suc, _*_}
 use mathlib.Core.Bool.{cond}
 use mathlib.Core.List.{List, [], _∷_, map}
 use lib.Dec.{eqb}
+use lib.ListN.{length}
 use Rattle.nodes.specs.declared.node.Node.{Node}
-use Rattle.nodes.specs.Answer.{TAKEN}
+use Rattle.answers.specs.Answer.{TAKEN}
 use Rattle.nodes.specs.Words.{nodes}
 use Rattle.numbers.specs.Little.{NODE-BYTES, numbers}
-use Rattle.numbers.specs.Part.{partOf}
+use Rattle.numbers.specs.Part.{partOf, placeIn}
 use Rattle.contents.specs.declared.entry.Entry.{Entry}
-use Rattle.contents.specs.Contents.{listsIn, contentsOf, contentsFault}
-use Rattle.lists.specs.declared.verdict.Verdict.{Verdict}
+use Rattle.contents.specs.Contents.{listsIn, contentsOf, contentsFault, entryAt}
+use Rattle.answers.specs.declared.verdict.Verdict.{Verdict}
 use Rattle.lists.specs.Check.{checkNodes}
-use Rattle.lists.specs.Two.{refusedb, inList}
-use Rattle.lists.specs.Verdict.{ANCESTORS, verdict, taken}
+use Rattle.answers.specs.Verdict.{refusedb, inList, ANCESTORS, verdict, taken}
 use Rattle.books.specs.declared.book.Opened.{Opened}
 
--- the body that an entry names, as a part of the book, and its nodes
+-- the body that an entry names, as a part of the book; where it lies, given where the book begins;
+-- and its nodes
 unfoldable pub bodyOf : List ℕ → Entry → List ℕ
 bodyOf book e = partOf book (e .offset) (NODE-BYTES * e .count)
+
+unfoldable pub bodyPlace : ℕ × ℕ → List ℕ → Entry → ℕ × ℕ
+bodyPlace start book e = placeIn start (length book) (e .offset)
+
+-- the words of the list at a place of a book
+unfoldable pub listAt : List ℕ → ℕ → List ℕ
+listAt book position = numbers (bodyOf book (entryAt book position))
 
 unfoldable pub nodesOf : List ℕ → Entry → List Node
 nodesOf book e = nodes (numbers (bodyOf book e))
@@ -33,12 +41,12 @@ unfoldable pub checkParts : ℕ → List (List Node) → Verdict
 checkParts fault bodies = cond (eqb fault TAKEN) (checkBodies 0 bodies) (verdict fault ANCESTORS 0)
 
 -- reading: CONTENTS, then the bodies in order
-unfoldable pub checkBook : List ℕ → Verdict
-checkBook book = checkParts (contentsFault book) (map (nodesOf book) (contentsOf book))
+unfoldable pub bookVerdict : List ℕ → Verdict
+bookVerdict book = checkParts (contentsFault book) (map (nodesOf book) (contentsOf book))
 
 -- what opening a book answers: the verdict, and the number of its lists, 0 when it is refused
 abbrev pub opened : Verdict → ℕ → Opened
 opened v lists = record { verdict = v; lists = lists }
 
-unfoldable pub openedOf : List ℕ → Opened
-openedOf book = opened (checkBook book) (cond (refusedb (checkBook book)) 0 (listsIn book))
+unfoldable pub checkBook : List ℕ → Opened
+checkBook book = opened (bookVerdict book) (cond (refusedb (bookVerdict book)) 0 (listsIn book))

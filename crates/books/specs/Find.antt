@@ -1,19 +1,18 @@
 -- Document 01, "The field book": a list of a book by its tag or by its place, or ABSENT.
 use Prim.Native.Nat.{ℕ, _*_}
-use mathlib.Core.Bool.{cond}
+use mathlib.Core.Bool.{Bool, cond}
 use mathlib.Core.List.{List}
 use lib.Dec.{ltb, eqb}
 use lib.ListN.{getD, take}
-use Rattle.nodes.specs.Answer.{ABSENT}
-use Rattle.nodes.specs.Choose.{firstAt}
+use Rattle.answers.specs.Answer.{ABSENT}
+use Rattle.laws.specs.Choose.{any, firstAt}
 use Rattle.numbers.specs.Little.{NODE-BYTES}
 use Rattle.contents.specs.declared.entry.Entry.{Entry}
 use Rattle.contents.specs.Contents.{entry, listsIn, entriesIn, contentsOf, entryAt}
-use Rattle.lists.specs.declared.verdict.Verdict.{Verdict}
-use Rattle.lists.specs.Two.{refusedb}
-use Rattle.lists.specs.Verdict.{ANCESTORS, verdict, taken}
+use Rattle.answers.specs.declared.verdict.Verdict.{Verdict}
+use Rattle.answers.specs.Verdict.{refusedb, ANCESTORS, verdict, taken}
 use Rattle.books.specs.declared.find.Found.{Found}
-use Rattle.books.specs.Book.{bodyOf, checkBook}
+use Rattle.books.specs.Book.{bodyOf, bodyPlace, bookVerdict}
 
 -- where a tag's list stands among the entries, or how many they are where there is none
 unfoldable pub tagAt : ℕ → List Entry → ℕ
@@ -25,7 +24,7 @@ found v from bytes = record { verdict = v; from = from; bytes = bytes }
 -- the list at a place: the book's own answer, then ABSENT, where the book has fewer lists than wanted; and where its body lies, nowhere on refusal
 unfoldable pub verdictAt : List ℕ → ℕ → Verdict
 verdictAt book position =
-    cond (refusedb (checkBook book)) (checkBook book)
+    cond (refusedb (bookVerdict book)) (bookVerdict book)
     (cond (ltb position (listsIn book)) taken (verdict ABSENT ANCESTORS 0))
 
 unfoldable pub foundAt : List ℕ → ℕ → Found
@@ -38,8 +37,20 @@ foundAt book position =
 unfoldable pub foundTag : List ℕ → ℕ → Found
 foundTag book tag = foundAt book (tagAt tag (contentsOf book))
 
--- of a book opened before, with so many lists: the body of a tag as a part of the book, empty where there is none
-unfoldable pub tagBody : List ℕ → ℕ → ℕ → List ℕ
-tagBody book lists tag =
+-- of a book opened before, which has `lists` lists: whether one of them has the tag
+unfoldable pub hasTag : List ℕ → ℕ → ℕ → Bool
+hasTag book lists tag = any (λ e. eqb (e .tag) tag) (take lists (entriesIn book))
+
+-- the entry of a tag, zeros where there is none
+unfoldable pub tagEntry : List ℕ → ℕ → ℕ → Entry
+tagEntry book lists tag =
     let es = take lists (entriesIn book) in
-    bodyOf book (getD es (tagAt tag es) (entry 0 0 0))
+    getD es (tagAt tag es) (entry 0 0 0)
+
+-- the body of a tag as a part of the book, and where it lies; where there is none, an empty part at
+-- the book's beginning
+unfoldable pub tagBody : List ℕ → ℕ → ℕ → List ℕ
+tagBody book lists tag = bodyOf book (tagEntry book lists tag)
+
+unfoldable pub tagPlace : ℕ × ℕ → List ℕ → ℕ → ℕ → ℕ × ℕ
+tagPlace start book lists tag = bodyPlace start book (tagEntry book lists tag)

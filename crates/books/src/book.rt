@@ -1,30 +1,33 @@
 // The check of a book.
+use answers::answer::TAKEN;
+use answers::verdict::Verdict;
+use answers::verdict::without_node;
 use contents::check::contents_fault;
 use contents::entry::Entry;
 use contents::entry::entry_at;
 use lists::bytes::check_bytes;
-use lists::verdict::Verdict;
-use lists::verdict::without_node;
-use nodes::answer::TAKEN;
 use numbers::little::NODE_BYTES;
 use numbers::little::number_at;
 use numbers::part::part_of;
 ghost use mathlib.Core.Path.{_≡_};
+ghost use denote.Ref.{ptr};
 ghost use mathlib.Core.List.{map};
-ghost use Rattle.nodes.specs.Answer.{TAKEN};
+ghost use Rattle.answers.specs.Answer.{TAKEN};
 ghost use Rattle.contents.specs.Contents.{contentsOf, contentsFault};
-ghost use Rattle.lists.specs.Two.{inList};
-ghost use Rattle.books.specs.Book.{bodyOf, nodesOf, checkBodies, checkBook, openedOf};
+ghost use Rattle.answers.specs.Verdict.{inList};
+ghost use Rattle.books.specs.Book.{bodyOf, bodyPlace, nodesOf, checkBodies, bookVerdict, checkBook};
 
 // What opening a book answers: the verdict, and how many lists the book has, 0 when it is refused.
+#[repr(C)]
 pub struct Opened {
     pub verdict: Verdict,
     pub lists: u32,
 }
 
-// The body that an entry names, as far as the book goes.
+// Returns the body that an entry names, as far as the book goes.
 pub(crate) fn body_of(book: &[u8], entry: Entry) -> &[u8]
-    ensures { λ r. ⌜ now r ≡ bodyOf (now (book .entry)) entry ⌝ }
+    ensures { λ r. ⌜ (now r ≡ bodyOf (now (book .entry)) entry)
+        × (ptr r ≡ bodyPlace (ptr (book .entry)) (now (book .entry)) entry) ⌝ }
 {
     part_of(
         book,
@@ -33,7 +36,7 @@ pub(crate) fn body_of(book: &[u8], entry: Entry) -> &[u8]
     )
 }
 
-// The verdict on a list alone, said of the list with a number.
+// Returns the verdict on a list alone, said of the list with a number.
 fn in_list(verdict: Verdict, list: u32) -> Verdict
     ensures { λ r. ⌜ r ≡ inList list verdict ⌝ }
 {
@@ -44,7 +47,8 @@ fn in_list(verdict: Verdict, list: u32) -> Verdict
     }
 }
 
-// The verdict on the bodies of a book whose contents keep the rules: that on the first one that isn't accepted.
+// Returns the verdict on the bodies of a book whose contents keep the rules: that on the first one
+// that isn't accepted.
 fn check_bodies(book: &[u8]) -> Verdict
     requires { ⌜ contentsFault (now book) ≡ TAKEN ⌝ }
     ensures { λ r. ⌜ r ≡ checkBodies 0 (map (nodesOf (now (book .entry))) (contentsOf (now (book .entry)))) ⌝ }
@@ -62,9 +66,9 @@ fn check_bodies(book: &[u8]) -> Verdict
     without_node(TAKEN)
 }
 
-// The verdict on a book: its contents, then its bodies.
+// Returns the verdict on a book: its contents, then its bodies.
 fn verdict_on(book: &[u8]) -> Verdict
-    ensures { λ r. ⌜ r ≡ checkBook (now (book .entry)) ⌝ }
+    ensures { λ r. ⌜ r ≡ bookVerdict (now (book .entry)) ⌝ }
 {
     let fault = contents_fault(book);
     if fault != TAKEN {
@@ -73,9 +77,10 @@ fn verdict_on(book: &[u8]) -> Verdict
     check_bodies(book)
 }
 
-// The caller learns whether the bytes are a book, and if so, how many lists it has; if not, why, and which node of which list is at fault.
+// Returns whether the bytes are a book, and if so, how many lists it has; if not, why, and which
+// node of which list is at fault.
 pub fn check_book(book: &[u8]) -> Opened
-    ensures { λ r. ⌜ r ≡ openedOf (now (book .entry)) ⌝ }
+    ensures { λ r. ⌜ r ≡ checkBook (now (book .entry)) ⌝ }
 {
     let verdict = verdict_on(book);
     if verdict.answer != TAKEN {

@@ -2,28 +2,30 @@
 use crate::book::Opened;
 use crate::book::body_of;
 use crate::book::check_book;
+use answers::answer::ABSENT;
+use answers::answer::TAKEN;
+use answers::verdict::Verdict;
+use answers::verdict::without_node;
 use contents::entry::entry_at;
 use contents::entry::entry_count;
-use lists::verdict::Verdict;
-use lists::verdict::without_node;
-use nodes::answer::ABSENT;
-use nodes::answer::TAKEN;
 use numbers::little::NODE_BYTES;
 ghost use mathlib.Core.Path.{_≡_};
+ghost use denote.Ref.{ptr};
 ghost use lib.ListN.{take};
 ghost use Rattle.contents.specs.Contents.{entriesIn};
-ghost use Rattle.books.specs.Book.{openedOf};
-ghost use Rattle.books.specs.Find.{tagAt, found, foundAt, foundTag, tagBody};
+ghost use Rattle.books.specs.Book.{checkBook};
+ghost use Rattle.books.specs.Find.{tagAt, found, foundAt, foundTag, hasTag, tagBody, tagPlace};
 
-// What looking for a list answers: the verdict, and where the list's body lies in the book: the place of its first byte and how many bytes
-// it has, both 0 on refusal.
+// What looking for a list answers: the verdict, and where the list's body lies in the book: the
+// place of its first byte and how many bytes it has, both 0 on refusal.
+#[repr(C)]
 pub struct Found {
     pub verdict: Verdict,
     pub from: usize,
     pub bytes: usize,
 }
 
-// Nothing is found, for the reason that the verdict gives.
+// Returns that nothing is found, for the reason that the verdict gives.
 fn nowhere(verdict: Verdict) -> Found
     ensures { λ r. ⌜ r ≡ found verdict 0 0 ⌝ }
 {
@@ -34,7 +36,8 @@ fn nowhere(verdict: Verdict) -> Found
     }
 }
 
-// Where a tag's list stands among the first so many entries, or how many these are where there is none.
+// Returns where a tag's list stands among the first `lists` entries, or how many these are where
+// there is none.
 fn tag_at(book: &[u8], lists: u32, tag: u32) -> usize
     ensures { λ r. ⌜ r ≡ tagAt tag (take lists (entriesIn (now (book .entry)))) ⌝ }
 {
@@ -49,9 +52,9 @@ fn tag_at(book: &[u8], lists: u32, tag: u32) -> usize
     index
 }
 
-// The list at a place of a book that was opened.
+// Returns where the list at a place of an opened book lies.
 fn found_at(book: &[u8], opened: Opened, position: usize) -> Found
-    requires { ⌜ opened ≡ openedOf (now book) ⌝ }
+    requires { ⌜ opened ≡ checkBook (now book) ⌝ }
     ensures { λ r. ⌜ r ≡ foundAt (now (book .entry)) position ⌝ }
 {
     let verdict = opened.verdict;
@@ -69,14 +72,15 @@ fn found_at(book: &[u8], opened: Opened, position: usize) -> Found
     }
 }
 
-// The caller gets where the body of the list at a place lies, the first list having place 0; or the book's refusal, or ABSENT.
+// Returns where the body of the list at a place lies, the first list having place 0; or the book's
+// refusal, or ABSENT.
 pub fn find_list(book: &[u8], position: usize) -> Found
     ensures { λ r. ⌜ r ≡ foundAt (now (book .entry)) position ⌝ }
 {
     found_at(book, check_book(book), position)
 }
 
-// The caller gets where the body of a tag's list lies; or the book's refusal, or ABSENT.
+// Returns where the body of a tag's list lies; or the book's refusal, or ABSENT.
 pub fn find_tag(book: &[u8], tag: u32) -> Found
     ensures { λ r. ⌜ r ≡ foundTag (now (book .entry)) tag ⌝ }
 {
@@ -84,10 +88,24 @@ pub fn find_tag(book: &[u8], tag: u32) -> Found
     found_at(book, opened, tag_at(book, opened.lists, tag))
 }
 
-// The caller gets the body of a tag out of a book that was opened before and has so many lists, as a part of the very bytes that were lent;
-// an empty part where it has none. Nothing is checked again.
+// Returns whether one of the lists of a book that was opened before and has `lists` lists has the
+// tag. Nothing is checked again.
+pub fn has_tag(book: &[u8], lists: u32, tag: u32) -> bool
+    ensures { λ r. ⌜ r ≡ hasTag (now (book .entry)) lists tag ⌝ }
+{
+    let position = tag_at(book, lists, tag);
+    if entry_count(book) <= position {
+        return false;
+    }
+    position < lists as usize
+}
+
+// Returns the body of a tag out of a book that was opened before and has `lists` lists, as a part
+// of the very bytes that were lent; or the empty part at their beginning where there is none.
+// Nothing is checked again.
 pub fn tag_body(book: &[u8], lists: u32, tag: u32) -> &[u8]
-    ensures { λ r. ⌜ now r ≡ tagBody (now (book .entry)) lists tag ⌝ }
+    ensures { λ r. ⌜ (now r ≡ tagBody (now (book .entry)) lists tag)
+        × (ptr r ≡ tagPlace (ptr (book .entry)) (now (book .entry)) lists tag) ⌝ }
 {
     let position = tag_at(book, lists, tag);
     if lists as usize <= position {

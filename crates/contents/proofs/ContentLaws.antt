@@ -2,7 +2,7 @@
 -- them. An entry read one number off, a list that no rule looks at, or a book that is longer than its lists would fall here.
 use mathlib.Core.Path.{_≡_, refl, ap, sym, subst, _∙_}
 use mathlib.Core.Logic.{_⊎_, inl, inr}
-use mathlib.Core.Bool.{Bool, true, false, not, _&&_, _||_}
+use mathlib.Core.Bool.{Bool, true, false, cond, not, _&&_, _||_}
 use mathlib.Core.List.{List, [], _∷_, _++_, flatMap}
 use Prim.Native.Nat.{ℕ, zero, suc, _+_, _*_, _/_, _≤_, _<_}
 use native.Mathlib.Omega.{arith}
@@ -12,35 +12,21 @@ use lib.Dec.{ltb, leb, eqb}
 use lib.ListN.{length, getD, take, drop, length-drop, drop-of-length-le, List·getD-eq-default}
 use lib.Seq.{length-take-le, getD-take, getD-drop}
 use borrow.Author.Tests.{lt-ltb, le-ltb, ne-eqb, le-leb, lt-leb, ltb-true, ltb-false, eqb-true}
-use Rattle.nodes.specs.Answer.{TAKEN, CONTENTS}
-use Rattle.nodes.specs.Choose.{All, any}
+use Rattle.answers.specs.Answer.{TAKEN, CONTENTS}
+use Rattle.laws.specs.Choose.{All, any}
 use Rattle.nodes.specs.Words.{MOST-NODES}
-use Rattle.nodes.specs.Written.{wordsIn}
-use Rattle.nodes.proofs.Choices.{any-none, all-at}
-use Rattle.nodes.proofs.Tests.{either, never, and-read, or-left, or-right, or-none, not-none}
+use Rattle.answers.specs.Output.{wordsIn}
+use Rattle.laws.proofs.Choices.{any-none, all-at, few-taken, taken-from}
+use Rattle.laws.proofs.Tests.{either, never, and-read, or-left, or-right, or-none, not-none}
 use Rattle.numbers.specs.Little.{NODE-BYTES, numbers, numberAt}
 use Rattle.numbers.proofs.LittleLaws.{length-numbers}
 use Rattle.contents.specs.declared.entry.Entry.{Entry}
-use Rattle.contents.specs.declared.step.Place.{Place}
+use Rattle.contents.specs.declared.step.ContentsPlace.{ContentsPlace}
 use Rattle.contents.specs.declared.step.Step.{Step}
 use Rattle.contents.specs.declared.step.Step.the-variants.{Reached, Refused}
-use Rattle.contents.specs.Contents.{
-  MOST-LISTS,
-  entry,
-  entries,
-  entryNumbers,
-  listsIn,
-  entriesIn,
-  entryCount,
-  entryAt,
-  contentsOf,
-  contentsEnd,
-  ascendb,
-  laidb,
-  brokenb,
-  contentsFault,
-}
-use Rattle.contents.specs.Passing.{startOf, passesb, placeAfter, stepOf, keepsb, Kept}
+use Rattle.contents.specs.Contents.{MOST-LISTS, entry, entries, entryNumbers, listsIn, entriesIn, entryCount, entryAt, contentsOf, contentsEnd, ascendb, laidb, brokenb, contentsFault}
+use Rattle.contents.specs.Passing.{startOf, passesb, afterEntry, stepOf, stepAnswer}
+use Rattle.contents.specs.Private.Walk.{keepsb, Kept}
 
 pub length-entries : (ns : List ℕ) → length (entries ns) ≡ length ns / 3
 unfolding entries
@@ -72,19 +58,6 @@ pub entries-of : (es : List Entry) (ns : List ℕ) → entries (wordsIn entryNum
 unfolding entries wordsIn flatMap entryNumbers
 entries-of [] ns = refl
 entries-of (e ∷ es) ns = ap (λ fs. e ∷ fs) (entries-of es ns)
-
--- the first so many of a list are no more than these, nor than the list has; those from an index on begin with the one there
-module _ {A : Type 0} where
-  pub few-taken : (n : ℕ) (xs : List A) → (length (take n xs) ≤ n) × (length (take n xs) ≤ length xs)
-  few-taken zero xs = (omega arith, omega arith)
-  few-taken (suc n) [] = (omega arith, omega arith)
-  few-taken (suc n) (x ∷ xs) = let h = few-taken n xs in (omega (arith, h .0), omega (arith, h .1))
-
-  taken-from : (xs : List A) (n i : ℕ) (d : A) → i < n → i < length xs → drop i (take n xs) ≡ getD xs i d ∷ drop (suc i) (take n xs)
-  taken-from [] n i d h l = absurd (not-suc-le-zero l)
-  taken-from (x ∷ xs) zero i d h l = absurd (not-suc-le-zero h)
-  taken-from (x ∷ xs) (suc n) zero d h l = refl
-  taken-from (x ∷ xs) (suc n) (suc i) d h l = taken-from xs n i d (omega arith) (omega arith)
 
 -- the entries of a book, read where they lie
 module _ (book : List ℕ) where
@@ -176,12 +149,12 @@ regroup false false true false true z = refl
 regroup false false true false false z = refl
 regroup false false false false y z = refl
 
-rules-from : (p : Place) (es : List Entry) (size : ℕ)
+rules-from : (p : ContentsPlace) (es : List Entry) (size : ℕ)
     → keepsb p es size ≡ not (any (λ e. ltb MOST-NODES (e .count)) es) && (ascendFrom (p .begun) (p .tag) es && laidb (p .end) es size)
-unfolding keepsb passesb placeAfter any ascendFrom laidb
+unfolding keepsb passesb afterEntry any ascendFrom laidb
 rules-from p [] size = refl
 rules-from p (e ∷ es) size =
-    rw (rules-from (placeAfter p e) es size, up-to (e .count) MOST-NODES)
+    rw (rules-from (afterEntry p e) es size, up-to (e .count) MOST-NODES)
     (regroup (eqb (e .offset) (p .end)) (ltb MOST-NODES (e .count)) (not (p .begun) || ltb (p .tag) (e .tag)) _ _ _)
 
 one-broken : (x y z : Bool) → x || (not y || not z) ≡ not (not x && (y && z))
@@ -190,32 +163,32 @@ one-broken false true z = refl
 one-broken false false z = refl
 
 -- the rules are those of the walk
-pub keeps-rules : (lists : ℕ) (es : List Entry) (size : ℕ) → lists ≤ MOST-LISTS → brokenb lists es size ≡ not (keepsb (startOf lists) es size)
+keeps-rules : (lists : ℕ) (es : List Entry) (size : ℕ) → lists ≤ MOST-LISTS → brokenb lists es size ≡ not (keepsb (startOf lists) es size)
 unfolding brokenb startOf
 keeps-rules lists es size h =
     rw (le-ltb MOST-LISTS lists h, rules-from (startOf lists) es size, ascend-all 0 es)
     (one-broken (any (λ e. ltb MOST-NODES (e .count)) es) (ascendb es) (laidb (contentsEnd lists) es size))
 
 -- what a walk has left from a place on is the whole
-abbrev pub Left : Place → List Entry → Place → List Entry → Type 0
+abbrev pub Left : ContentsPlace → List Entry → ContentsPlace → List Entry → Type 0
 Left p rest start all = (size : ℕ) → keepsb p rest size ≡ keepsb start all size
 
 -- what the next step's answer says of it
-Steps : List Entry → Place → List Entry → Step → Type 0
+Steps : List Entry → ContentsPlace → List Entry → Step → Type 0
 Steps rest start all (Reached q) = Left q rest start all
 Steps rest start all (Refused answer) = Kept start all (Refused answer)
 
-module _ (start : Place) (all : List Entry) (p : Place) (e : Entry) (rest : List Entry) (l : Left p (e ∷ rest) start all) where
+module _ (start : ContentsPlace) (all : List Entry) (p : ContentsPlace) (e : Entry) (rest : List Entry) (l : Left p (e ∷ rest) start all) where
   steps : Steps rest start all (stepOf p e)
   unfolding Steps stepOf keepsb
   steps =
       elim (either (passesb p e)) [
         | inl h ↦ rw h (λ size. sym (rw h at (sym (l size))))
-        | inr h ↦ rw h (λ size. rw h at (sym (l size)))
+        | inr h ↦ rw h (λ size. ap (λ b. cond b TAKEN CONTENTS) (rw h at (sym (l size))))
       ]
 
   module _ (r : Step) (s : r ≡ stepOf p e) where
-    pub kept-on : (q : Place) → r ≡ Reached q → Left q rest start all
+    pub kept-on : (q : ContentsPlace) → r ≡ Reached q → Left q rest start all
     unfolding Steps
     kept-on q h = subst (Steps rest start all) (sym s ∙ h) steps
 
@@ -223,11 +196,21 @@ module _ (start : Place) (all : List Entry) (p : Place) (e : Entry) (rest : List
     unfolding Steps
     kept-stop answer h = subst (Kept start all) (sym h) (subst (Steps rest start all) (sym s ∙ h) steps)
 
-pub kept-end : (start : Place) (all : List Entry) (q : Place) → Left q [] start all → Kept start all (Reached q)
+pub kept-end : (start : ContentsPlace) (all : List Entry) (q : ContentsPlace) → Left q [] start all → Kept start all (Reached q)
 unfolding keepsb
-kept-end start all q l = λ size. sym (l size)
+kept-end start all q l = λ size. ap (λ b. cond b TAKEN CONTENTS) (sym (l size))
 
--- bodies that begin behind the book's end don't end with it
+-- a rule is broken where the walk along the lists says so
+pub walk-answers : (lists : ℕ) (es : List Entry) (size : ℕ) → lists ≤ MOST-LISTS → (r : Step) → Kept (startOf lists) es r
+    → stepAnswer r size ≡ cond (brokenb lists es size) CONTENTS TAKEN
+walk-answers lists es size few r k =
+    sym (k size) ∙ sym (turned (keepsb (startOf lists) es size)) ∙ ap (λ b. cond b CONTENTS TAKEN) (sym (keeps-rules lists es size few))
+  where
+    turned : (b : Bool) → cond (not b) CONTENTS TAKEN ≡ cond b TAKEN CONTENTS
+    turned true = refl
+    turned false = refl
+
+-- bodies that begin after the book's end don't end with it
 laid-behind : (at : ℕ) (es : List Entry) (size : ℕ) → size < at → laidb at es size ≡ false
 unfolding laidb
 laid-behind at [] size h = ne-eqb at size (λ e. omega arith)
@@ -273,10 +256,6 @@ module _ (book : List ℕ) where
   pub fault-broken : brokenb (listsIn book) (contentsOf book) (length book) ≡ true → contentsFault book ≡ CONTENTS
   unfolding contentsFault
   fault-broken h = rw h
-
-  pub fault-none : brokenb (listsIn book) (contentsOf book) (length book) ≡ false → contentsFault book ≡ TAKEN
-  unfolding contentsFault
-  fault-none h = rw h
 
   -- what it says of a book whose contents keep the rules
   module _ (good : contentsFault book ≡ TAKEN) where

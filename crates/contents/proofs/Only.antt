@@ -1,13 +1,14 @@
 -- Each public contract is an equation with a definition, and two things that equal a third are equal; so no second answer satisfies it.
 -- `Post` is what a function's `ensures` says of its result and of what it was lent; a contract that left a field open would fall here.
 use mathlib.Core.Path.{_≡_}
-use Rattle.nodes.proofs.Only.{only}
+use Rattle.laws.proofs.Only.{only}
 use Rattle.contents.proofs.check.contents_fault.Reads as contents-fault
 use Rattle.contents.proofs.entry.contents_end.Reads as contents-end
 use Rattle.contents.proofs.entry.entry_at.Reads as entry-at
 use Rattle.contents.proofs.entry.entry_count.Reads as entry-count
 use Rattle.contents.proofs.step.pass_entry.Reads as pass-entry
 use Rattle.contents.proofs.step.start_of.Reads as start-of
+use Rattle.contents.proofs.step.step_answer.Reads as step-answer
 
 pub contents-end-only : (κs : _) (a : _) (r r′ : _) (s s′ : _) → contents-end.Post κs a r s → contents-end.Post κs a r′ s′ → r ≡ r′
 contents-end-only κs a r r′ s s′ p q = only p q
@@ -23,6 +24,9 @@ start-of-only κs a r r′ s s′ p q = only p q
 
 pub pass-entry-only : (κs : _) (a : _) (r r′ : _) (s s′ : _) → pass-entry.Post κs a r s → pass-entry.Post κs a r′ s′ → r ≡ r′
 pass-entry-only κs a r r′ s s′ p q = only p q
+
+pub step-answer-only : (κs : _) (a : _) (r r′ : _) (s s′ : _) → step-answer.Post κs a r s → step-answer.Post κs a r′ s′ → r ≡ r′
+step-answer-only κs a r r′ s s′ p q = only p q
 
 pub contents-fault-only : (κs : _) (a : _) (r r′ : _) (s s′ : _) → contents-fault.Post κs a r s → contents-fault.Post κs a r′ s′ → r ≡ r′
 contents-fault-only κs a r r′ s s′ p q = only p q

@@ -4,8 +4,8 @@ use mathlib.Core.Bool.{Bool, true, cond, not, _&&_, _||_}
 use mathlib.Core.List.{List, [], _∷_}
 use lib.Dec.{ltb, eqb}
 use lib.ListN.{length, getD, take, drop}
-use Rattle.nodes.specs.Answer.{TAKEN, CONTENTS}
-use Rattle.nodes.specs.Choose.{any}
+use Rattle.answers.specs.Answer.{TAKEN, CONTENTS}
+use Rattle.laws.specs.Choose.{any}
 use Rattle.nodes.specs.Words.{MOST-NODES}
 use Rattle.numbers.specs.Little.{NUMBER-BYTES, NODE-BYTES, numbers, numberCount, numberAt}
 use Rattle.contents.specs.declared.entry.Entry.{Entry}
@@ -37,7 +37,7 @@ entryNumbers e = e .tag ∷ e .offset ∷ e .count ∷ []
 unfoldable pub listsIn : List ℕ → ℕ
 listsIn book = numberAt book 0
 
--- all entries that there could be behind it, and how many there are
+-- all whole entries after that number, and how many there are
 unfoldable pub entriesIn : List ℕ → List Entry
 entriesIn book = entries (drop 1 (numbers book))
 
@@ -52,7 +52,7 @@ entryAt book index = getD (entriesIn book) index (entry 0 0 0)
 unfoldable pub contentsOf : List ℕ → List Entry
 contentsOf book = take (listsIn book) (entriesIn book)
 
--- the place right after the contents of so many lists
+-- the place right after the contents of `lists` lists
 unfoldable pub contentsEnd : ℕ → ℕ
 contentsEnd lists = NUMBER-BYTES * (1 + ENTRY-NUMBERS * lists)
 
@@ -67,7 +67,7 @@ unfoldable pub laidb : ℕ → List Entry → ℕ → Bool
 laidb at [] size = eqb at size
 laidb at (e ∷ es) size = eqb (e .offset) at && laidb (at + NODE-BYTES * e .count) es size
 
--- a rule is broken by so many lists, their entries and the book's size: more lists than 16, a count above 4,096, tags that don't ascend, or bodies
+-- `lists` lists with these entries, in a book of `size` bytes, break a rule: more lists than 16, a count above 4,096, tags that don't ascend, or bodies
 -- that don't lie right after the contents and one another up to the end; so the contents of a book that is cut short break one too
 unfoldable pub brokenb : ℕ → List Entry → ℕ → Bool
 brokenb lists es size =

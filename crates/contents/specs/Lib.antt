@@ -1,3 +1,4 @@
--- What the contracts of `contents` cite: document 01's rules in `Contents`; `Passing` has the words of the step from list to list.
+-- What the contracts of `contents` cite: document 01's rules in `Contents`, and the step from list to list in `Passing`.
 pub mod Contents
 pub mod Passing
+pub mod Private

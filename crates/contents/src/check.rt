@@ -5,16 +5,17 @@ use crate::entry::entry_at;
 use crate::step::Step;
 use crate::step::pass_entry;
 use crate::step::start_of;
-use nodes::answer::CONTENTS;
-use nodes::answer::TAKEN;
+use crate::step::step_answer;
+use answers::answer::CONTENTS;
 use numbers::little::number_at;
 ghost use mathlib.Core.Path.{_≡_};
 ghost use Prim.Native.Nat.{_≤_};
 ghost use lib.ListN.{length, take};
 ghost use Rattle.contents.specs.Contents.{entriesIn, contentsEnd, contentsFault};
-ghost use Rattle.contents.specs.Passing.{startOf, Kept};
+ghost use Rattle.contents.specs.Passing.{startOf};
+ghost use Rattle.contents.specs.Private.Walk.{Kept};
 
-// The walk along the entries of a book that is long enough to hold so many.
+// Walks along the entries of a book that is long enough to hold `lists` of them.
 fn pass_contents(book: &[u8], lists: u32) -> Step
     requires { ⌜ contentsEnd lists ≤ length (now book) ⌝ }
     ensures { λ r. ⌜ Kept (startOf lists) (take lists (entriesIn (now (book .entry)))) r ⌝ }
@@ -32,7 +33,7 @@ fn pass_contents(book: &[u8], lists: u32) -> Step
     Step::Reached(place)
 }
 
-// The caller learns whether the book's contents break a rule: CONTENTS if so, and TAKEN if not.
+// Returns whether the book's contents break a rule: CONTENTS if so, and TAKEN if not.
 pub fn contents_fault(book: &[u8]) -> u32
     ensures { λ r. ⌜ r ≡ contentsFault (now (book .entry)) ⌝ }
 {
@@ -43,12 +44,5 @@ pub fn contents_fault(book: &[u8]) -> u32
     if book.len() < contents_end(lists) {
         return CONTENTS;
     }
-    let step = pass_contents(book, lists);
-    let Step::Reached(last) = step else {
-        return CONTENTS;
-    };
-    if last.end != book.len() {
-        return CONTENTS;
-    }
-    TAKEN
+    step_answer(pass_contents(book, lists), book.len())
 }

@@ -10,21 +10,22 @@ pub const MOST_LISTS: u32 = 16;
 // How many numbers an entry takes in a book.
 pub const ENTRY_NUMBERS: usize = 3;
 
-// What the contents say of a list: its tag, where its body starts in the book, and how many nodes it has.
+// What the contents say of a list: its tag, where its body starts in the book, and how many nodes
+// it has.
 pub struct Entry {
     pub tag: u32,
     pub offset: u32,
     pub count: u32,
 }
 
-// The caller gets how many bytes the contents of so many lists take; the first body starts there.
+// Returns how many bytes the contents of `lists` lists take; the first body starts there.
 pub fn contents_end(lists: u32) -> usize
     ensures { λ r. ⌜ r ≡ contentsEnd lists ⌝ }
 {
     NUMBER_BYTES * (1 + ENTRY_NUMBERS * lists as usize)
 }
 
-// The caller gets how many entries there could be behind the book's first number.
+// Returns how many entries there could be after the book's first number.
 pub fn entry_count(book: &[u8]) -> usize
     ensures { λ r. ⌜ r ≡ entryCount (now (book .entry)) ⌝ }
 {
@@ -34,7 +35,7 @@ pub fn entry_count(book: &[u8]) -> usize
     (book.len() / NUMBER_BYTES - 1) / ENTRY_NUMBERS
 }
 
-// The caller gets the entry at an index of the book's contents, or zeros where there could be none.
+// Returns the entry at an index of the book's contents, or zeros where there could be none.
 pub fn entry_at(book: &[u8], index: usize) -> Entry
     ensures { λ r. ⌜ r ≡ entryAt (now (book .entry)) index ⌝ }
 {

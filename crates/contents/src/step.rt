@@ -1,14 +1,16 @@
 // The step along the contents, from list to list.
 use crate::entry::Entry;
 use crate::entry::contents_end;
-use nodes::answer::CONTENTS;
+use answers::answer::CONTENTS;
+use answers::answer::TAKEN;
 use nodes::node::MOST_NODES;
 use numbers::little::NODE_BYTES;
 ghost use mathlib.Core.Path.{_≡_};
-ghost use Rattle.contents.specs.Passing.{startOf, stepOf};
+ghost use Rattle.contents.specs.Passing.{startOf, stepOf, stepAnswer};
 
-// Where a walk along the contents stands: whether it has passed a list, and if so, its tag; and where the next body has to start.
-pub struct Place {
+// Where a walk along the contents stands: whether it has passed a list, and if so, its tag; and
+// where the next body has to start.
+pub struct ContentsPlace {
     pub begun: bool,
     pub tag: u32,
     pub end: usize,
@@ -16,24 +18,24 @@ pub struct Place {
 
 // What a step answers: the place that it reached, or the refusal.
 pub enum Step {
-    Reached(Place),
+    Reached(ContentsPlace),
     Refused(u32),
 }
 
-// The caller gets the place before the first of so many lists.
-pub fn start_of(lists: u32) -> Place
+// Returns the place before the first of the `lists` lists.
+pub fn start_of(lists: u32) -> ContentsPlace
     ensures { λ r. ⌜ r ≡ startOf lists ⌝ }
 {
-    Place {
+    ContentsPlace {
         begun: false,
         tag: 0,
         end: contents_end(lists),
     }
 }
 
-// The caller gets the place behind the next list, or CONTENTS: its body has to start where the last one ended, it may not be too long, and
-// its tag has to be above the last one's.
-pub fn pass_entry(place: Place, entry: Entry) -> Step
+// Returns the place after the next list, or CONTENTS: its body has to start where the last one
+// ended, it may not be too long, and its tag has to be above the last one's.
+pub fn pass_entry(place: ContentsPlace, entry: Entry) -> Step
     ensures { λ r. ⌜ r ≡ stepOf place entry ⌝ }
 {
     if entry.offset as usize != place.end {
@@ -45,9 +47,25 @@ pub fn pass_entry(place: Place, entry: Entry) -> Step
     if place.begun && entry.tag <= place.tag {
         return Step::Refused(CONTENTS);
     }
-    Step::Reached(Place {
+    Step::Reached(ContentsPlace {
         begun: true,
         tag: entry.tag,
         end: place.end + NODE_BYTES * entry.count as usize,
     })
+}
+
+// Returns the answer of a walk that ended with this step, for a book of `size` bytes: the refusal;
+// or TAKEN where the last body ends with the book, and CONTENTS where it doesn't.
+pub fn step_answer(step: Step, size: usize) -> u32
+    ensures { λ r. ⌜ r ≡ stepAnswer step size ⌝ }
+{
+    match step {
+        Step::Reached(last) => {
+            if last.end != size {
+                return CONTENTS;
+            }
+            TAKEN
+        }
+        Step::Refused(answer) => answer,
+    }
 }

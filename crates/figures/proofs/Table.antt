@@ -6,27 +6,27 @@ use mathlib.Core.List.{List, [], _∷_, flatMap}
 use Prim.Native.Nat.{ℕ}
 use lib.Dec.{eqb}
 use borrow.Author.Tests.{eqb-true}
-use Rattle.nodes.specs.Choose.{All, any, keep}
+use Rattle.laws.specs.Choose.{All, any, keep}
 use Rattle.nodes.specs.Node.{endsb, insideb, deeperb, directlyb, apartb, afterb, openb, sameb}
 use Rattle.nodes.specs.Words.{nodes, wordsOf}
 use Rattle.lists.specs.Check.{checkFrom, checkNodes, raggedb, longb, wordFault, checkWords}
 use Rattle.lists.specs.Fault.{levelb, spanb, orderb, crossb, depthb, fault}
-use Rattle.lists.specs.Two.{nestedb, agreeb, oddsb, jointb, refusedb, checkTwo}
+use Rattle.lists.specs.Two.{nestedb, agreeb, oddsb, jointb, checkTwo}
+use Rattle.answers.specs.Verdict.{refusedb}
 use Rattle.paging.specs.Key.{aboveb}
 use Rattle.paging.specs.Page.{pastb, remains, handed, doneb, reached}
-use Rattle.nodes.specs.Written.{wordsIn, written, answerOf, ifTaken, outputOf}
+use Rattle.answers.specs.Output.{wordsIn, written, answerOf, ifTaken, outputOf}
 use Rattle.tickets.specs.Listing.{relatedb, keyOf, leaders, followers, pairOf, everyPair, listing}
-use Rattle.tickets.specs.Row.{pairWords, pairsIn}
+use Rattle.tickets.specs.PairWords.{pairWords, pairsIn}
 use Rattle.pairs.specs.Page.{handedOut, saysDone, ticketAfter, pageOf, outputAfter}
 use Rattle.marks.specs.Back.{tagged, marksOf, documentOf, sameRowb, sameRowsb, numberedb, checkTable}
 use Rattle.marks.specs.Mark.{openAfter, strayb, deepb, markFault, unclosedb, faultFrom, checkMarks}
-use Rattle.marks.specs.Outcome.{outcomeOf, numberOutcome, numberOutput, tableMarks, unnumberOutcome, unnumberOutput}
-use Rattle.marks.specs.Outcome.{nodesWith, pickedWords, pickOutcome, pickOutput}
+use Rattle.marks.specs.Outcome.{outcomeOf, numberOutcome, numberOutput, tableMarks, unnumberOutcome, unnumberOutput, nodesWith, pickedWords, pickOutcome, pickOutput}
 use Rattle.marks.specs.Table.{closeAt, endOf, rowsFrom, tableOf, rowWords, tableWords, rows, rowIn, rowFault}
 use Rattle.forest.specs.Linked.{linksIn, linkedOf, linksOutput}
 use Rattle.forest.specs.Links.{upTo, firstOf, nodeIn, indices, innermostb, parentOf, childOf, siblingb, nextOf, linkOf, linksOf, linkWords}
-use Rattle.nodes.proofs.Tests.{never, and-read}
-use Rattle.figures.specs.Figures.{Row, figures, equalb, heldb}
+use Rattle.laws.proofs.Tests.{never, and-read}
+use Rattle.figures.specs.Figures.{Figure, figures, equalb, heldb}
 
 equal : (xs ys : List ℕ) → equalb xs ys ≡ true → xs ≡ ys
 unfolding equalb
@@ -35,7 +35,7 @@ equal [] (y ∷ ys) h = absurd (never h refl)
 equal (x ∷ xs) [] h = absurd (never h refl)
 equal (x ∷ xs) (y ∷ ys) h = let p = and-read (eqb x y) h in rw (eqb-true x y (p .0), equal xs ys (p .1))
 
-held : (rows : List Row) → heldb rows ≡ true → All (λ r. r .found ≡ r .stated) rows
+held : (rows : List Figure) → heldb rows ≡ true → All (λ r. r .found ≡ r .stated) rows
 unfolding heldb
 held [] h = tt
 held (r ∷ rows) h = let p = and-read (equalb (r .found) (r .stated)) h in (equal (r .found) (r .stated) (p .0), held rows (p .1))

@@ -4,11 +4,11 @@ use mathlib.Core.Bool.{Bool, true, false, cond, _&&_}
 use mathlib.Core.List.{List, [], _∷_, _++_, map}
 use lib.Dec.{eqb}
 use lib.ListN.{length, replicate}
-use Rattle.nodes.specs.Answer.{TAKEN, LEVEL, CROSS, DEPTH, JOINT, STRAY, UNCLOSED}
-use Rattle.lists.specs.declared.verdict.Verdict.{Verdict}
+use Rattle.answers.specs.Answer.{TAKEN, LEVEL, CROSS, DEPTH, JOINT, STRAY, UNCLOSED}
+use Rattle.answers.specs.declared.verdict.Verdict.{Verdict}
 use Rattle.lists.specs.Check.{checkWords}
 use Rattle.lists.specs.Two.{checkTwo}
-use Rattle.lists.specs.Verdict.{ANCESTORS}
+use Rattle.answers.specs.Verdict.{ANCESTORS}
 use Rattle.tickets.specs.declared.ticket.Order.{Order}
 use Rattle.tickets.specs.declared.ticket.Order.the-variants.{Descendant, Ancestor}
 use Rattle.tickets.specs.declared.ticket.Place.{Place}
@@ -16,8 +16,8 @@ use Rattle.tickets.specs.declared.ticket.Place.the-variants.{Fresh, After}
 use Rattle.tickets.specs.declared.ticket.Relation.{Relation}
 use Rattle.tickets.specs.declared.ticket.Relation.the-variants.{Inside, Directly}
 use Rattle.tickets.specs.declared.ticket.Ticket.{Ticket}
-use Rattle.tickets.specs.Row.{PAIR-WORDS}
-use Rattle.tickets.specs.Ticket.{ticket, keyWith, numbersOf}
+use Rattle.tickets.specs.PairWords.{PAIR-WORDS}
+use Rattle.tickets.specs.Ticket.{keyWith, numbersOf, asked, ticketAt}
 use Rattle.pairs.specs.Calls.{Call, answer, shown}
 use Rattle.marks.specs.Mark.{TEXT}
 use Rattle.marks.specs.Outcome.{numberOutcome, numberOutput, unnumberOutcome, unnumberOutput, pickOutcome, pickOutput}
@@ -26,7 +26,7 @@ use Rattle.forest.specs.Linked.{linkedOf, linksOutput}
 use Rattle.forest.specs.Links.{NONE, LINK-WORDS}
 
 -- a figure: what the definitions compute, and what document 01 states
-pub record Row : Type 0 where
+pub record Figure : Type 0 where
   pub found : List ℕ
   pub stated : List ℕ
 
@@ -36,17 +36,17 @@ words [] = []
 words (n ∷ ns) = 5 ∷ n .0 ∷ n .1 ∷ n .2 ∷ words ns
 
 -- a verdict as its three numbers
-abbrev pub numbers : Verdict → List ℕ
-numbers v = v .answer ∷ v .list ∷ v .index ∷ []
+abbrev pub verdictNumbers : Verdict → List ℕ
+verdictNumbers v = v .answer ∷ v .list ∷ v .index ∷ []
 
 -- the check of one list: the answer, and the index of the faulty node
-abbrev pub one : List (ℕ × ℕ × ℕ) → ℕ → ℕ → Row
-one list answer index = record { found = numbers (checkWords (words list)); stated = answer ∷ ANCESTORS ∷ index ∷ [] }
+abbrev pub one : List (ℕ × ℕ × ℕ) → ℕ → ℕ → Figure
+one list answer index = record { found = verdictNumbers (checkWords (words list)); stated = answer ∷ ANCESTORS ∷ index ∷ [] }
 
 -- the check of ancestors and descendants: an answer that isn't one list's own
-abbrev pub two : List (ℕ × ℕ × ℕ) → List (ℕ × ℕ × ℕ) → ℕ → Row
+abbrev pub two : List (ℕ × ℕ × ℕ) → List (ℕ × ℕ × ℕ) → ℕ → Figure
 two ancestors descendants answer =
-    record { found = numbers (checkTwo (words ancestors) (words descendants)); stated = answer ∷ ANCESTORS ∷ 0 ∷ [] }
+    record { found = verdictNumbers (checkTwo (words ancestors) (words descendants)); stated = answer ∷ ANCESTORS ∷ 0 ∷ [] }
 
 -- a list of nodes, each given as (start, end, level)
 abbrev pub Nodes : Type 0
@@ -66,12 +66,12 @@ starts (p ∷ ps) = p .0 ∷ p .1 ∷ starts ps
 abbrev pub shows : ℕ → List (ℕ × ℕ) → ℕ → List ℕ
 shows answer pairs done = answer ∷ length pairs ∷ starts pairs ++ (done ∷ [])
 
--- so many pairs, and not done; so many, and done
-abbrev pub more : List (ℕ × ℕ) → List ℕ
-more pairs = shows TAKEN pairs 0
+-- a page of these pairs that isn't done, and one that is
+abbrev pub notDone : List (ℕ × ℕ) → List ℕ
+notDone pairs = shows TAKEN pairs 0
 
-abbrev pub all : List (ℕ × ℕ) → List ℕ
-all pairs = shows TAKEN pairs 1
+abbrev pub done : List (ℕ × ℕ) → List ℕ
+done pairs = shows TAKEN pairs 1
 
 -- what a call shows by the definitions, and what a sequence does in which each call takes the ticket that the last one returned
 abbrev pub seen : Ticket → Call → List ℕ
@@ -84,11 +84,11 @@ seenThrough t [] = []
 seenThrough t (c ∷ cs) = seen t c ++ seenThrough (answer t c .ticket) cs
 
 -- page calls from a fresh ticket on
-abbrev pub calls : Relation → Order → List Call → List ℕ → Row
-calls relation order cs stated = record { found = seenThrough (ticket relation order Fresh) cs; stated = stated }
+abbrev pub calls : Relation → Order → List Call → List ℕ → Figure
+calls relation order cs stated = record { found = seenThrough (ticketAt (asked relation order) Fresh) cs; stated = stated }
 
 -- page calls with the same two lists, one for each room
-abbrev pub page : Relation → Order → List ℕ → Nodes → Nodes → List ℕ → Row
+abbrev pub page : Relation → Order → List ℕ → Nodes → Nodes → List ℕ → Figure
 page relation order rooms ancestors descendants stated =
     calls relation order (map (λ room. call room ancestors descendants) rooms) stated
 
@@ -98,9 +98,9 @@ placeNumbers Fresh = []
 placeNumbers (After k) = numbersOf k
 
 -- a refused page call with room 1 and a ticket in document 5: the answer, no pair, not done, and the ticket's place again
-abbrev pub refused : Relation → Order → ℕ → ℕ → Nodes → Nodes → ℕ → Row
+abbrev pub refused : Relation → Order → ℕ → ℕ → Nodes → Nodes → ℕ → Figure
 refused relation order leader follower ancestors descendants stated =
-    let t = ticket relation order (After (keyWith 5 leader follower)) in
+    let t = ticketAt (asked relation order) (After (keyWith 5 leader follower)) in
     let c = call 1 ancestors descendants in
     record { found = seen t c ++ placeNumbers (answer t c .ticket .place); stated = shows stated [] 0 ++ (5 ∷ leader ∷ follower ∷ []) }
 
@@ -111,11 +111,11 @@ Z = (2, 10, 2) ∷ (3, 7, 3) ∷ []
 abbrev pub S : Nodes
 S = (4, 6, 4) ∷ (8, 9, 3) ∷ []
 
--- marks of document 5 numbered into an output of so many rows: the answer, how many rows, and the output
+-- marks of document 5 numbered into an output of as many rows: the answer, how many rows, and the output
 abbrev pub numbered : List ℕ → ℕ → List ℕ
 numbered marks room =
     let out : List ℕ = replicate (ROW-WORDS * room) 0 in
-    numberOutcome 5 marks out .answer ∷ numberOutcome 5 marks out .count ∷ numberOutput 5 marks out
+    numberOutcome 5 marks out .verdict .answer ∷ numberOutcome 5 marks out .count ∷ numberOutput 5 marks out
 
 -- the words of rows of document 5, each given as (start, end, level, tag)
 abbrev pub rowsOf : List (ℕ × ℕ × ℕ × ℕ) → List ℕ
@@ -123,28 +123,28 @@ rowsOf [] = []
 rowsOf (r ∷ rs) = 5 ∷ r .0 ∷ r .1 ∷ r .2 ∷ r .3 ∷ rowsOf rs
 
 -- marks that are taken, and marks that are refused, with an output that has room
-abbrev pub number : List ℕ → List (ℕ × ℕ × ℕ × ℕ) → Row
+abbrev pub number : List ℕ → List (ℕ × ℕ × ℕ × ℕ) → Figure
 number marks rows = record { found = numbered marks (length rows); stated = TAKEN ∷ length rows ∷ rowsOf rows }
 
-abbrev pub faulty : List ℕ → ℕ → Row
+abbrev pub faulty : List ℕ → ℕ → Figure
 faulty marks answer = record { found = numbered marks 1; stated = answer ∷ 0 ∷ replicate ROW-WORDS 0 }
 
 -- a table turned back into marks: the answer, the document, how many marks, and the output
-abbrev pub back : List (ℕ × ℕ × ℕ × ℕ) → List ℕ → Row
+abbrev pub back : List (ℕ × ℕ × ℕ × ℕ) → List ℕ → Figure
 back rows marks =
     let out : List ℕ = replicate (length marks) 0 in
     let r = unnumberOutcome (rowsOf rows) out in
     record { found = r .answer ∷ r .document ∷ r .count ∷ unnumberOutput (rowsOf rows) out; stated = TAKEN ∷ 5 ∷ length marks ∷ marks }
 
 -- a tag picked out of a table: the answer, how many nodes, and the output
-abbrev pub pick : List (ℕ × ℕ × ℕ × ℕ) → ℕ → Nodes → Row
+abbrev pub pick : List (ℕ × ℕ × ℕ × ℕ) → ℕ → Nodes → Figure
 pick rows tag picked =
     let out : List ℕ = replicate (length (words picked)) 0 in
     let r = pickOutcome (rowsOf rows) tag out in
-    record { found = r .answer ∷ r .count ∷ pickOutput (rowsOf rows) tag out; stated = TAKEN ∷ length picked ∷ words picked }
+    record { found = r .verdict .answer ∷ r .count ∷ pickOutput (rowsOf rows) tag out; stated = TAKEN ∷ length picked ∷ words picked }
 
 -- the links of a list: the answer, how many nodes, and the output
-abbrev pub links : Nodes → List ℕ → Row
+abbrev pub links : Nodes → List ℕ → Figure
 links list stated =
     let out : List ℕ = replicate (LINK-WORDS * length list) 0 in
     let r = linkedOf (words list) out in
@@ -158,7 +158,7 @@ abbrev pub sixRows : List (ℕ × ℕ × ℕ × ℕ)
 sixRows = (1, 11, 1, 1) ∷ (2, 10, 2, 2) ∷ (3, 7, 3, 2) ∷ (4, 6, 4, 3) ∷ (5, 5, 5, TEXT) ∷ (8, 9, 3, 3) ∷ []
 
 -- the table
-unfoldable pub figures : List Row
+unfoldable pub figures : List Figure
 figures =
     one ((1, 5, 1) ∷ (5, 7, 2) ∷ []) CROSS 1
     ∷ one ((1, 5, 1) ∷ (6, 7, 1) ∷ []) TAKEN 0
@@ -169,25 +169,25 @@ figures =
     ∷ one ((2, 2, 65) ∷ []) LEVEL 0
     ∷ two ((1, 9, 1) ∷ []) ((4, 12, 2) ∷ []) JOINT
     -- shortcut 1, joining only with the innermost open zone, loses 2-4; shortcut 2, leaving a zone when the ancestors run out, loses 2-8
-    ∷ page Inside Descendant (3 ∷ []) Z S (all ((2, 4) ∷ (3, 4) ∷ (2, 8) ∷ []))
+    ∷ page Inside Descendant (3 ∷ []) Z S (done ((2, 4) ∷ (3, 4) ∷ (2, 8) ∷ []))
     -- shortcut 4, printing ancestor order in the order found, gives the row above
-    ∷ page Inside Ancestor (3 ∷ []) Z S (all ((2, 4) ∷ (2, 8) ∷ (3, 4) ∷ []))
-    ∷ page Directly Descendant (2 ∷ []) Z S (all ((3, 4) ∷ (2, 8) ∷ []))
-    ∷ page Directly Ancestor (2 ∷ []) Z S (all ((2, 8) ∷ (3, 4) ∷ []))
-    ∷ page Inside Descendant (2 ∷ 2 ∷ []) Z S (more ((2, 4) ∷ (3, 4) ∷ []) ++ all ((2, 8) ∷ []))
-    ∷ page Inside Descendant (3 ∷ []) Z Z (all ((2, 3) ∷ []))
+    ∷ page Inside Ancestor (3 ∷ []) Z S (done ((2, 4) ∷ (2, 8) ∷ (3, 4) ∷ []))
+    ∷ page Directly Descendant (2 ∷ []) Z S (done ((3, 4) ∷ (2, 8) ∷ []))
+    ∷ page Directly Ancestor (2 ∷ []) Z S (done ((2, 8) ∷ (3, 4) ∷ []))
+    ∷ page Inside Descendant (2 ∷ 2 ∷ []) Z S (notDone ((2, 4) ∷ (3, 4) ∷ []) ++ done ((2, 8) ∷ []))
+    ∷ page Inside Descendant (3 ∷ []) Z Z (done ((2, 3) ∷ []))
     ∷ refused Inside Descendant 4 2 ((1, 9, 1) ∷ []) ((4, 12, 2) ∷ []) JOINT
-    ∷ page Inside Descendant (1 ∷ []) [] [] (all [])
+    ∷ page Inside Descendant (1 ∷ []) [] [] (done [])
     -- shortcut 3, "directly" as "innermost in the list": the list of ancestors has no node of level 3
-    ∷ page Inside Descendant (1 ∷ []) ((2, 10, 2) ∷ []) ((4, 6, 4) ∷ []) (all ((2, 4) ∷ []))
-    ∷ page Directly Descendant (1 ∷ []) ((2, 10, 2) ∷ []) ((4, 6, 4) ∷ []) (all [])
-    ∷ page Directly Ancestor (1 ∷ []) ((2, 10, 2) ∷ []) ((4, 6, 4) ∷ []) (all [])
+    ∷ page Inside Descendant (1 ∷ []) ((2, 10, 2) ∷ []) ((4, 6, 4) ∷ []) (done ((2, 4) ∷ []))
+    ∷ page Directly Descendant (1 ∷ []) ((2, 10, 2) ∷ []) ((4, 6, 4) ∷ []) (done [])
+    ∷ page Directly Ancestor (1 ∷ []) ((2, 10, 2) ∷ []) ((4, 6, 4) ∷ []) (done [])
     -- shortcut 5, an index as the place reached: after a removal 2-8 is lost, after an insertion it comes twice
-    ∷ calls Inside Descendant (call 2 Z S ∷ call 2 Z ((8, 9, 3) ∷ []) ∷ []) (more ((2, 4) ∷ (3, 4) ∷ []) ++ all ((2, 8) ∷ []))
+    ∷ calls Inside Descendant (call 2 Z S ∷ call 2 Z ((8, 9, 3) ∷ []) ∷ []) (notDone ((2, 4) ∷ (3, 4) ∷ []) ++ done ((2, 8) ∷ []))
     ∷ calls Inside Ancestor (call 2 Z S ∷ call 2 Z ((4, 6, 4) ∷ (5, 5, 5) ∷ (8, 9, 3) ∷ []) ∷ [])
-    (more ((2, 4) ∷ (2, 8) ∷ []) ++ all ((3, 4) ∷ (3, 5) ∷ []))
+    (notDone ((2, 4) ∷ (2, 8) ∷ []) ++ done ((3, 4) ∷ (3, 5) ∷ []))
     -- shortcut 6, a node in both lists as JOINT, or as its own ancestor
-    ∷ page Inside Descendant (4 ∷ []) Z ((3, 7, 3) ∷ (4, 6, 4) ∷ []) (all ((2, 3) ∷ (2, 4) ∷ (3, 4) ∷ []))
+    ∷ page Inside Descendant (4 ∷ []) Z ((3, 7, 3) ∷ (4, 6, 4) ∷ []) (done ((2, 3) ∷ (2, 4) ∷ (3, 4) ∷ []))
     ∷ number elevenMarks sixRows
     ∷ back sixRows elevenMarks
     ∷ pick sixRows 2 Z
@@ -206,6 +206,6 @@ equalb (x ∷ xs) [] = false
 equalb (x ∷ xs) (y ∷ ys) = eqb x y && equalb xs ys
 
 -- every row has found what is stated
-unfoldable pub heldb : List Row → Bool
+unfoldable pub heldb : List Figure → Bool
 heldb [] = true
 heldb (r ∷ rows) = equalb (r .found) (r .stated) && heldb rows

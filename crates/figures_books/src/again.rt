@@ -3,16 +3,16 @@ use crate::say::say;
 use crate::say::say_answer;
 use crate::say::say_number;
 use crate::say::say_verdict;
+use answers::answer::TAKEN;
+use answers::verdict::Counted;
 use check::same;
 use contents::entry::contents_end;
 use contents::entry::entry_at;
 use contents::entry::entry_count;
-use nodes::answer::TAKEN;
 use numbers::little::NUMBER_BYTES;
 use numbers::little::number_at;
 use numbers::part::copy_numbers;
 use numbers::part::part_of;
-use writing::write::Written;
 use writing::write::write_book;
 ghost use Prim.Native.Nat.{_*_, _≤_};
 ghost use lib.ListN.{length};
@@ -29,7 +29,7 @@ const OUTPUT_BYTES: usize = 65700;
 // The byte that the output is painted with.
 const PAINT: u8 = 165;
 
-// The caller gets the lesser of two numbers.
+// Returns the lesser of two numbers.
 fn lesser(a: usize, b: usize) -> usize
     ensures { λ r. ⌜ (r ≤ a) × (r ≤ b) ⌝ }
 {
@@ -39,7 +39,8 @@ fn lesser(a: usize, b: usize) -> usize
     b
 }
 
-// The caller gets how many entries of the book are taken over: as many as it says it has, there are and there is room for.
+// Returns how many entries of the book are taken over: as many as it says it has, there are and
+// there is room for.
 fn taken_over(book: &[u8]) -> usize
     ensures { λ r. ⌜ r ≤ 17 ⌝ }
 {
@@ -73,7 +74,7 @@ fn is_painted(bytes: &[u8]) -> bool {
 }
 
 // Says what writing answers, and if a byte beyond what was written has changed.
-fn say_written(written: Written, out: &[u8]) {
+fn say_written(written: Counted, out: &[u8]) {
     say_verdict(b"written ", written.verdict);
     say_number(b" bytes ", written.count);
     if !is_painted(part_of(out, written.count, out.len())) {
@@ -91,7 +92,7 @@ fn say_short(entries: &[u32], list: &[u32], out: &mut [u8]) {
     }
 }
 
-// Writes a book of so many bytes into an output of one byte less.
+// Writes a book of `size` bytes into an output of one byte less.
 fn write_short(entries: &[u32], list: &[u32], size: usize) {
     let mut out = [PAINT; OUTPUT_BYTES];
     if OUTPUT_BYTES < size {
@@ -120,7 +121,7 @@ fn write_and_say(book: &[u8], entries: &[u32], list: &[u32]) {
     say(b"\n");
 }
 
-// Writes the book's parts anew: the entries of its contents and the numbers behind them.
+// Writes the book's parts anew: the entries of its contents and the numbers after them.
 pub(crate) fn write_parts(book: &[u8]) {
     let mut entries = [0u32; 2 * MOST_ENTRIES];
     let mut list = [0u32; MOST_WORDS];

@@ -1,5 +1,6 @@
-// Document 01's figures of the field book and of the printing program: each argument names a book, and for each this program prints what opening it
-// answers, where its lists lie, what writing its parts anew answers, and what the printing program prints of it.
+// Document 01's figures of the field book and of the printing program: each argument names a book,
+// and for each this program prints what opening it answers, where its lists lie, what writing its
+// parts anew answers, and what the printing program prints of it.
 mod again;
 mod say;
 
@@ -34,7 +35,8 @@ fn is_agreed(book: &[u8], tag: u32, by_tag: Found, by_place: Found) -> bool {
     same(body_in(book, tag), part_of(book, by_tag.from, by_tag.bytes))
 }
 
-// Says where the list at a place lies, looked for by its tag; and if it lies elsewhere by its place or in the reader.
+// Says where the list at a place lies, looked for by its tag; and if it lies elsewhere by its place
+// or in the reader.
 fn say_list(book: &[u8], position: usize) {
     let entry = entry_at(book, position);
     let tag = entry.tag;

@@ -1,22 +1,22 @@
 // How an answer is printed.
+use answers::answer::name_of;
+use answers::verdict::Verdict;
 use io::print_decimal;
 use io::write_all;
 use libc::STDOUT_FILENO;
-use lists::verdict::Verdict;
-use nodes::answer::name_of;
 
 // Prints a text.
 pub(crate) fn say(text: &[u8]) {
     write_all(STDOUT_FILENO, text);
 }
 
-// Prints a text and the number behind it.
+// Prints a text and the number after it.
 pub(crate) fn say_number(text: &[u8], number: usize) {
     say(text);
     print_decimal(STDOUT_FILENO, number as u64);
 }
 
-// Prints a text and the word behind it.
+// Prints a text and the word after it.
 pub(crate) fn say_word(text: &[u8], word: u32) {
     say_number(text, word as usize);
 }
@@ -27,16 +27,16 @@ fn say_letters(name: &[u8]) {
     say(&name[0..end]);
 }
 
-// Prints a text, and behind it an answer's number and name.
+// Prints a text, and after it an answer's number and name.
 pub(crate) fn say_answer(text: &[u8], answer: u32) {
     say_word(text, answer);
     say(b" ");
     say_letters(&name_of(answer));
 }
 
-// Prints a text, and behind it a verdict.
+// Prints a text, and after it a verdict.
 pub(crate) fn say_verdict(text: &[u8], verdict: Verdict) {
     say_answer(text, verdict.answer);
     say_word(b" list ", verdict.list);
-    say_number(b" index ", verdict.index);
+    say_number(b" index ", verdict.index as usize);
 }

@@ -1,12 +1,12 @@
-// Document 01's figures that no theorem covers, but for those of the book: empty lists, and lists of
-// 4,096 nodes, of one node more and of one word more. For each the program prints what the calls
+// Document 01's figures that aren't marked [P], but for those of the book: empty lists, and lists
+// of 4,096 nodes, of one node more and of one word more. For each the program prints what the calls
 // answer.
+use answers::answer::name_of;
+use answers::verdict::Verdict;
 use io::print_decimal;
 use io::write_all;
 use libc::STDOUT_FILENO;
 use lists::list::check_list;
-use lists::verdict::Verdict;
-use nodes::answer::name_of;
 use nodes::node::Node;
 use nodes::node::node_count;
 use nodes::node::put_node;
@@ -46,7 +46,7 @@ fn print_verdict(verdict: Verdict) {
     print(&name);
     print(b"]");
     print_number(b" list ", verdict.list as usize);
-    print_number(b" index ", verdict.index);
+    print_number(b" index ", verdict.index as usize);
 }
 
 // Prints the number of a page's pairs, and whether they were all that remained.

@@ -5,28 +5,25 @@ use mathlib.Core.List.{List}
 use Prim.Native.Nat.{ℕ, _/_, _≤_, _<_}
 use native.Mathlib.Omega.{arith}
 use lib.ListN.{length}
-use Rattle.nodes.specs.Answer.{TAKEN, ROOM}
+use Rattle.answers.specs.Answer.{TAKEN, ROOM}
 use Rattle.nodes.specs.Words.{nodes, count}
-use Rattle.nodes.specs.Written.{written, answerOf, outputOf}
+use Rattle.answers.specs.Output.{written, answerOf, outputOf}
 use Rattle.nodes.proofs.WordLaws.{length-nodes}
-use Rattle.nodes.proofs.Writing.{answer-fault, answer-room, answer-taken, if-taken, if-refused}
-use Rattle.lists.specs.declared.verdict.Verdict.{Verdict}
+use Rattle.answers.proofs.OutputLaws.{answer-fault, answer-room, answer-taken, if-taken, if-refused}
+use Rattle.answers.specs.declared.verdict.Verdict.{Verdict}
 use Rattle.lists.specs.Check.{checkWords}
-use Rattle.lists.specs.Verdict.{ANCESTORS, verdict}
+use Rattle.answers.specs.Verdict.{ANCESTORS, verdict, taken, counted}
 use Rattle.lists.proofs.Naming.{single}
-use Rattle.forest.specs.declared.forest.Linked.{Linked}
+use Rattle.answers.specs.declared.verdict.Counted.{Counted}
 use Rattle.forest.specs.Linked.{linksIn, linkedOf, linksOutput}
 use Rattle.forest.proofs.LinkLaws.{links-length}
 
-abbrev linked : Verdict → ℕ → Linked
-linked v count = record { verdict = v; count = count }
-
 module _ (list out : List ℕ) (v : Verdict) (q : v ≡ checkWords list) where
   -- what a call answers and leaves: a faulty list's verdict, ROOM, or the links
-  abbrev Answers : Linked → List ℕ → Type 0
+  abbrev Answers : Counted → List ℕ → Type 0
   Answers r after = (r ≡ linkedOf list out) × (after ≡ linksOutput list out)
 
-  pub refused : (v .answer ≡ TAKEN → ⊥) → Answers (linked v 0) out
+  pub refused : (v .answer ≡ TAKEN → ⊥) → Answers (counted v 0) out
   unfolding linkedOf linksOutput outputOf
   refused h =
       let c = checkWords list in
@@ -34,7 +31,7 @@ module _ (list out : List ℕ) (v : Verdict) (q : v ≡ checkWords list) where
       let a = answer-fault (c .answer) (linksIn list) out f in
       let n : answerOf (c .answer) (linksIn list) out ≡ TAKEN → ⊥ = λ z. f (sym a ∙ z) in
       let k = if-refused (c .answer) (linksIn list) out (length (nodes list)) 0 n in (
-        ap (λ w. linked w 0) q ∙ λ t. linked (verdict (sym a t) (single list .0 t) (c .index)) (sym k t),
+        ap (λ w. counted w 0) q ∙ λ t. counted (verdict (sym a t) (single list .0 t) (c .index)) (sym k t),
         sym (if-refused (c .answer) (linksIn list) out (written (linksIn list) out) out n),
       )
 
@@ -42,25 +39,24 @@ module _ (list out : List ℕ) (v : Verdict) (q : v ≡ checkWords list) where
     fault-none : checkWords list .answer ≡ TAKEN
     fault-none = sym (ap (λ w. w .answer) q) ∙ h
 
-    pub no-room : length out / 3 < count list → Answers (linked (verdict ROOM ANCESTORS 0) 0) out
+    pub no-room : (r : Counted) → length out / 3 < count list → r ≡ counted (verdict ROOM ANCESTORS 0) 0 → Answers r out
     unfolding linkedOf linksOutput outputOf
-    no-room l =
+    no-room r l e =
         let c = checkWords list in
         let a = answer-room (c .answer) (linksIn list) out fault-none (omega (arith, links-length list)) in
         let n : answerOf (c .answer) (linksIn list) out ≡ TAKEN → ⊥ = λ z. omega (arith, sym a ∙ z) in
         let k = if-refused (c .answer) (linksIn list) out (length (nodes list)) 0 n in (
-          λ t. linked (verdict (sym a t) ANCESTORS (sym (single list .1 fault-none) t)) (sym k t),
+          e ∙ λ t. counted (verdict (sym a t) ANCESTORS (sym (single list .1 fault-none) t)) (sym k t),
           sym (if-refused (c .answer) (linksIn list) out (written (linksIn list) out) out n),
         )
 
-    pub all-linked : count list ≤ length out / 3 → (n : ℕ) → n ≡ count list → (after : List ℕ) → after ≡ written (linksIn list) out
-        → Answers (linked v n) after
+    pub all-linked : count list ≤ length out / 3 → (n : ℕ) → n ≡ count list → (s : Counted) → s ≡ counted taken n → (after : List ℕ)
+        → after ≡ written (linksIn list) out → Answers s after
     unfolding linkedOf linksOutput outputOf
-    all-linked l n r after w =
+    all-linked l n r s e after w =
         let c = checkWords list in
         let a = answer-taken (c .answer) (linksIn list) out fault-none (omega (arith, links-length list)) in
         let k = if-taken (c .answer) (linksIn list) out (length (nodes list)) 0 a in (
-          ap (λ w. linked w n) q
-              ∙ λ t. linked (verdict ((fault-none ∙ sym a) t) (single list .0 t) (c .index)) ((r ∙ sym (k ∙ length-nodes list)) t),
+          e ∙ λ t. counted (verdict (sym a t) ANCESTORS (sym (single list .1 fault-none) t)) ((r ∙ sym (k ∙ length-nodes list)) t),
           w ∙ sym (if-taken (c .answer) (linksIn list) out (written (linksIn list) out) out a),
         )

@@ -15,8 +15,8 @@ use lib.ListN.{length}
 use borrow.Author.Tests.{ltb-true, ltb-false, eq-eqb, ne-eqb, eqb-true, eqb-false}
 use Rattle.nodes.specs.declared.node.Node.{Node}
 use Rattle.nodes.proofs.NodeLaws.{within, inside-trans}
-use Rattle.nodes.proofs.Tests.{either, never, not-so, not-none}
-use Rattle.forest.specs.Climb.{Ended, Elder, firstb}
+use Rattle.laws.proofs.Tests.{either, never, not-so, not-none}
+use Rattle.forest.specs.Private.Climb.{Ended, Elder, firstb}
 use Rattle.forest.specs.Links.{NONE, nodeIn, parentOf, siblingb}
 use Rattle.forest.proofs.Containing.{AcceptedList, documents, inside-unended, outside-ended, contains-between}
 use Rattle.forest.proofs.Parents.{holds, last-is-parent, parent-last, parent-before, sibling-read, sibling-make}

@@ -12,18 +12,18 @@ use lib.Dec.{ltb}
 use lib.ListN.{length}
 use borrow.Author.Tests.{ltb-true, ltb-false}
 use Rattle.nodes.specs.declared.node.Node.{Node}
-use Rattle.nodes.specs.Answer.{TAKEN}
-use Rattle.nodes.specs.Choose.{All, Pairs}
+use Rattle.answers.specs.Answer.{TAKEN}
+use Rattle.laws.specs.Choose.{All, Pairs}
 use Rattle.nodes.specs.Node.{insideb}
 use Rattle.nodes.specs.Words.{MOST-NODES, node, nodes, nodeAt}
 use Rattle.nodes.proofs.NodeLaws.{within, inside-self, after-read, after-starts}
-use Rattle.nodes.proofs.Tests.{either, never, not-so}
+use Rattle.laws.proofs.Tests.{either, never, not-so}
 use Rattle.nodes.proofs.WordLaws.{length-nodes}
 use Rattle.lists.specs.Check.{checkWords}
 use Rattle.lists.proofs.Faults.{Sound}
 use Rattle.lists.proofs.Taken.{Fine, fine-settles, nested-read, words-taken-iff}
 use Rattle.forest.specs.Links.{nodeIn}
-use Rattle.nodes.proofs.Choices.{all-at, pairs-at}
+use Rattle.laws.proofs.Choices.{all-at, pairs-at}
 
 -- what is known of an accepted list
 pub record AcceptedList (ns : List Node) : Type 0 where

@@ -11,12 +11,12 @@ use lib.Dec.{ltb, leb}
 use lib.ListN.{length}
 use borrow.Author.Tests.{leb-true, ltb-true, lt-ltb, le-ltb, le-leb, lt-leb, eq-eqb, ne-eqb}
 use Rattle.nodes.specs.declared.node.Node.{Node}
-use Rattle.nodes.specs.Choose.{All, keep}
-use Rattle.nodes.proofs.Choices.{keep-append, keep-none}
-use Rattle.nodes.proofs.Tests.{either, and-read}
+use Rattle.laws.specs.Choose.{All, keep}
+use Rattle.laws.proofs.Choices.{keep-append, keep-none}
+use Rattle.laws.proofs.Tests.{either, and-read}
 use Rattle.forest.specs.Follow.{followed}
 use Rattle.forest.specs.Links.{NONE, upTo, firstOf, indices, nextOf, siblingb}
-use Rattle.forest.proofs.Choosing.{First, none-or-not, last-or-below, all-up, first-of, none-found}
+use Rattle.forest.proofs.FirstAndLast.{First, none-or-not, last-or-below, all-up, first-of, none-found}
 
 -- tests that agree on the numbers find and keep the same
 module _ (f g : ℕ → Bool) where

@@ -13,15 +13,15 @@ use lib.ListN.{length, getD, set, drop, length-append, List·getD-append}
 use lib.Seq.{sets, sets-eq, set-append-left, getD-append-add, getD-take, take-at, drop-append-add, drop-drop}
 use Rattle.nodes.specs.declared.node.Node.{Node}
 use Rattle.nodes.specs.Words.{nodes, count}
-use Rattle.nodes.specs.Written.{wordsIn, written}
+use Rattle.answers.specs.Output.{wordsIn, written}
 use Rattle.nodes.proofs.WordLaws.{length-nodes}
 use Rattle.forest.specs.declared.link.Link.{Link}
-use Rattle.forest.specs.Climb.{Elder, Linking, link, childTo, nextTo, linkTo, linksTo}
+use Rattle.forest.specs.Private.Climb.{Elder, Linking, link, childTo, nextTo, linkTo, linksTo}
 use Rattle.forest.specs.Linked.{linksIn}
 use Rattle.forest.specs.Links.{NONE, upTo, linkWords, indices, parentOf, childOf, nextOf, siblingb, linkOf, linksOf}
-use Rattle.forest.proofs.Choosing.{last-or-below}
+use Rattle.forest.proofs.FirstAndLast.{last-or-below}
 use Rattle.forest.proofs.Containing.{AcceptedList}
-use Rattle.forest.proofs.Joining.{alone, elder-gets, elder-only, parent-only, parent-gets}
+use Rattle.forest.proofs.OneMoreNode.{alone, elder-gets, elder-only, parent-only, parent-gets}
 
 -- the words of the links of the first nodes
 abbrev words : (ℕ → Link) → ℕ → List ℕ

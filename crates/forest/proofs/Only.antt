@@ -2,7 +2,7 @@
 -- `Post` is what its `ensures` says of the answer and of what it was lent; a contract that left a field or a word open would fall here.
 use mathlib.Core.Path.{_≡_}
 use denote.Ref.{now}
-use Rattle.nodes.proofs.Only.{only}
+use Rattle.laws.proofs.Only.{only}
 use Rattle.forest.proofs.forest.link_list.Reads as link-list
 
 pub link-list-only : (κs : _) (a : _) (r r′ : _) (s s′ : _) → link-list.Post κs a r s → link-list.Post κs a r′ s′

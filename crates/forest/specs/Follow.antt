@@ -6,7 +6,7 @@ use lib.Dec.{eqb}
 use Rattle.nodes.specs.declared.node.Node.{Node}
 use Rattle.forest.specs.Links.{NONE, nextOf}
 
--- the indices met from a first one on, until there is no next one, in at most so many steps
+-- the indices met from a first one on, until there is no next one, in at most `steps` steps
 unfoldable pub followed : List Node → ℕ → ℕ → List ℕ
 followed ns zero i = []
 followed ns (suc steps) i = cond (eqb i NONE) [] (i ∷ followed ns steps (nextOf ns i))

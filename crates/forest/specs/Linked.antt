@@ -3,10 +3,10 @@ use Prim.Native.Nat.{ℕ}
 use mathlib.Core.List.{List}
 use lib.ListN.{length}
 use Rattle.nodes.specs.Words.{nodes}
-use Rattle.nodes.specs.Written.{wordsIn, answerOf, ifTaken, outputOf}
+use Rattle.answers.specs.Output.{wordsIn, answerOf, ifTaken, outputOf}
 use Rattle.lists.specs.Check.{checkWords}
-use Rattle.lists.specs.Verdict.{ANCESTORS, verdict}
-use Rattle.forest.specs.declared.forest.Linked.{Linked}
+use Rattle.answers.specs.Verdict.{ANCESTORS, verdict}
+use Rattle.answers.specs.declared.verdict.Counted.{Counted}
 use Rattle.forest.specs.Links.{linksOf, linkWords}
 
 -- the words of a list's links
@@ -15,7 +15,7 @@ linksIn list = wordsIn linkWords (linksOf (nodes list))
 
 module _ (list out : List ℕ) where
   -- the list's own answer with the faulty node's index, then ROOM, which carries index 0 as TAKEN does; and how many nodes got their links
-  unfoldable pub linkedOf : Linked
+  unfoldable pub linkedOf : Counted
   linkedOf =
       let checked = checkWords list in
       record {

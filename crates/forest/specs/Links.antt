@@ -5,7 +5,7 @@ use mathlib.Core.List.{List, [], _∷_, _++_, map}
 use lib.Dec.{ltb, eqb}
 use lib.ListN.{length, getD}
 use Rattle.nodes.specs.declared.node.Node.{Node}
-use Rattle.nodes.specs.Choose.{any}
+use Rattle.laws.specs.Choose.{any}
 use Rattle.nodes.specs.Node.{insideb}
 use Rattle.nodes.specs.Words.{node}
 use Rattle.forest.specs.declared.link.Link.{Link}

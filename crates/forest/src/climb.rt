@@ -10,10 +10,10 @@ use nodes::node::node_at;
 ghost use mathlib.Core.Path.{_≡_};
 ghost use Prim.Native.Nat.{_/_, _≤_, _<_};
 ghost use lib.ListN.{length};
-ghost use Rattle.nodes.specs.Answer.{TAKEN};
+ghost use Rattle.answers.specs.Answer.{TAKEN};
 ghost use Rattle.nodes.specs.Words.{nodes, nodeAt, count};
 ghost use Rattle.lists.specs.Check.{checkWords};
-ghost use Rattle.forest.specs.Climb.{Linking, Ended, Elder, firstb};
+ghost use Rattle.forest.specs.Private.Climb.{Linking, Ended, Elder, firstb};
 ghost use Rattle.forest.specs.Links.{LINK-WORDS};
 
 // Returns whether the node at an index is the first one of its document in an accepted list.

@@ -8,31 +8,25 @@ use crate::link::parent_at;
 use crate::link::put_child;
 use crate::link::put_link;
 use crate::link::put_next;
+use answers::answer::ROOM;
+use answers::answer::TAKEN;
+use answers::outcome::wrote;
+use answers::outcome::wrote_nothing;
+use answers::verdict::Counted;
 use lists::list::check_list;
-use lists::verdict::ANCESTORS;
-use lists::verdict::Verdict;
-use nodes::answer::ROOM;
-use nodes::answer::TAKEN;
 use nodes::node::node_at;
 use nodes::node::node_count;
 ghost use mathlib.Core.Path.{_≡_};
 ghost use Prim.Native.Nat.{_+_, _*_, _/_, _≤_, _<_};
 ghost use lib.ListN.{length};
 ghost use lib.Seq.{sets};
-ghost use Rattle.nodes.specs.Answer.{TAKEN};
+ghost use Rattle.answers.specs.Answer.{TAKEN};
 ghost use Rattle.nodes.specs.Words.{nodes, count};
-ghost use Rattle.nodes.specs.Written.{written};
+ghost use Rattle.answers.specs.Output.{written};
 ghost use Rattle.lists.specs.Check.{checkWords};
-ghost use Rattle.forest.specs.Climb.{Linking, link, linksTo};
+ghost use Rattle.forest.specs.Private.Climb.{Linking, link, linksTo};
 ghost use Rattle.forest.specs.Linked.{linksIn, linkedOf, linksOutput};
 ghost use Rattle.forest.specs.Links.{NONE, LINK-WORDS, linkWords};
-
-// What the call answers: the list's verdict or ROOM, and how many nodes got their links, 0 on
-// refusal.
-pub struct Linked {
-    pub verdict: Verdict,
-    pub count: usize,
-}
 
 // Writes the links of a node that has a given parent, or NONE, and neither child nor next sibling
 // yet.
@@ -89,31 +83,22 @@ fn link_all(list: &[u32], out: &mut [u32])
 }
 
 // Writes the links of the list's nodes into the output, three words a node in list order, and
-// returns their number; on refusal or ROOM the output stays as it was.
-pub fn link_list(list: &[u32], out: &mut [u32]) -> Linked
+// returns the list's verdict or ROOM, and the number of nodes linked; on refusal the output stays
+// as it was.
+pub fn link_list(list: &[u32], out: &mut [u32]) -> Counted
     ensures { λ r. ⌜ (r ≡ linkedOf (now (list .entry)) (now (out .entry)))
         × (now (out .exit) ≡ linksOutput (now (list .entry)) (now (out .entry))) ⌝ }
 {
     let verdict = check_list(list);
     if verdict.answer != TAKEN {
-        return Linked {
+        return Counted {
             verdict: verdict,
             count: 0,
         };
     }
     if out.len() / LINK_WORDS < node_count(list) {
-        return Linked {
-            verdict: Verdict {
-                answer: ROOM,
-                list: ANCESTORS,
-                index: 0,
-            },
-            count: 0,
-        };
+        return wrote_nothing(ROOM);
     }
     link_all(list, out);
-    Linked {
-        verdict: verdict,
-        count: node_count(list),
-    }
+    wrote(node_count(list))
 }

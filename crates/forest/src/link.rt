@@ -11,8 +11,9 @@ pub const LINK_WORDS: usize = 3;
 // The word that says there is no such node.
 pub const NONE: u32 = 4294967295;
 
-// The links of a node, each the index of another node of the list or NONE: the innermost node that contains it, the first node whose
-// parent it is, and the next node with the same parent in the same document.
+// The links of a node, each the index of another node of the list or NONE: the innermost node that
+// contains it, the first node whose parent it is, and the next node with the same parent in the
+// same document.
 pub struct Link {
     pub parent: u32,
     pub child: u32,

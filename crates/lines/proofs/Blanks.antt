@@ -11,9 +11,9 @@ use lib.Dec.{eqb}
 use lib.ListN.{length, getD, take}
 use lib.Seq.{take-suc}
 use borrow.Author.Tests.{eq-eqb, ne-eqb}
-use Rattle.nodes.specs.Choose.{keep}
-use Rattle.nodes.proofs.Tests.{either}
-use Rattle.nodes.proofs.Choices.{keep-append}
+use Rattle.laws.specs.Choose.{keep}
+use Rattle.laws.proofs.Tests.{either}
+use Rattle.laws.proofs.Choices.{keep-append}
 use Rattle.lines.specs.Line.{BLANK, unfilled}
 
 -- a word without its blanks is no longer than the word

@@ -9,9 +9,9 @@ use native.Mathlib.Omega.{arith}
 use lib.Dec.{ltb}
 use lib.ListN.{length, length-append}
 use borrow.Author.Tests.{lt-ltb, le-ltb, ltb-false}
-use Rattle.nodes.proofs.Tests.{either}
+use Rattle.laws.proofs.Tests.{either}
 use Rattle.lines.specs.Line.{MOST-DIGITS, digitsTo, decimal}
-use Rattle.lines.specs.Table.{twoDigits}
+use Rattle.lines.specs.Private.DigitTable.{twoDigits}
 
 -- the powers of ten
 unfoldable tens : ℕ → ℕ

@@ -7,7 +7,7 @@ use native.Mathlib.Omega.{arith}
 use lib.ListN.{length, length-append}
 use lib.Seq.{sets}
 use Rattle.nodes.specs.declared.node.Node.{Node}
-use Rattle.lines.specs.Line.{BLANK, LINE-FEED, LINE-BYTES, decimal, pairOf, pairLine}
+use Rattle.lines.specs.Line.{BLANK, LINE-FEED, LINE-BYTES, decimal, pairWith, pairLine}
 use Rattle.lines.proofs.Digits.{digits-32, digits-64}
 use Rattle.lines.proofs.Putting.{Put, put-parted}
 
@@ -19,7 +19,7 @@ pub field-64 : (n b : ℕ) → n < 18446744073709551616 → length (decimal n ++
 field-64 n b h = omega (arith, length-append (decimal n) (b ∷ []), digits-64 n h)
 
 -- so three of them fill no more than a line's room
-pub line-few : (x y : Node) → x .document < 4294967296 → x .start < 4294967296 → y .start < 4294967296 → length (pairLine (pairOf x y)) ≤ LINE-BYTES
+pub line-few : (x y : Node) → x .document < 4294967296 → x .start < 4294967296 → y .start < 4294967296 → length (pairLine (pairWith x y)) ≤ LINE-BYTES
 unfolding pairLine
 line-few x y p q r =
     let one = decimal (x .document) in

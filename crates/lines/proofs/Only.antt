@@ -2,7 +2,7 @@
 -- `Post` is what an `ensures` says of the answer and of what was lent; a contract that left a byte open would fall here.
 use mathlib.Core.Path.{_≡_}
 use denote.Ref.{now}
-use Rattle.nodes.proofs.Only.{only}
+use Rattle.laws.proofs.Only.{only}
 use Rattle.lines.proofs.line.put_lines.Reads as put-lines
 use Rattle.lines.proofs.line.put_refusal.Reads as put-refusal
 use Rattle.lines.proofs.line.put_total.Reads as put-total

@@ -10,12 +10,12 @@ use lib.ListN.{length, getD, take}
 use lib.Seq.{take-all, take-suc}
 use Rattle.nodes.specs.declared.node.Node.{Node}
 use Rattle.nodes.specs.Words.{node, nodes, count, nodeAt}
-use Rattle.nodes.specs.Written.{wordsIn}
+use Rattle.answers.specs.Output.{wordsIn}
 use Rattle.nodes.proofs.WordLaws.{length-nodes}
 use Rattle.tickets.specs.Listing.{Pair}
-use Rattle.tickets.specs.Row.{pairsIn}
-use Rattle.nodes.proofs.Writing.{words-one-more}
-use Rattle.lines.specs.Line.{LINE-BYTES, pairOf, pairLine, linesFor}
+use Rattle.tickets.specs.PairWords.{pairsIn}
+use Rattle.answers.proofs.OutputLaws.{words-one-more}
+use Rattle.lines.specs.Line.{LINE-BYTES, pairWith, pairLine, linesFor}
 
 length-pairs : (ns : List Node) → length (pairsIn ns) ≡ length ns / 2
 unfolding pairsIn
@@ -27,14 +27,14 @@ beyond : (x y : Node) (ns : List Node) (d : Node) {k m : ℕ} → m ≡ suc (suc
 beyond x y ns d q = rw q
 
 pair-there : (ns : List Node) (i : ℕ) (d : Node) (p : Pair) → i < length ns / 2
-    → getD (pairsIn ns) i p ≡ pairOf (getD ns (2 * i) d) (getD ns (2 * i + 1) d)
+    → getD (pairsIn ns) i p ≡ pairWith (getD ns (2 * i) d) (getD ns (2 * i + 1) d)
 unfolding pairsIn
 pair-there [] i d p h = absurd (not-suc-le-zero h)
 pair-there (x ∷ []) i d p h = absurd (not-suc-le-zero h)
 pair-there (x ∷ y ∷ ns) zero d p h = refl
 pair-there (x ∷ y ∷ ns) (suc i) d p h =
     pair-there ns i d p (omega arith)
-    ∙ λ k. pairOf
+    ∙ λ k. pairWith
     (sym (beyond x y ns d {k = 2 * i} {m = 2 * suc i} (omega arith)) k)
     (sym (beyond x y ns d {k = 2 * i + 1} {m = 2 * suc i + 1} (omega arith)) k)
 
@@ -47,17 +47,17 @@ unfolding wordsIn flatMap
 lines-none pairs = refl
 
 pub lines-more : (pairs : List ℕ) (i : ℕ) (x y : Node) → i < count pairs / 2 → x ≡ nodeAt pairs (2 * i) → y ≡ nodeAt pairs (2 * i + 1)
-    → firstLines pairs (i + 1) ≡ firstLines pairs i ++ pairLine (pairOf x y)
+    → firstLines pairs (i + 1) ≡ firstLines pairs i ++ pairLine (pairWith x y)
 unfolding nodeAt
 lines-more pairs i x y h p q =
     let ns = nodes pairs in
     let d = node 0 0 0 0 in
     let l = length-nodes pairs in
     let m = length-pairs ns in
-    let e = pair-there ns i d (pairOf d d) (omega arith) ∙ (λ k. pairOf (sym p k) (sym q k)) in
-    ap (wordsIn pairLine) (ap (λ k. take k (pairsIn ns)) (add-one i) ∙ take-suc (pairsIn ns) i (pairOf d d) (omega arith)
+    let e = pair-there ns i d (pairWith d d) (omega arith) ∙ (λ k. pairWith (sym p k) (sym q k)) in
+    ap (wordsIn pairLine) (ap (λ k. take k (pairsIn ns)) (add-one i) ∙ take-suc (pairsIn ns) i (pairWith d d) (omega arith)
     ∙ ap (λ pair. take i (pairsIn ns) ++ pair ∷ []) e)
-    ∙ words-one-more pairLine (take i (pairsIn ns)) (pairOf x y)
+    ∙ words-one-more pairLine (take i (pairsIn ns)) (pairWith x y)
 
 -- the first pairs are those that the text has room for, where it has room for no more or there are no more
 module _ (pairs text : List ℕ) (i : ℕ) where

@@ -6,8 +6,8 @@ use Prim.Native.Nat.{ℕ, suc, _+_, _≤_}
 use native.Mathlib.Omega.{arith}
 use lib.ListN.{length, set, length-append}
 use lib.Seq.{sets, set-comm, append-snoc}
-use Rattle.nodes.specs.Written.{written}
-use Rattle.nodes.proofs.Writing.{sets-more, sets-written}
+use Rattle.answers.specs.Output.{written}
+use Rattle.answers.proofs.OutputLaws.{sets-more, sets-written}
 
 -- a text put at a place of a buffer: what the buffer is then, and the place behind it
 pub record Put (before : List ℕ) (at : ℕ) (us after : List ℕ) (to : ℕ) : Type 0 where

@@ -11,8 +11,8 @@ use native.Mathlib.Omega.{arith}
 use lib.Dec.{eqb}
 use lib.ListN.{getD}
 use borrow.Author.Tests.{eqb-true, eqb-false}
-use Rattle.nodes.proofs.Tests.{either, and-read}
-use Rattle.lines.specs.Table.{Tabled}
+use Rattle.laws.proofs.Tests.{either, and-read}
+use Rattle.lines.specs.Private.DigitTable.{Tabled}
 
 -- every number below a bound passes a test
 abbrev pub each : (ℕ → Bool) → ℕ → Bool

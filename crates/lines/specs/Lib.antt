@@ -1,3 +1,3 @@
 -- What the contracts of `lines` cite.
 pub mod Line
-pub mod Table
+pub mod Private

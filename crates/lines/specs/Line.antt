@@ -6,12 +6,12 @@ use mathlib.Core.List.{List, [], _∷_, _++_}
 use lib.Dec.{ltb, eqb}
 use lib.ListN.{length, take}
 use Rattle.nodes.specs.declared.node.Node.{Node}
-use Rattle.nodes.specs.Answer.{row, rowOf}
-use Rattle.nodes.specs.Choose.{keep}
+use Rattle.answers.specs.Answer.{padded, nameOf}
+use Rattle.laws.specs.Choose.{keep}
 use Rattle.nodes.specs.Words.{nodes}
-use Rattle.nodes.specs.Written.{wordsIn}
+use Rattle.answers.specs.Output.{wordsIn}
 use Rattle.tickets.specs.Listing.{Pair}
-use Rattle.tickets.specs.Row.{pairsIn}
+use Rattle.tickets.specs.PairWords.{pairsIn}
 
 abbrev pub BLANK : ℕ
 BLANK = 32
@@ -37,17 +37,17 @@ unfoldable pub unfilled : List ℕ → List ℕ
 unfilled letters = keep (λ b. not (eqb b BLANK)) letters
 
 unfoldable pub word : String → List ℕ
-word text = unfilled (row text)
+word text = unfilled (padded text)
 
-abbrev pub pairOf : Node → Node → Pair
-pairOf x y = record { ancestor = x; descendant = y }
+abbrev pub pairWith : Node → Node → Pair
+pairWith x y = record { ancestor = x; descendant = y }
 
 -- a pair's line: document, ancestor's start, descendant's start, with single blanks
 unfoldable pub pairLine : Pair → List ℕ
 pairLine p =
     decimal (p .ancestor .document) ++ BLANK ∷ decimal (p .ancestor .start) ++ BLANK ∷ decimal (p .descendant .start) ++ LINE-FEED ∷ []
 
--- the most bytes of a pair's line: three numbers of ten digits, and a byte behind each
+-- the most bytes of a pair's line: three numbers of ten digits, and a byte after each
 abbrev pub LINE-BYTES : ℕ
 LINE-BYTES = 33
 
@@ -61,4 +61,4 @@ totalLine count = word "pairs" ++ BLANK ∷ decimal count ++ LINE-FEED ∷ []
 
 -- a refusal's line: the word refused, the number, and the name without its filling blanks
 unfoldable pub refusalLine : ℕ → List ℕ
-refusalLine answer = word "refused" ++ BLANK ∷ decimal answer ++ BLANK ∷ unfilled (rowOf answer) ++ LINE-FEED ∷ []
+refusalLine answer = word "refused" ++ BLANK ∷ decimal answer ++ BLANK ∷ unfilled (nameOf answer) ++ LINE-FEED ∷ []

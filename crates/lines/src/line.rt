@@ -5,7 +5,7 @@ use crate::text::put_byte;
 use crate::text::put_bytes;
 use crate::text::put_field;
 use crate::text::put_unfilled;
-use nodes::answer::name_of;
+use answers::answer::name_of;
 use nodes::node::Node;
 use nodes::node::node_at;
 use nodes::node::node_count;
@@ -13,9 +13,9 @@ ghost use mathlib.Core.Path.{_≡_};
 ghost use Prim.Native.Nat.{_+_, _≤_};
 ghost use lib.ListN.{length};
 ghost use lib.Seq.{sets};
-ghost use Rattle.nodes.specs.Written.{written};
-ghost use Rattle.lines.specs.Line.{LINE-BYTES, pairLine, pairOf, linesFor, totalLine, refusalLine};
-ghost use Rattle.lines.specs.Table.{Tabled};
+ghost use Rattle.answers.specs.Output.{written};
+ghost use Rattle.lines.specs.Line.{LINE-BYTES, pairLine, pairWith, linesFor, totalLine, refusalLine};
+ghost use Rattle.lines.specs.Private.DigitTable.{Tabled};
 
 // The most bytes of a pair's line.
 pub const LINE_BYTES: usize = 33;
@@ -32,8 +32,8 @@ fn put_line(
     table: &[u8; TABLE_BYTES],
 ) -> usize
     requires { ⌜ (at + LINE-BYTES ≤ length (now text)) × Tabled (now table) ⌝ }
-    ensures { λ r. ⌜ (r ≡ at + length (pairLine (pairOf ancestor descendant)))
-        × (now (text .exit) ≡ sets (now (text .entry)) at (pairLine (pairOf ancestor descendant))) ⌝ }
+    ensures { λ r. ⌜ (r ≡ at + length (pairLine (pairWith ancestor descendant)))
+        × (now (text .exit) ≡ sets (now (text .entry)) at (pairLine (pairWith ancestor descendant))) ⌝ }
 {
     let mut to = put_field(text, at, ancestor.document as u64, b' ', table);
     to = put_field(text, to, ancestor.start as u64, b' ', table);

@@ -6,7 +6,7 @@ ghost use mathlib.Core.List.{_∷_, [], _++_};
 ghost use lib.ListN.{length};
 ghost use lib.Seq.{sets};
 ghost use Rattle.lines.specs.Line.{decimal, unfilled};
-ghost use Rattle.lines.specs.Table.{twoDigits, Tabled};
+ghost use Rattle.lines.specs.Private.DigitTable.{twoDigits, Tabled};
 
 // The bytes of a table of two digits for each number below a hundred.
 pub(crate) const TABLE_BYTES: usize = 200;

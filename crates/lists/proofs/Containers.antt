@@ -2,21 +2,22 @@
 -- If levels could stay or fall on the way in, no bound on the stack of open nodes would hold.
 use mathlib.Core.Path.{_≡_}
 use mathlib.Core.Logic.{inl, inr, ⊎-elim}
-use mathlib.Core.Bool.{true}
+use mathlib.Core.Bool.{true, false}
 use mathlib.Core.List.{List, [], _∷_}
 use Prim.Native.Nat.{ℕ, suc, _+_, _≤_, _<_}
 use native.Mathlib.Omega.{arith}
 use lib.ListN.{length}
 use Rattle.nodes.specs.declared.node.Node.{Node}
-use Rattle.nodes.specs.Answer.{TAKEN}
-use Rattle.nodes.specs.Choose.{All, Pairs, keep}
+use Rattle.answers.specs.Answer.{TAKEN}
+use Rattle.laws.specs.Choose.{All, Pairs, In, keep}
 use Rattle.nodes.specs.Node.{insideb, MOST-LEVELS}
-use Rattle.nodes.proofs.Choices.{all-map, all-both}
-use Rattle.nodes.proofs.Tests.{either, never}
-use Rattle.nodes.proofs.NodeLaws.{within, inside-self, after-starts}
-use Rattle.lists.specs.Check.{checkNodes}
+use Rattle.nodes.specs.Words.{nodes}
+use Rattle.laws.proofs.Choices.{all-map, all-both, all-in}
+use Rattle.laws.proofs.Tests.{either, never}
+use Rattle.nodes.proofs.NodeLaws.{within, inside-self, text-empty, after-starts}
+use Rattle.lists.specs.Check.{checkNodes, checkWords}
 use Rattle.lists.proofs.Faults.{Sound}
-use Rattle.lists.proofs.Taken.{Fine, nested-read, fine-settles, taken-iff}
+use Rattle.lists.proofs.Taken.{Fine, nested-read, fine-settles, taken-iff, words-taken-iff}
 
 -- if e contains n, its level lies from b to below n's
 abbrev Between : ℕ → Node → Node → Type 0
@@ -59,3 +60,8 @@ pub containers : (ns : List Node) → checkNodes ns .answer ≡ TAKEN → All (�
 containers ns h =
     let t = taken-iff ns .0 h in
     all-both (λ n s b. omega (arith, levels n (s .span) 1 ns (s .lowest) (t .1) b)) ns (t .0) (all-between ns (t .0) (t .1))
+
+-- a text contains no node of an accepted list: none of them ends before it starts
+pub text-contains-nothing : (words : List ℕ) → checkWords words .answer ≡ TAKEN → (x y : Node) → In y (nodes words) → x .end ≡ x .start
+    → insideb y x ≡ false
+text-contains-nothing words h x y m t = text-empty y x (all-in Sound (nodes words) (words-taken-iff words .0 h .2) m .span) t

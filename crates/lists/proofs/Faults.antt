@@ -8,9 +8,9 @@ use native.Mathlib.Omega.{arith}
 use lib.Dec.{ltb, eqb}
 use borrow.Author.Tests.{ltb-false, eqb-false, le-ltb, ne-eqb}
 use Rattle.nodes.specs.declared.node.Node.{Node}
-use Rattle.nodes.specs.Answer.{TAKEN}
+use Rattle.answers.specs.Answer.{TAKEN}
 use Rattle.nodes.specs.Node.{insideb, openb, MOST-LEVELS}
-use Rattle.nodes.proofs.Tests.{never, or-none}
+use Rattle.laws.proofs.Tests.{never, or-none}
 use Rattle.lists.specs.Fault.{levelb, spanb}
 
 -- a node's level and span are right

@@ -8,15 +8,15 @@ use native.Mathlib.Omega.{arith}
 use lib.Dec.{eqb}
 use lib.ListN.{length}
 use borrow.Author.Tests.{eq-eqb, ne-eqb, lt-ltb, eqb-true}
-use Rattle.nodes.specs.Answer.{TAKEN, RAGGED, LONG}
-use Rattle.nodes.specs.Choose.{All, Pairs}
+use Rattle.answers.specs.Answer.{TAKEN, RAGGED, LONG}
+use Rattle.laws.specs.Choose.{All, Pairs}
 use Rattle.nodes.specs.Words.{NODE-WORDS, MOST-NODES, nodes, count}
-use Rattle.nodes.proofs.Tests.{either}
+use Rattle.laws.proofs.Tests.{either}
 use Rattle.numbers.specs.Little.{NUMBER-BYTES, NODE-BYTES, numbers}
 use Rattle.numbers.proofs.LittleLaws.{length-numbers}
-use Rattle.lists.specs.declared.verdict.Verdict.{Verdict}
+use Rattle.answers.specs.declared.verdict.Verdict.{Verdict}
 use Rattle.lists.specs.Check.{checkNodes, raggedb, longb, wordFault, checkWords, checkBytes}
-use Rattle.lists.specs.Verdict.{ANCESTORS, verdict}
+use Rattle.answers.specs.Verdict.{ANCESTORS, verdict}
 use Rattle.lists.proofs.Faults.{Sound}
 use Rattle.lists.proofs.Taken.{Fine, whole-words, taken-iff, words-taken-iff}
 

@@ -1,4 +1,4 @@
--- The open nodes lie one inside the other, so what the head of the row tells holds of all, and a node that ended is open at no later one.
+-- The open nodes lie one inside the other, so what the head of the chain tells holds of all, and a node that ended is open at no later one.
 -- Were one open node lost or one ended node kept in its place, `stands-pop` or `top-tells` would fall.
 use mathlib.Core.Path.{_≡_, refl, ap, _∙_}
 use mathlib.Core.Logic.{_⊎_, inl, inr}
@@ -9,14 +9,14 @@ use native.Mathlib.Omega.{arith}
 use lib.Dec.{ltb}
 use borrow.Author.Tests.{lt-ltb, ltb-true}
 use Rattle.nodes.specs.declared.node.Node.{Node}
-use Rattle.nodes.specs.Answer.{TAKEN, ORDER, CROSS, DEPTH}
-use Rattle.nodes.specs.Choose.{All, any, keep}
+use Rattle.answers.specs.Answer.{TAKEN, ORDER, CROSS, DEPTH}
+use Rattle.laws.specs.Choose.{All, any, keep}
 use Rattle.nodes.specs.Node.{insideb, openb, afterb}
-use Rattle.nodes.proofs.Choices.{all-map, none-any, any-same, keep-failed}
+use Rattle.laws.proofs.Choices.{all-map, none-any, any-same, keep-failed}
 use Rattle.nodes.proofs.NodeLaws.{inside-trans, inside-open, after-trans, shut-later}
-use Rattle.nodes.proofs.Tests.{either, never, not-so, and-read, not-read, not-none}
+use Rattle.laws.proofs.Tests.{either, never, not-so, and-read, not-read, not-none}
 use Rattle.lists.specs.Fault.{levelb, spanb, orderb, crossb, depthb, fault}
-use Rattle.lists.specs.Walk.{Stands, unended, Upon, Chain, headFault, topFault}
+use Rattle.lists.specs.Private.Walk.{Stands, unended, Upon, Chain, headFault, topFault}
 use Rattle.lists.proofs.WalkLaws.{chain-after}
 use Rattle.lists.proofs.Faults.{skip, level-sound, span-sound, crosses, rises}
 
@@ -25,7 +25,7 @@ module _ {P : Node → Type 0} {before s : List Node} where
   pub stands-later : {Q : Node → Type 0} → ((n : Node) → Q n → P n) → Stands P before s → Stands Q before s
   stands-later f k = record { chain = k .chain; keeps = λ n q. k .keeps n (f n q) }
 
-  -- a new node that lies inside the head lies at the head of the new row
+  -- a new node that lies inside the head lies at the head of the new chain
   pub stands-push : (e : Node) → 1 ≤ e .level → Upon e s → Stands P before s → Stands P (e ∷ before) (e ∷ s)
   unfolding keep
   stands-push e l u k = record {
@@ -66,7 +66,7 @@ uncrossed n e h = not-so (λ c. never h (not-read _ (and-read (openb n e) c .1))
 deeper : (n e : Node) → e .level < n .level → rises n e ≡ false
 deeper n e h = not-so (λ c. never (lt-ltb _ _ h) (not-read _ (and-read (insideb n e) c .1)))
 
--- the head of what is left tells what is wrong over the whole row
+-- the head of what is left tells what is wrong over the whole chain
 top-tells : (n : Node) → n .start ≤ n .end → (s : List Node) → Chain s
     → cond (crossb s n) CROSS (cond (depthb s n) DEPTH TAKEN) ≡ headFault (unended n s) n
 unfolding crossb depthb any unended headFault
@@ -87,7 +87,7 @@ top-tells n span (e ∷ s) ch = elim (either (openb n e)) [ inl o ↦ opened o (
         → cond (crossb (e ∷ s) n) CROSS (cond (depthb (e ∷ s) n) DEPTH TAKEN) ≡ headFault (unended n (e ∷ s)) n
     ended o h = rw (o, not-so (λ i. never (inside-open n e span i) o)) h
 
--- the row of open nodes, as a walk along a list keeps it: it stands for all nodes before, and its head is the node before
+-- the chain of open nodes, as a walk along a list keeps it: it stands for all nodes before, and its head is the node before
 pub record Kept (before s : List Node) : Type 0 where
   pub stands : Stands (λ n. orderb before n ≡ false) before s
   pub last : (n : Node) → orderb before n ≡ orderb s n
@@ -103,7 +103,7 @@ same-rises : (before s : List Node) (n : Node) → n .start ≤ n .end
 unfolding depthb
 same-rises before s n span keeps = any-same (rises n) before s (keeps (rises n) (λ e h. inside-open n e span (and-read (insideb n e) h .0)))
 
--- what is wrong at a node over all nodes before is what the row tells
+-- what is wrong at a node over all nodes before is what the chain tells
 pub fault-told : (before s : List Node) (n : Node) → Kept before s → fault before n ≡ topFault s n
 unfolding fault topFault
 fault-told before s n k =
@@ -136,7 +136,7 @@ head-taken n (e ∷ s) h =
     let q = skip (not (ltb (e .level) (n .level))) _ _ .0 (p .1) in
     (not-none _ (p .0), ltb-true _ _ (not-none _ (q .0)))
 
--- where the row tells of nothing wrong, the level is right, the node stands after the head, and what is left tells of nothing wrong
+-- where the chain tells of nothing wrong, the level is right, the node stands after the head, and what is left tells of nothing wrong
 record Clean (s : List Node) (n : Node) : Type 0 where
   level : 1 ≤ n .level
   next : orderb s n ≡ false
@@ -156,7 +156,7 @@ unfolding orderb
 later [] m n o a = refl
 later (e ∷ before) m n o a = ap not (after-trans m n e a (not-none (afterb n e) o))
 
--- after a node at which nothing is wrong, the row is that node upon what is left
+-- after a node at which nothing is wrong, the chain is that node upon what is left
 pub kept-next : (before s : List Node) (n : Node) → topFault s n ≡ TAKEN → Kept before s → Kept (n ∷ before) (n ∷ unended n s)
 unfolding orderb
 kept-next before s n h k =

@@ -5,7 +5,7 @@ use mathlib.Core.Bool.{true, false}
 use mathlib.Core.List.{List, [], _∷_}
 use Rattle.nodes.specs.declared.node.Node.{Node}
 use Rattle.nodes.specs.Node.{afterb, sameb}
-use Rattle.lists.specs.Merge.{mergeInto, merge}
+use Rattle.lists.specs.Private.Merge.{mergeInto, merge}
 
 pub merge-nil : (xs : List Node) → merge xs [] ≡ xs
 unfolding merge mergeInto

@@ -8,15 +8,15 @@ use native.Mathlib.Omega.{arith}
 use lib.Dec.{eqb}
 use borrow.Author.Tests.{eqb-true, eq-eqb}
 use Rattle.nodes.specs.declared.node.Node.{Node}
-use Rattle.nodes.specs.Answer.{TAKEN}
+use Rattle.answers.specs.Answer.{TAKEN}
 use Rattle.nodes.specs.Node.{afterb, sameb}
-use Rattle.nodes.proofs.Tests.{either, never, so, not-so, and-read, or-read, or-none, not-read, not-none}
-use Rattle.nodes.proofs.Choices.{all-of, all-map, all-both, any-none, none-any}
+use Rattle.laws.proofs.Tests.{either, never, so, not-so, and-read, or-read, or-none, not-read, not-none}
+use Rattle.laws.proofs.Choices.{all-of, all-map, all-both, any-none, none-any}
 use Rattle.nodes.proofs.NodeLaws.{within, apart-read, apart-turned, after-trans, after-self, after-none, same-read, same-self}
 use Rattle.lists.specs.Check.{checkNodes}
-use Rattle.lists.specs.Merge.{merge, mergeInto}
+use Rattle.lists.specs.Private.Merge.{merge, mergeInto}
 use Rattle.lists.specs.Two.{agreeb, oddsb, jointb}
-use Rattle.nodes.specs.Choose.{All, Pairs}
+use Rattle.laws.specs.Choose.{All, Pairs}
 use Rattle.lists.proofs.MergeSteps.{merge-left, merge-both, merge-right}
 use Rattle.lists.proofs.Faults.{Sound}
 use Rattle.lists.proofs.Taken.{Fine, nested-read, agree-apart, agree-nested, agree-nests, agree-read, taken-iff}

@@ -8,14 +8,14 @@ use Prim.Native.Nat.{ℕ, suc}
 use lib.Dec.{eqb}
 use borrow.Author.Tests.{eqb-false, eq-eqb, ne-eqb}
 use Rattle.nodes.specs.declared.node.Node.{Node}
-use Rattle.nodes.specs.Answer.{TAKEN, JOINT}
+use Rattle.answers.specs.Answer.{TAKEN, JOINT}
 use Rattle.nodes.specs.Words.{nodes}
-use Rattle.nodes.proofs.Tests.{either, so}
-use Rattle.lists.specs.declared.verdict.Verdict.{Verdict}
+use Rattle.laws.proofs.Tests.{either, so}
+use Rattle.answers.specs.declared.verdict.Verdict.{Verdict}
 use Rattle.lists.specs.Check.{checkFrom, checkNodes, checkWords, wordFault}
 use Rattle.lists.specs.Fault.{fault}
-use Rattle.lists.specs.Two.{jointb, refusedb, inList, checkTwo}
-use Rattle.lists.specs.Verdict.{ANCESTORS, DESCENDANTS, verdict, taken}
+use Rattle.lists.specs.Two.{jointb, checkTwo}
+use Rattle.answers.specs.Verdict.{refusedb, inList, ANCESTORS, DESCENDANTS, verdict, taken}
 use Rattle.lists.proofs.Merging.{joint-iff}
 use Rattle.lists.proofs.Pairing.{two-taken-iff}
 

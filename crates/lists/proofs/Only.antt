@@ -1,11 +1,10 @@
 -- Each public contract is an equation with a definition, and two things that equal a third are equal; so no second answer satisfies it.
 -- `Post` is what a function's `ensures` says of its result and of what it was lent; a contract that left a field open would fall here.
 use mathlib.Core.Path.{_≡_}
-use Rattle.nodes.proofs.Only.{only}
+use Rattle.laws.proofs.Only.{only}
 use Rattle.lists.proofs.bytes.check_bytes.Reads as check-bytes
 use Rattle.lists.proofs.list.check_list.Reads as check-list
 use Rattle.lists.proofs.two.check_two.Reads as check-two
-use Rattle.lists.proofs.verdict.without_node.Reads as without-node
 
 pub check-list-only : (κs : _) (a : _) (r r′ : _) (s s′ : _) → check-list.Post κs a r s → check-list.Post κs a r′ s′ → r ≡ r′
 check-list-only κs a r r′ s s′ p q = only p q
@@ -15,6 +14,3 @@ check-bytes-only κs a r r′ s s′ p q = only p q
 
 pub check-two-only : (κs : _) (a : _) (r r′ : _) (s s′ : _) → check-two.Post κs a r s → check-two.Post κs a r′ s′ → r ≡ r′
 check-two-only κs a r r′ s s′ p q = only p q
-
-pub without-node-only : (κs : _) (a : _) (r r′ : _) (s s′ : _) → without-node.Post κs a r s → without-node.Post κs a r′ s′ → r ≡ r′
-without-node-only κs a r r′ s s′ p q = only p q

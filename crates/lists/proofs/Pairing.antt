@@ -8,14 +8,14 @@ use Prim.Native.Nat.{ℕ}
 use native.Mathlib.Omega.{arith}
 use lib.Dec.{eqb}
 use borrow.Author.Tests.{eqb-true, eqb-false, eq-eqb}
-use Rattle.nodes.specs.Answer.{TAKEN, JOINT}
+use Rattle.answers.specs.Answer.{TAKEN, JOINT}
 use Rattle.nodes.specs.Words.{nodes}
-use Rattle.nodes.proofs.Tests.{either, never}
-use Rattle.lists.specs.declared.verdict.Verdict.{Verdict}
+use Rattle.laws.proofs.Tests.{either, never}
+use Rattle.answers.specs.declared.verdict.Verdict.{Verdict}
 use Rattle.lists.specs.Check.{checkWords}
-use Rattle.lists.specs.Two.{oddsb, refusedb, inList, checkTwo}
-use Rattle.lists.specs.Verdict.{ANCESTORS, verdict, taken}
-use Rattle.nodes.specs.Choose.{All}
+use Rattle.lists.specs.Two.{oddsb, checkTwo}
+use Rattle.answers.specs.Verdict.{refusedb, inList, ANCESTORS, verdict, taken}
+use Rattle.laws.specs.Choose.{All}
 use Rattle.lists.proofs.Merging.{joint-iff}
 
 -- the check of two lists goes on past a list that is taken

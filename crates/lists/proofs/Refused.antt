@@ -2,7 +2,7 @@
 -- An answer drawn by nothing that document 01 names, or a fault of its table that draws no answer, would fall here.
 use mathlib.Core.Path.{_≡_, refl, sym, subst}
 use mathlib.Core.Logic.{_↔_, _⊎_, inl, inr, ⊎-elim}
-use mathlib.Core.Bool.{Bool, true, false}
+use mathlib.Core.Bool.{true, false}
 use mathlib.Core.List.{List, [], _∷_, reverseAux, List·Memᴰ·head, List·Memᴰ·tail, List·Memᴰ·cases-cons, List·Memᴰ·not-nil}
 use Prim.Native.Nat.{ℕ, suc, _%_, _<_}
 use native.Mathlib.Omega.{arith}
@@ -10,43 +10,36 @@ use lib.Dec.{ltb, eqb}
 use lib.ListN.{length}
 use borrow.Author.Tests.{ltb-true, ltb-false, eqb-true, eqb-false, eq-eqb}
 use Rattle.nodes.specs.declared.node.Node.{Node}
-use Rattle.nodes.specs.Answer.{TAKEN}
+use Rattle.answers.specs.Answer.{TAKEN}
 use Rattle.nodes.specs.Node.{insideb, apartb, afterb, openb, sameb, MOST-LEVELS}
 use Rattle.nodes.specs.Words.{NODE-WORDS, MOST-NODES, nodes, count}
-use Rattle.nodes.proofs.Choices.{all-in}
-use Rattle.nodes.proofs.Tests.{either, never, not-so, and-read, or-read, or-none, not-read}
+use Rattle.laws.proofs.Choices.{all-in, any-some}
+use Rattle.laws.proofs.Tests.{either, never, not-so, and-read, or-read, or-none, not-read}
 use Rattle.nodes.proofs.NodeLaws.{within, open-read, same-read, same-self}
 use Rattle.lists.specs.Check.{checkFrom, checkNodes, checkWords}
 use Rattle.lists.specs.Fault.{levelb, spanb, orderb, crossb, depthb, fault}
-use Rattle.lists.specs.Refusal.{Neighbours, Behind, Faulty, AtOdds}
+use Rattle.lists.specs.Refusal.{Neighbours, Follows, Faulty, AtOdds}
 use Rattle.lists.specs.Refusal.Neighbours.{here as next-here, later as next-later}
-use Rattle.lists.specs.Refusal.Behind.{here, later}
+use Rattle.lists.specs.Refusal.Follows.{here, later}
 use Rattle.lists.specs.Refusal.Faulty.{ragged, long, level, span, order, cross, depth}
 use Rattle.lists.specs.Two.{nestedb, agreeb, oddsb, jointb, checkTwo}
-use Rattle.nodes.specs.Choose.{All, Pairs, In, any}
+use Rattle.laws.specs.Choose.{All, Pairs, In}
 use Rattle.lists.proofs.Faults.{Sound, crosses, rises}
 use Rattle.lists.proofs.Merging.{joint-iff}
 use Rattle.lists.proofs.Pairing.{two-taken-iff}
 use Rattle.lists.proofs.Taken.{Fine, nested-read, fine-settles, whole-words, words-check, words-taken-iff}
 
--- what passes a test that holds of the list
-any-some : {A P : Type 0} (test : A → Bool) (xs : List A) → any test xs ≡ true → ((x : A) → In x xs → test x ≡ true → P) → P
-unfolding any
-any-some test [] h f = absurd (never h refl)
-any-some test (x ∷ xs) h f =
-    elim (or-read (test x) h) [ inl t ↦ f x (List·Memᴰ·head refl) t | inr k ↦ any-some test xs k (λ y m. f y (List·Memᴰ·tail m)) ]
-
 module _ {e n : Node} where
   -- what holds of all pairs holds of one
-  pair-in : (R : Node → Node → Type 0) {ns : List Node} → Pairs R ns → Behind e n ns → R e n
+  pair-in : (R : Node → Node → Type 0) {ns : List Node} → Pairs R ns → Follows e n ns → R e n
   pair-in R h (here {x = x} {ns = ns} p m) = subst (λ z. R z n) (sym p) (all-in (R x) ns (h .0) m)
   pair-in R h (later b) = pair-in R (h .1) b
 
-  behind-in : {ns : List Node} → Behind e n ns → In n ns
+  behind-in : {ns : List Node} → Follows e n ns → In n ns
   behind-in (here p m) = List·Memᴰ·tail m
   behind-in (later b) = List·Memᴰ·tail (behind-in b)
 
-  next-behind : {ns : List Node} → Neighbours e n ns → Behind e n ns
+  next-behind : {ns : List Node} → Neighbours e n ns → Follows e n ns
   next-behind (next-here p q) = here p (List·Memᴰ·head q)
   next-behind (next-later b) = later (next-behind b)
 
@@ -66,11 +59,11 @@ module _ (words : List ℕ) where
   among P more [] ns q h = subst P q h
   among P more (x ∷ before) ns q h = among P more before (x ∷ ns) q (more x ns h)
 
-  behind : {e n : Node} (before ns : List Node) → reverseAux before ns ≡ nodes words → In e before → In n ns → Behind e n (nodes words)
+  behind : {e n : Node} (before ns : List Node) → reverseAux before ns ≡ nodes words → In e before → In n ns → Follows e n (nodes words)
   behind [] ns q i j = absurd (List·Memᴰ·not-nil i)
   behind {e} {n} (x ∷ before) ns q i j =
       elim (List·Memᴰ·cases-cons i) [
-        | inl p ↦ among (Behind e n) (λ y ms b. later b) before (x ∷ ns) q (here p j)
+        | inl p ↦ among (Follows e n) (λ y ms b. later b) before (x ∷ ns) q (here p j)
         | inr k ↦ behind before (x ∷ ns) q k (List·Memᴰ·tail j)
       ]
 
@@ -140,10 +133,10 @@ module _ (words : List ℕ) where
     sound : {n : Node} → In n (nodes words) → Sound n
     sound m = all-in Sound (nodes words) (words-taken-iff words .0 t .2) m
 
-    fine : {e n : Node} → Behind e n (nodes words) → Fine e n
+    fine : {e n : Node} → Follows e n (nodes words) → Fine e n
     fine b = pair-in Fine (words-taken-iff words .0 t .3) b
 
-    settled : (e n : Node) → Behind e n (nodes words) → e .document ≡ n .document → (e .end < n .start) ⊎ (nestedb n e ≡ true)
+    settled : (e n : Node) → Follows e n (nodes words) → e .document ≡ n .document → (e .end < n .start) ⊎ (nestedb n e ≡ true)
     settled e n b d = fine-settles n e (sound (behind-in b) .span) (fine b) d
 
     unfaulty : Faulty words → ⊥
@@ -208,8 +201,8 @@ refused-iff ancestors descendants = (
         | inl a ↦ unfaulty ancestors (p .0) a
         | inr g ↦ elim g [
           | inl d ↦ unfaulty descendants (p .1) d
-          | inr o ↦ let row = all-in (λ x. All (λ y. oddsb x y ≡ false) (nodes descendants)) (nodes ancestors) (p .2) (o .x-in) in
-              never (odds-make o) (all-in (λ y. oddsb (o .x) y ≡ false) (nodes descendants) row (o .y-in))
+          | inr o ↦ let even = all-in (λ x. All (λ y. oddsb x y ≡ false) (nodes descendants)) (nodes ancestors) (p .2) (o .x-in) in
+              never (odds-make o) (all-in (λ y. oddsb (o .x) y ≡ false) (nodes descendants) even (o .y-in))
         ]
       ],
 )

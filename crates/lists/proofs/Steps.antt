@@ -8,19 +8,19 @@ use native.Mathlib.Omega.{arith}
 use lib.ListN.{length}
 use borrow.Author.Tests.{eq-eqb, ne-eqb, lt-ltb, le-ltb}
 use Rattle.nodes.specs.declared.node.Node.{Node}
-use Rattle.nodes.specs.Answer.{TAKEN, LEVEL, SPAN, ORDER, CROSS, DEPTH}
+use Rattle.answers.specs.Answer.{TAKEN, LEVEL, SPAN, ORDER, CROSS, DEPTH}
 use Rattle.nodes.specs.Node.{endsb, insideb, MOST-LEVELS}
 use Rattle.nodes.specs.Words.{nodes, nodeAt}
 use Rattle.nodes.proofs.NodeLaws.{inside-by-end}
 use Rattle.lists.specs.declared.walk.Step.{Step}
 use Rattle.lists.specs.declared.walk.Step.the-variants.{Reached, Refused}
 use Rattle.lists.specs.Fault.{levelb, spanb, orderb}
-use Rattle.lists.specs.Verdict.{ANCESTORS, verdict}
-use Rattle.lists.specs.Walk.{place, firsts, opened, unended, firstb, Fits, Behind, Chain, headFault, topFault, Passed, SteppedPast, SteppedOnto}
+use Rattle.answers.specs.Verdict.{ANCESTORS, verdict}
+use Rattle.lists.specs.Private.Walk.{listPlace, firsts, opened, unended, firstb, Fits, AfterHead, Chain, headFault, topFault, Passed, SteppedPast, SteppedOnto}
 use Rattle.lists.proofs.Faults.{Sound, level-sound, span-sound}
 use Rattle.lists.proofs.WalkLaws.{head-at, top-at, length-firsts, chain-length, first-unended, first-next}
 
--- a node that is deeper than the head of a row is at most as deep as the deepest level, so the row has room for it
+-- a node that is deeper than the head of a chain is at most as deep as the deepest level, so the chain has room for it
 room : (k : ℕ) (ws : List ℕ) (n e : Node) → 0 < k → e ≡ nodeAt ws (k - 1) → Chain (firsts k (nodes ws)) → e .level < n .level
     → n .level ≤ MOST-LEVELS → k < MOST-LEVELS
 room k ws n e h q ch below above =
@@ -44,11 +44,11 @@ module _ (wrong : ℕ) (left : List Node) (n : Node) (i : ℕ) (ws : List ℕ) (
       subst (λ (step : Step). Passed wrong left n i step ws) (sym e)
       ((λ t. let z : suc f ≡ 0 = sym q ∙ t in omega arith), ap (λ (k : ℕ). verdict k ANCESTORS i) (sym q))
 
-  reach : (u : ℕ) → wrong ≡ TAKEN → Fits (u + 4) → r ≡ Reached (place (i + 1) (u + 4)) → opened (u + 4) ws ≡ n ∷ left
+  reach : (u : ℕ) → wrong ≡ TAKEN → Fits (u + 4) → r ≡ Reached (listPlace (i + 1) (u + 4)) → opened (u + 4) ws ≡ n ∷ left
       → Passed wrong left n i r ws
   reach u h l e p = subst (λ (step : Step). Passed wrong left n i step ws) (sym e) (h, refl, l, p)
 
--- the returns of `pass_node`, which knows the row s that was open at the node before
+-- the returns of `pass_node`, which knows the chain s that was open at the node before
 module _ (s : List Node) (n : Node) (i : ℕ) (ws : List ℕ) (r : Step) where
   pub passed-low : n .level ≡ 0 → r ≡ Refused (verdict LEVEL ANCESTORS i) → SteppedPast s n i r ws
   unfolding levelb topFault
@@ -76,16 +76,16 @@ module _ (s : List Node) (n : Node) (i : ℕ) (ws : List ℕ) (r : Step) where
 -- the returns of `put_on_top`, which knows the u words that are left of a stack
 module _ (st : List ℕ) (u : ℕ) (n : Node) (i : ℕ) (ws : List ℕ) (r : Step) where
   abbrev Pushed : Type 0
-  Pushed = (r ≡ Reached (place (i + 1) (u + 4))) × (opened (u + 4) ws ≡ n ∷ opened u st)
+  Pushed = (r ≡ Reached (listPlace (i + 1) (u + 4))) × (opened (u + 4) ws ≡ n ∷ opened u st)
 
   pub passed-alone : u ≡ 0 → Pushed → SteppedOnto (opened u st) n i r ws
   unfolding firsts headFault
   passed-alone z p = reach (headFault (opened u st) n) (opened u st) n i ws r u (rw z refl) (omega arith, omega arith) (p .0) (p .1)
 
-  module _ (e : Node) (some : 0 < u) (fits : Fits u) (top : e ≡ nodeAt st (u / 4 - 1)) (b : Behind n (opened u st)) where
+  module _ (e : Node) (some : 0 < u) (fits : Fits u) (top : e ≡ nodeAt st (u / 4 - 1)) (b : AfterHead n (opened u st)) where
     by-end : endsb n e ≡ insideb n e
     by-end =
-        let w : Behind n (e ∷ opened (u - 4) st) = rw top (subst (Behind n) (top-at u st some (fits .0)) b) in
+        let w : AfterHead n (e ∷ opened (u - 4) st) = rw top (subst (AfterHead n) (top-at u st some (fits .0)) b) in
         inside-by-end n e (w .0) (w .1)
 
     head : headFault (opened u st) n ≡ headFault (e ∷ opened (u - 4) st) n

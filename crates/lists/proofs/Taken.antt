@@ -10,18 +10,18 @@ use lib.Dec.{ltb, eqb}
 use lib.ListN.{length}
 use borrow.Author.Tests.{ltb-true, ltb-false, eqb-true, eqb-false, lt-ltb, le-ltb, eq-eqb}
 use Rattle.nodes.specs.declared.node.Node.{Node}
-use Rattle.nodes.specs.Answer.{TAKEN}
+use Rattle.answers.specs.Answer.{TAKEN}
 use Rattle.nodes.specs.Node.{insideb, apartb, afterb, openb}
 use Rattle.nodes.specs.Words.{NODE-WORDS, MOST-NODES, nodes, count}
-use Rattle.nodes.proofs.Tests.{either, never, not-so, and-read, and-make, or-read, or-left, or-right, not-read, not-none}
-use Rattle.nodes.proofs.Choices.{all-of, all-map, all-both, any-none, none-any}
+use Rattle.laws.proofs.Tests.{either, never, not-so, and-read, and-make, or-read, or-left, or-right, not-read, not-none}
+use Rattle.laws.proofs.Choices.{all-of, all-map, all-both, any-none, none-any}
 use Rattle.nodes.proofs.NodeLaws.{within, apart-read, apart-ahead, after-starts, after-trans, open-read, shut-read}
-use Rattle.lists.specs.declared.verdict.Verdict.{Verdict}
+use Rattle.answers.specs.declared.verdict.Verdict.{Verdict}
 use Rattle.lists.specs.Check.{checkFrom, checkNodes, raggedb, longb, wordFault, checkWords}
 use Rattle.lists.specs.Fault.{levelb, spanb, orderb, crossb, depthb, fault}
 use Rattle.lists.specs.Two.{nestedb, agreeb}
-use Rattle.lists.specs.Verdict.{ANCESTORS, verdict}
-use Rattle.nodes.specs.Choose.{All, Pairs}
+use Rattle.answers.specs.Verdict.{ANCESTORS, verdict}
+use Rattle.laws.specs.Choose.{All, Pairs}
 use Rattle.lists.proofs.Faults.{Sound, skip, level-sound, span-sound, crosses, rises}
 
 -- of an earlier node e and a later one n, n stands after e, and within one document they agree
@@ -29,7 +29,7 @@ pub record Fine (e n : Node) : Type 0 where
   pub after : afterb n e ≡ true
   pub agree : e .document ≡ n .document → agreeb e n ≡ true
 
--- of a row with the last node first, each stands after all that follow
+-- of a list with the last node first, each stands after all that follow
 abbrev pub Descends : List Node → Type 0
 Descends before = Pairs (λ n e. afterb n e ≡ true) before
 
@@ -58,7 +58,7 @@ module _ (e n : Node) where
   unfolding agreeb
   agree-read h = elim (or-read (apartb e n) h) [ inl p ↦ inl p | inr p ↦ inr (or-read (nestedb e n) p) ]
 
--- what comes after the head of a descending row comes after all of it
+-- what comes after the head of a descending list comes after all of it
 order-all : (before : List Node) (n : Node) → Descends before → orderb before n ≡ false → All (λ e. afterb n e ≡ true) before
 unfolding orderb
 order-all [] n c h = tt
@@ -102,7 +102,7 @@ never-rises n e span f =
     ⊎-elim (λ q. omega arith) (λ q. omega (arith, nested-read n e q)) (fine-settles n e span f (sym (w .document))))
 
 module _ (before : List Node) (n : Node) where
-  -- no fault after a descending row: the node is sound, and fine with each of the row
+  -- no fault after a descending list: the node is sound, and fine with each of the list
   pub fault-fine : Descends before → fault before n ≡ TAKEN → Sound n × All (λ e. Fine e n) before
   unfolding fault crossb depthb
   fault-fine c h =
@@ -136,7 +136,7 @@ goes-on f index v = (
   λ h. rw (eq-eqb f TAKEN (h .0)) (h .1),
 )
 
--- the nodes are fine among themselves, and after a row before them
+-- the nodes are fine among themselves, and after a list before them
 record Follows (before ns : List Node) : Type 0 where
   sound : All Sound ns
   pairs : Pairs Fine ns

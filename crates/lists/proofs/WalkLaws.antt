@@ -15,11 +15,11 @@ use Rattle.nodes.specs.declared.node.Node.{Node}
 use Rattle.nodes.specs.Node.{afterb, openb}
 use Rattle.nodes.specs.Words.{node, nodes, count, nodeAt, putNode}
 use Rattle.nodes.proofs.NodeLaws.{within, inside-after, after-read, after-starts, after-document, after-trans, open-read, open-make}
-use Rattle.nodes.proofs.Tests.{either, never, not-so, not-none}
-use Rattle.nodes.proofs.WordLaws.{length-nodes, node-words, four-stores, nodes-put}
+use Rattle.laws.proofs.Tests.{either, never, not-so, not-none}
+use Rattle.nodes.proofs.WordLaws.{length-nodes, node-words, nodes-put}
 use Rattle.lists.specs.Fault.{orderb}
-use Rattle.lists.specs.Walk.{nodeFrom, firsts, opened, unended, firstb, InDocument, Behind, Chain}
-use Rattle.nodes.specs.Choose.{All}
+use Rattle.lists.specs.Private.Walk.{nodeFrom, firsts, opened, unended, firstb, InDocument, AfterHead, Chain}
+use Rattle.laws.specs.Choose.{All}
 
 -- the head of the first k nodes is the one before index k
 pub head-at : (k : ℕ) (ws : List ℕ) → 0 < k → firsts k (nodes ws) ≡ nodeAt ws (k - 1) ∷ firsts (k - 1) (nodes ws)
@@ -54,14 +54,10 @@ firsts-put ws us k n h e =
     ∙ ap (firsts (k + 1)) (nodes-put ws k n h)
     ∙ firsts-push k (nodes ws) n (omega (arith, length-nodes ws))
 
--- a node's words where they start, read and stored
+-- a node's words where they start
 pub words-at : (ws : List ℕ) (w k : ℕ) → w ≡ 4 * k → k < count ws → nodeFrom ws w ≡ nodeAt ws k
 unfolding nodeFrom
 words-at ws w k q h = rw q (sym (node-words ws k h))
-
-pub stores-at : (ws : List ℕ) (w k : ℕ) (n : Node) → w ≡ 4 * k → k < count ws
-    → set (set (set (set ws w (n .document)) (w + 1) (n .start)) (w + 2) (n .end)) (w + 3) (n .level) ≡ putNode ws k n
-stores-at ws w k n q h = rw q (four-stores ws k n h)
 
 -- so a stack grows and shrinks by the words of a node
 pub top-at : (u : ℕ) (ws : List ℕ) → 0 < u → u % 4 ≡ 0 → opened u ws ≡ nodeAt ws (u / 4 - 1) ∷ opened (u - 4) ws
@@ -104,18 +100,18 @@ module _ (u : ℕ) (ws : List ℕ) (n e : Node) (h : 0 < u) (m : u % 4 ≡ 0) (q
   pub under-top : InDocument (n .document) (opened (u - 4) ws)
   under-top = by-top .1
 
--- a row is at most as long as its head is deep
+-- a chain is at most as long as its head is deep
 pub chain-length : (e : Node) (es : List Node) → Chain (e ∷ es) → length (e ∷ es) ≤ e .level
 chain-length e [] h = h .0
 chain-length e (f ∷ es) h = let p = chain-length f es (h .2) in let q = h .1 .1 in omega arith
 
--- what is left of a row is a row
+-- what is left of a chain is a chain
 pub chain-left : (n : Node) (es : List Node) → Chain es → Chain (unended n es)
 unfolding unended
 chain-left n [] h = tt
 chain-left n (e ∷ es) h = elim (either (openb n e)) [ inl o ↦ rw o h | inr o ↦ rw o (chain-left n es (h .2)) ]
 
--- every node of a row stands before the node that comes next
+-- every node of a chain stands before the node that comes next
 pub chain-after : (n : Node) (s : List Node) → Chain s → orderb s n ≡ false → All (λ e. afterb n e ≡ true) s
 unfolding orderb
 chain-after n [] ch o = tt
@@ -125,7 +121,7 @@ chain-after n (e ∷ f ∷ s) ch o =
     let b : afterb n f ≡ true = after-trans n e f a (inside-after e f (ch .1 .0)) in
     (a, chain-after n (f ∷ s) (ch .2) (ap not b))
 
--- the nodes of a row are of one document: at the first node of a later one all have ended
+-- the nodes of a chain are of one document: at the first node of a later one all have ended
 chain-document : (d : ℕ) (e : Node) (s : List Node) → Chain (e ∷ s) → e .document ≡ d → InDocument d (e ∷ s)
 chain-document d e [] ch q = (q, tt)
 chain-document d e (f ∷ s) ch q = (q, chain-document d f s (ch .2) (sym (within e f (ch .1 .0) .document) ∙ q))
@@ -154,7 +150,7 @@ unfolding firsts firstb
 not-first zero ns n f = absurd (never refl f)
 not-first (suc k) ns n f = omega arith
 
--- and where it comes next it is of the row's
+-- and where it comes next it is of the chain's
 pub next-document : (n : Node) (s : List Node) → Chain s → firstb s n ≡ false → orderb s n ≡ false → InDocument (n .document) s
 unfolding firstb orderb
 next-document n [] ch f o = tt
@@ -163,7 +159,7 @@ next-document n (e ∷ s) ch f o =
     chain-document (n .document) e s ch (⊎-elim (λ p. omega arith) (λ p. sym (p .0)) (after-read n e (not-none _ o)))
 
 -- of those left, the head is of n's document and before it
-pub behind-left : (n : Node) (s : List Node) → All (λ e. afterb n e ≡ true) s → Behind n (unended n s)
+pub behind-left : (n : Node) (s : List Node) → All (λ e. afterb n e ≡ true) s → AfterHead n (unended n s)
 unfolding unended
 behind-left n [] a = tt
 behind-left n (e ∷ s) a =

@@ -1,4 +1,4 @@
--- A walk keeps the row of open nodes and leaves to check what the whole check leaves, so its last answer is the whole check's.
+-- A walk keeps the chain of open nodes and leaves to check what the whole check leaves, so its last answer is the whole check's.
 -- A step that passed a faulty node, or named another index, would fall at `passed-on` or `stopped`.
 use mathlib.Core.Path.{_≡_, refl, sym, ap, _∙_, subst}
 use mathlib.Core.List.{List, [], _∷_}
@@ -6,18 +6,19 @@ use Prim.Native.Nat.{ℕ, _+_}
 use native.Mathlib.Numerals.{add-one}
 use borrow.Author.Tests.{eq-eqb, ne-eqb}
 use Rattle.nodes.specs.declared.node.Node.{Node}
-use Rattle.nodes.specs.Answer.{TAKEN}
-use Rattle.lists.specs.declared.verdict.Verdict.{Verdict}
-use Rattle.lists.specs.declared.walk.Place.{Place}
+use Rattle.answers.specs.Answer.{TAKEN}
+use Rattle.answers.specs.declared.verdict.Verdict.{Verdict}
+use Rattle.lists.specs.declared.walk.ListPlace.{ListPlace}
 use Rattle.lists.specs.declared.walk.Step.{Step}
 use Rattle.lists.specs.declared.walk.Step.the-variants.{Reached, Refused}
 use Rattle.lists.specs.Check.{checkFrom, checkNodes}
 use Rattle.lists.specs.Fault.{fault}
-use Rattle.lists.specs.Verdict.{ANCESTORS, verdict, taken, verdictOf}
-use Rattle.lists.specs.Walk.{opened, Fits, SteppedPast}
+use Rattle.answers.specs.Verdict.{ANCESTORS, verdict, taken}
+use Rattle.lists.specs.Step.{verdictOf}
+use Rattle.lists.specs.Private.Walk.{opened, Fits, SteppedPast}
 use Rattle.lists.proofs.Keeping.{Kept, kept-none, kept-next, fault-told}
 
--- a walk with the row s, at an index, with the rest of the nodes before it, where the check of all nodes says whole
+-- a walk with the chain s, at an index, with the rest of the nodes before it, where the check of all nodes says whole
 pub record Walk (s : List Node) (index : ℕ) (rest : List Node) (whole : Verdict) : Type 0 where
   pub before : List Node
   pub kept : Kept before s
@@ -38,7 +39,7 @@ walk-end w = w .same
 
 module _ {s : List Node} {n : Node} {index : ℕ} {rest : List Node} {whole : Verdict} (w : Walk s index (n ∷ rest) whole) where
   -- the check of the rest goes past a node at which nothing is wrong
-  passed-on : (words : List ℕ) (p : Place) → SteppedPast s n index (Reached p) words → Walk (opened (p .used) words) (p .index) rest whole
+  passed-on : (words : List ℕ) (p : ListPlace) → SteppedPast s n index (Reached p) words → Walk (opened (p .used) words) (p .index) rest whole
   unfolding checkFrom
   passed-on words p h =
       let f : fault (w .before) n ≡ TAKEN = fault-told (w .before) s n (w .kept) ∙ h .0 in
@@ -58,7 +59,7 @@ module _ {s : List Node} {n : Node} {index : ℕ} {rest : List Node} {whole : Ve
 
   -- what a step's answer says of the walk
   module _ (words : List ℕ) (r : Step) (h : SteppedPast s n index r words) where
-    pub walk-on : (p : Place) → r ≡ Reached p → (p .index ≡ index + 1) × Fits (p .used) × Walk (opened (p .used) words) (p .index) rest whole
+    pub walk-on : (p : ListPlace) → r ≡ Reached p → (p .index ≡ index + 1) × Fits (p .used) × Walk (opened (p .used) words) (p .index) rest whole
     walk-on p e = let g = subst (λ (step : Step). SteppedPast s n index step words) e h in (g .1, g .2, passed-on words p g)
 
     pub walk-stop : (v : Verdict) → r ≡ Refused v → verdictOf r ≡ whole

@@ -5,12 +5,12 @@ use mathlib.Core.List.{List, [], _∷_}
 use lib.Dec.{ltb, eqb}
 use lib.ListN.{length}
 use Rattle.nodes.specs.declared.node.Node.{Node}
-use Rattle.nodes.specs.Answer.{TAKEN, RAGGED, LONG}
+use Rattle.answers.specs.Answer.{TAKEN, RAGGED, LONG}
 use Rattle.nodes.specs.Words.{NODE-WORDS, MOST-NODES, nodes, count}
 use Rattle.numbers.specs.Little.{NUMBER-BYTES, numbers}
-use Rattle.lists.specs.declared.verdict.Verdict.{Verdict}
+use Rattle.answers.specs.declared.verdict.Verdict.{Verdict}
 use Rattle.lists.specs.Fault.{fault}
-use Rattle.lists.specs.Verdict.{ANCESTORS, verdict, taken}
+use Rattle.answers.specs.Verdict.{ANCESTORS, verdict, taken}
 
 -- the first node in list order at which something is wrong, with its index; the nodes before come with the last one first
 unfoldable pub checkFrom : List Node → ℕ → List Node → Verdict

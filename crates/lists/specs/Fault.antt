@@ -4,8 +4,8 @@ use mathlib.Core.Bool.{Bool, false, cond, not, _&&_, _||_}
 use mathlib.Core.List.{List, [], _∷_}
 use lib.Dec.{ltb, eqb}
 use Rattle.nodes.specs.declared.node.Node.{Node}
-use Rattle.nodes.specs.Answer.{TAKEN, LEVEL, SPAN, ORDER, CROSS, DEPTH}
-use Rattle.nodes.specs.Choose.{any}
+use Rattle.answers.specs.Answer.{TAKEN, LEVEL, SPAN, ORDER, CROSS, DEPTH}
+use Rattle.laws.specs.Choose.{any}
 use Rattle.nodes.specs.Node.{insideb, afterb, openb, MOST-LEVELS}
 
 -- LEVEL: level 0 or above 64

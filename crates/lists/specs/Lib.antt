@@ -1,9 +1,8 @@
--- What the contracts of `lists` cite: document 01's checks in `Fault`, `Check` and `Two`; `Refusal` says the same table by the nodes
--- that draw an answer; `Merge` and `Walk` are words of private functions alone.
+-- What the contracts of `lists` cite: document 01's checks in `Fault`, `Check` and `Two`; `Step` gives the number and values of a step's two
+-- cases; `Refusal` says the same table by the nodes that draw an answer.
 pub mod Check
 pub mod Fault
-pub mod Merge
+pub mod Private
 pub mod Refusal
+pub mod Step
 pub mod Two
-pub mod Verdict
-pub mod Walk

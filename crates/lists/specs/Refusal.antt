@@ -6,20 +6,20 @@ use mathlib.Core.Bool.{true, false}
 use mathlib.Core.List.{List, _∷_}
 use lib.ListN.{length}
 use Rattle.nodes.specs.declared.node.Node.{Node}
-use Rattle.nodes.specs.Choose.{In}
+use Rattle.laws.specs.Choose.{In}
 use Rattle.nodes.specs.Node.{insideb, apartb, afterb, MOST-LEVELS}
 use Rattle.nodes.specs.Words.{NODE-WORDS, MOST-NODES, nodes, count}
 use Rattle.lists.specs.Two.{nestedb}
 
--- n comes right behind e in a list
+-- n comes right after e in a list
 pub data Neighbours (e n : Node) : List Node → Type 0 where
   here : {x y : Node} {ns : List Node} → e ≡ x → n ≡ y → Neighbours e n (x ∷ y ∷ ns)
   later : {x : Node} {ns : List Node} → Neighbours e n ns → Neighbours e n (x ∷ ns)
 
--- n comes anywhere behind e in a list
-pub data Behind (e n : Node) : List Node → Type 0 where
-  here : {x : Node} {ns : List Node} → e ≡ x → In n ns → Behind e n (x ∷ ns)
-  later : {x : Node} {ns : List Node} → Behind e n ns → Behind e n (x ∷ ns)
+-- n comes anywhere after e in a list
+pub data Follows (e n : Node) : List Node → Type 0 where
+  here : {x : Node} {ns : List Node} → e ≡ x → In n ns → Follows e n (x ∷ ns)
+  later : {x : Node} {ns : List Node} → Follows e n ns → Follows e n (x ∷ ns)
 
 -- what refuses a list by itself
 pub data Faulty (words : List ℕ) : Type 0 where
@@ -32,8 +32,8 @@ pub data Faulty (words : List ℕ) : Type 0 where
   -- of two neighbours the second doesn't stand after the first
   order : (e n : Node) → Neighbours e n (nodes words) → afterb n e ≡ false → Faulty words
   -- of two nodes of one document the earlier reaches to the later one, which isn't inside it, or is without a higher level
-  cross : (e n : Node) → Behind e n (nodes words) → e .document ≡ n .document → n .start ≤ e .end → insideb n e ≡ false → Faulty words
-  depth : (e n : Node) → Behind e n (nodes words) → insideb n e ≡ true → n .level ≤ e .level → Faulty words
+  cross : (e n : Node) → Follows e n (nodes words) → e .document ≡ n .document → n .start ≤ e .end → insideb n e ≡ false → Faulty words
+  depth : (e n : Node) → Follows e n (nodes words) → insideb n e ≡ true → n .level ≤ e .level → Faulty words
 
 -- a node of one list and a node of the other, of one document, are neither identical, nor apart, nor one inside the other with a higher level
 pub record AtOdds (xs ys : List Node) : Type 0 where

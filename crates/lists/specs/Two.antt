@@ -4,13 +4,13 @@ use mathlib.Core.Bool.{Bool, cond, not, _&&_, _||_}
 use mathlib.Core.List.{List}
 use lib.Dec.{ltb, eqb}
 use Rattle.nodes.specs.declared.node.Node.{Node}
-use Rattle.nodes.specs.Answer.{TAKEN, JOINT}
-use Rattle.nodes.specs.Choose.{any}
+use Rattle.answers.specs.Answer.{JOINT}
+use Rattle.laws.specs.Choose.{any}
 use Rattle.nodes.specs.Node.{insideb, apartb, sameb}
 use Rattle.nodes.specs.Words.{nodes}
-use Rattle.lists.specs.declared.verdict.Verdict.{Verdict}
+use Rattle.answers.specs.declared.verdict.Verdict.{Verdict}
 use Rattle.lists.specs.Check.{checkWords}
-use Rattle.lists.specs.Verdict.{ANCESTORS, DESCENDANTS, verdict, taken}
+use Rattle.answers.specs.Verdict.{ANCESTORS, DESCENDANTS, verdict, taken, refusedb, inList}
 
 -- y is inside x, and its level is higher
 unfoldable pub nestedb : Node → Node → Bool
@@ -27,14 +27,6 @@ oddsb x y = eqb (x .document) (y .document) && not (sameb x y || agreeb x y)
 -- JOINT: some node of one list and some node of the other are at odds
 unfoldable pub jointb : List Node → List Node → Bool
 jointb xs ys = any (λ x. any (λ y. oddsb x y) ys) xs
-
--- a verdict draws an answer other than TAKEN
-unfoldable pub refusedb : Verdict → Bool
-refusedb v = not (eqb (v .answer) TAKEN)
-
--- the verdict, said of a list
-abbrev pub inList : ℕ → Verdict → Verdict
-inList list v = verdict (v .answer) list (v .index)
 
 -- the ancestors completely, then the descendants, then JOINT
 unfoldable pub checkTwo : List ℕ → List ℕ → Verdict

@@ -1,13 +1,13 @@
 // The check of a list that lies in bytes.
-use crate::verdict::Verdict;
-use crate::verdict::without_node;
-use crate::walk::Place;
+use crate::walk::ListPlace;
 use crate::walk::STACK_WORDS;
 use crate::walk::Step;
 use crate::walk::pass_node;
 use crate::walk::verdict_of;
-use nodes::answer::LONG;
-use nodes::answer::RAGGED;
+use answers::answer::LONG;
+use answers::answer::RAGGED;
+use answers::verdict::Verdict;
+use answers::verdict::without_node;
 use nodes::node::MOST_NODES;
 use numbers::little::NODE_BYTES;
 use numbers::little::node_in;
@@ -17,7 +17,7 @@ ghost use lib.ListN.{length};
 ghost use Rattle.nodes.specs.Words.{nodes, MOST-NODES};
 ghost use Rattle.numbers.specs.Little.{numbers, NODE-BYTES};
 ghost use Rattle.lists.specs.Check.{checkNodes, checkBytes};
-ghost use Rattle.lists.specs.Verdict.{verdictOf};
+ghost use Rattle.lists.specs.Step.{verdictOf};
 
 // The walk along a list that lies in bytes and isn't too long: each node is read where it lies.
 fn pass_bytes(bytes: &[u8]) -> Step
@@ -25,7 +25,7 @@ fn pass_bytes(bytes: &[u8]) -> Step
     ensures { λ r. ⌜ verdictOf r ≡ checkNodes (nodes (numbers (now (bytes .entry)))) ⌝ }
 {
     let mut stack = [0u32; STACK_WORDS];
-    let mut place = Place { index: 0, used: 0 };
+    let mut place = ListPlace { index: 0, used: 0 };
     let mut index = 0;
     while index < bytes.len() / NODE_BYTES {
         let step = pass_node(&mut stack, place, node_in(bytes, index));
@@ -38,7 +38,8 @@ fn pass_bytes(bytes: &[u8]) -> Step
     Step::Reached(place)
 }
 
-// The caller learns of a list that lies in bytes what `check_list` says of its words; bytes that make no whole nodes are RAGGED.
+// Returns of a list that lies in bytes what `check_list` says of its words; bytes that make no
+// whole nodes are RAGGED.
 pub fn check_bytes(bytes: &[u8]) -> Verdict
     ensures { λ r. ⌜ r ≡ checkBytes (now (bytes .entry)) ⌝ }
 {

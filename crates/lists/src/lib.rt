@@ -3,5 +3,4 @@ pub mod bytes;
 pub mod list;
 mod merge;
 pub mod two;
-pub mod verdict;
 mod walk;

@@ -1,11 +1,11 @@
 // The check of one list.
 use crate::merge::pass_both;
-use crate::verdict::Verdict;
-use crate::verdict::without_node;
 use crate::walk::verdict_of;
-use nodes::answer::LONG;
-use nodes::answer::RAGGED;
-use nodes::answer::TAKEN;
+use answers::answer::LONG;
+use answers::answer::RAGGED;
+use answers::answer::TAKEN;
+use answers::verdict::Verdict;
+use answers::verdict::without_node;
 use nodes::node::MOST_NODES;
 use nodes::node::NODE_WORDS;
 use nodes::node::node_count;
@@ -25,8 +25,8 @@ pub(crate) fn word_fault(words: &[u32]) -> u32
     TAKEN
 }
 
-// The caller learns whether the list is accepted, and if not, why and at which node. A list merged with an empty one is that list, so the
-// walk along two serves here too.
+// Returns whether the list is accepted, and if not, why and at which node. A list merged with an
+// empty one is that list, so the walk along two serves here too.
 pub fn check_list(words: &[u32]) -> Verdict
     ensures { λ r. ⌜ r ≡ checkWords (now (words .entry)) ⌝ }
 {

@@ -1,5 +1,5 @@
 // The walk along the merge of two lists, in which a node that stands in both comes once.
-use crate::walk::Place;
+use crate::walk::ListPlace;
 use crate::walk::STACK_WORDS;
 use crate::walk::Step;
 use crate::walk::node_from;
@@ -12,9 +12,9 @@ ghost use Prim.Native.Nat.{_+_, _<_};
 ghost use lib.ListN.{length};
 ghost use Rattle.nodes.specs.Words.{nodes, NODE-WORDS};
 ghost use Rattle.lists.specs.Check.{checkNodes};
-ghost use Rattle.lists.specs.Merge.{merge, Whole, Cut, Drawn};
-ghost use Rattle.lists.specs.Verdict.{verdictOf};
-ghost use Rattle.lists.specs.Walk.{nodeFrom};
+ghost use Rattle.lists.specs.Private.Merge.{merge, Whole, Cut, Drawn};
+ghost use Rattle.lists.specs.Step.{verdictOf};
+ghost use Rattle.lists.specs.Private.Walk.{nodeFrom};
 
 // The next node of the merge, and at which word each list goes on after it.
 struct Next {
@@ -47,7 +47,8 @@ fn second_of(ys: &[u32], i: usize, j: usize) -> Next
     }
 }
 
-// The next node of two lists that are both at a node of one document: the one that starts earlier, or both where they are identical.
+// The next node of two lists that are both at a node of one document: the one that starts earlier,
+// or both where they are identical.
 fn next_within(xs: &[u32], i: usize, ys: &[u32], j: usize) -> Next
     requires { ⌜ Cut i (now xs) × Cut j (now ys) × (i < length (now xs)) × (j < length (now ys))
         × (nodeFrom (now xs) i .document ≡ nodeFrom (now ys) j .document) ⌝ }
@@ -67,8 +68,9 @@ fn next_within(xs: &[u32], i: usize, ys: &[u32], j: usize) -> Next
     second_of(ys, i, j)
 }
 
-// The next node of two lists that are not both at their end. Most nodes that meet are of one document, so that is asked first, and each node is
-// read word by word where a test wants it: together this takes the fewest instructions.
+// The next node of two lists that are not both at their end. Most nodes that meet are of one
+// document, so that is asked first, and each node is read word by word where a test wants it:
+// together this takes the fewest instructions.
 fn next_of(xs: &[u32], i: usize, ys: &[u32], j: usize) -> Next
     requires { ⌜ Cut i (now xs) × Cut j (now ys) × (i + j < length (now xs) + length (now ys)) ⌝ }
     ensures { λ r. ⌜ Drawn (now (xs .entry)) (now (ys .entry)) i j (r .node) (r .first) (r .second) ⌝ }
@@ -96,7 +98,7 @@ pub(crate) fn pass_both(xs: &[u32], ys: &[u32]) -> Step
     ensures { λ r. ⌜ verdictOf r ≡ checkNodes (merge (nodes (now (xs .entry))) (nodes (now (ys .entry)))) ⌝ }
 {
     let mut stack = [0u32; STACK_WORDS];
-    let mut place = Place { index: 0, used: 0 };
+    let mut place = ListPlace { index: 0, used: 0 };
     let mut i = 0;
     let mut j = 0;
     while i + j < xs.len() + ys.len() {

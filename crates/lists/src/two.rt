@@ -2,15 +2,16 @@
 use crate::list::check_list;
 use crate::list::word_fault;
 use crate::merge::pass_both;
-use crate::verdict::DESCENDANTS;
-use crate::verdict::Verdict;
-use crate::verdict::without_node;
 use crate::walk::verdict_of;
-use nodes::answer::JOINT;
-use nodes::answer::TAKEN;
+use answers::answer::JOINT;
+use answers::answer::TAKEN;
+use answers::verdict::DESCENDANTS;
+use answers::verdict::Verdict;
+use answers::verdict::without_node;
 ghost use mathlib.Core.Path.{_≡_};
 ghost use mathlib.Core.Bool.{not};
-ghost use Rattle.lists.specs.Two.{checkTwo, refusedb};
+ghost use Rattle.lists.specs.Two.{checkTwo};
+ghost use Rattle.answers.specs.Verdict.{refusedb};
 
 // Whether both lists are accepted and agree. One walk along their merge settles it.
 fn are_agreeing(ancestors: &[u32], descendants: &[u32]) -> bool
@@ -26,8 +27,9 @@ fn are_agreeing(ancestors: &[u32], descendants: &[u32]) -> bool
     verdict.answer == TAKEN
 }
 
-// The caller learns whether both lists are accepted and agree, and if not, why, in which list and at which node. Where the walk along
-// the merge finds a fault, the lists are walked one after the other to say which; where both pass alone, it is JOINT.
+// Returns whether both lists are accepted and agree, and if not, why, in which list and at which
+// node. Where the walk along the merge finds a fault, the lists are walked one after the other to
+// say which; where both pass alone, it is JOINT.
 pub fn check_two(ancestors: &[u32], descendants: &[u32]) -> Verdict
     ensures { λ r. ⌜ r ≡ checkTwo (now (ancestors .entry)) (now (descendants .entry)) ⌝ }
 {

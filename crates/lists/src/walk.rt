@@ -1,14 +1,15 @@
-// The walk along a list, a node at a time. The nodes that are still open are kept on a stack, the innermost on top; each lies inside
-// the one below it and has a higher level, so there are never more of them than levels.
-use crate::verdict::ANCESTORS;
-use crate::verdict::Verdict;
-use crate::verdict::without_node;
-use nodes::answer::CROSS;
-use nodes::answer::DEPTH;
-use nodes::answer::LEVEL;
-use nodes::answer::ORDER;
-use nodes::answer::SPAN;
-use nodes::answer::TAKEN;
+// The walk along a list, a node at a time. The nodes that are still open are kept on a stack, the
+// innermost on top; each lies inside the one below it and has a higher level, so there are never
+// more of them than levels.
+use answers::answer::CROSS;
+use answers::answer::DEPTH;
+use answers::answer::LEVEL;
+use answers::answer::ORDER;
+use answers::answer::SPAN;
+use answers::answer::TAKEN;
+use answers::verdict::ANCESTORS;
+use answers::verdict::Verdict;
+use answers::verdict::without_node;
 use nodes::node::MOST_LEVELS;
 use nodes::node::NODE_WORDS;
 use nodes::node::Node;
@@ -22,21 +23,22 @@ ghost use lib.ListN.{length};
 ghost use Rattle.nodes.specs.Node.{MOST-LEVELS};
 ghost use Rattle.nodes.specs.Words.{nodeAt, putNode, NODE-WORDS, MOST-NODES};
 ghost use Rattle.lists.specs.Fault.{orderb};
-ghost use Rattle.lists.specs.Verdict.{ANCESTORS, verdict, verdictOf};
-ghost use Rattle.lists.specs.Walk.{nodeFrom, opened, unended, place, firstb, Fits, InDocument, Behind, Chain, SteppedPast, SteppedOnto};
+ghost use Rattle.answers.specs.Verdict.{ANCESTORS, verdict};
+ghost use Rattle.lists.specs.Step.{verdictOf};
+ghost use Rattle.lists.specs.Private.Walk.{nodeFrom, opened, unended, listPlace, firstb, Fits, InDocument, AfterHead, Chain, SteppedPast, SteppedOnto};
 
 // The stack's words.
 pub(crate) const STACK_WORDS: usize = NODE_WORDS * MOST_LEVELS;
 
 // Where a walk stands: how many nodes it has passed, and how many words of the stack are in use.
-pub(crate) struct Place {
+pub(crate) struct ListPlace {
     pub index: usize,
     pub used: usize,
 }
 
 // What a step answers: the place that it reached, or the refusal.
 pub(crate) enum Step {
-    Reached(Place),
+    Reached(ListPlace),
     Refused(Verdict),
 }
 
@@ -52,12 +54,13 @@ pub(crate) fn verdict_of(step: Step) -> Verdict
 
 // The refusal of the node at an index.
 fn refused(answer: u32, index: usize) -> Step
+    requires { ⌜ index < 2 * MOST-NODES ⌝ }
     ensures { λ r. ⌜ r ≡ Step.Refused (verdict answer ANCESTORS index) ⌝ }
 {
     Step::Refused(Verdict {
         answer: answer,
         list: ANCESTORS,
-        index: index,
+        index: index as u32,
     })
 }
 
@@ -74,7 +77,7 @@ pub(crate) fn node_from(words: &[u32], at: usize) -> Node
     }
 }
 
-// The node on top where so many words of the stack are in use.
+// Returns the node on top of the stack, of which `used` words are in use.
 fn top_of(stack: &[u32], used: usize) -> Node
     requires { ⌜ (0 < used) × (used % NODE-WORDS ≡ 0) × (used ≤ length (now stack)) ⌝ }
     ensures { λ r. ⌜ r ≡ nodeAt (now (stack .entry)) (used / NODE-WORDS - 1) ⌝ }
@@ -82,8 +85,8 @@ fn top_of(stack: &[u32], used: usize) -> Node
     node_from(stack, used - NODE_WORDS)
 }
 
-// Whether the node is the first one of its document, at which nothing is open: the last one passed, which lies on top of the stack, is of an
-// earlier one, or there is none.
+// Whether the node is the first one of its document, at which nothing is open: the last one passed,
+// which lies on top of the stack, is of an earlier one, or there is none.
 fn is_first(stack: &[u32; STACK_WORDS], used: usize, node: Node) -> bool
     requires { ⌜ Fits used ⌝ }
     ensures { λ r. ⌜ r ≡ firstb (opened used (now (stack .entry))) node ⌝ }
@@ -102,8 +105,9 @@ fn is_next(stack: &[u32; STACK_WORDS], used: usize, node: Node) -> bool
     is_after(node, top_of(stack, used))
 }
 
-// How many words of the stack, on which all are of the node's document, are left once the nodes on top that ended before it are taken off.
-// What lies under an open node contains it and is open too, so the first open one ends the search.
+// How many words of the stack, on which all are of the node's document, are left once the nodes on
+// top that ended before it are taken off. What lies under an open node contains it and is open too,
+// so the first open one ends the search.
 fn left_open(stack: &[u32; STACK_WORDS], used: usize, node: Node) -> usize
     requires { ⌜ Fits used × InDocument (node .document) (opened used (now stack)) ⌝ }
     ensures { λ r. ⌜ Fits r × (opened r (now (stack .entry)) ≡ unended node (opened used (now (stack .entry)))) ⌝ }
@@ -118,7 +122,7 @@ fn left_open(stack: &[u32; STACK_WORDS], used: usize, node: Node) -> usize
     left
 }
 
-// The node is written behind the words of the stack that are left.
+// Writes the node after the `left` words of the stack that stay.
 fn put_open(stack: &mut [u32], left: usize, node: Node)
     requires { ⌜ (left % NODE-WORDS ≡ 0) × (left + 3 < length (now stack)) ⌝ }
     ensures { λ r. ⌜ now (stack .exit) ≡ putNode (now (stack .entry)) (left / NODE-WORDS) node ⌝ }
@@ -132,21 +136,22 @@ fn put_open(stack: &mut [u32], left: usize, node: Node)
 // The node comes to lie on top of those that are left, and the walk is one node further.
 fn push(stack: &mut [u32; STACK_WORDS], index: usize, left: usize, node: Node) -> Step
     requires { ⌜ (index < 2 * MOST-NODES) × Fits (left + NODE-WORDS) ⌝ }
-    ensures { λ r. ⌜ (r ≡ Step.Reached (place (index + 1) (left + NODE-WORDS)))
+    ensures { λ r. ⌜ (r ≡ Step.Reached (listPlace (index + 1) (left + NODE-WORDS)))
         × (opened (left + NODE-WORDS) (now (stack .exit)) ≡ node ∷ opened left (now (stack .entry))) ⌝ }
 {
     put_open(stack, left, node);
-    Step::Reached(Place {
+    Step::Reached(ListPlace {
         index: index + 1,
         used: left + NODE_WORDS,
     })
 }
 
-// The node comes to lie on top of those that are left, or it is refused: the top has to contain it and to have a lower level. The top is
-// of its document and starts before it, so only the end decides; all that lie under the top contain the top, so no other is tested.
+// The node comes to lie on top of those that are left, or it is refused: the top has to contain it
+// and to have a lower level. The top is of its document and starts before it, so only the end
+// decides; all that lie under the top contain the top, so no other is tested.
 fn put_on_top(stack: &mut [u32; STACK_WORDS], index: usize, left: usize, node: Node) -> Step
     requires { ⌜ (index < 2 * MOST-NODES) × Fits left × (node .level ≤ MOST-LEVELS)
-        × Chain (opened left (now stack)) × Behind node (opened left (now stack)) ⌝ }
+        × Chain (opened left (now stack)) × AfterHead node (opened left (now stack)) ⌝ }
     ensures { λ r. ⌜ SteppedOnto (opened left (now (stack .entry))) node index r (now (stack .exit)) ⌝ }
 {
     if left == 0 {
@@ -163,7 +168,7 @@ fn put_on_top(stack: &mut [u32; STACK_WORDS], index: usize, left: usize, node: N
 }
 
 // One step: the next node is taken and comes to lie on top of the stack, or it is refused.
-pub(crate) fn pass_node(stack: &mut [u32; STACK_WORDS], place: Place, node: Node) -> Step
+pub(crate) fn pass_node(stack: &mut [u32; STACK_WORDS], place: ListPlace, node: Node) -> Step
     requires { ⌜ (place .index < 2 * MOST-NODES) × Fits (place .used) × Chain (opened (place .used) (now stack)) ⌝ }
     ensures { λ r. ⌜ SteppedPast (opened (place .used) (now (stack .entry))) node (place .index) r (now (stack .exit)) ⌝ }
 {

@@ -10,20 +10,19 @@ use native.Mathlib.Omega.{arith}
 use lib.ListN.{length, getD, take, drop, take-append-drop}
 use lib.Seq.{sets, length-sets, drop-length, drop-cons}
 use borrow.Author.Tests.{eqb-true, eqb-false}
-use Rattle.nodes.proofs.Tests.{either}
-use Rattle.nodes.specs.Answer.{TAKEN}
-use Rattle.nodes.specs.Choose.{keep}
+use Rattle.laws.proofs.Tests.{either}
+use Rattle.answers.specs.Answer.{TAKEN}
+use Rattle.laws.specs.Choose.{keep}
 use Rattle.nodes.specs.Node.{MOST-LEVELS}
 use Rattle.nodes.specs.Words.{wordsOf}
-use Rattle.nodes.specs.Written.{wordsIn, written}
-use Rattle.nodes.proofs.Writing.{sets-before}
-use Rattle.marks.specs.declared.mark.Place.{Place}
+use Rattle.answers.specs.Output.{wordsIn, written}
+use Rattle.answers.proofs.OutputLaws.{sets-before}
+use Rattle.marks.specs.declared.mark.MarkPlace.{MarkPlace}
 use Rattle.marks.specs.declared.row.Row.{Row}
 use Rattle.marks.specs.Mark.{CLOSE, TEXT, closeb, openAfter, faultFrom}
 use Rattle.marks.specs.Table.{ROW-WORDS, rowWords, rowsFrom, tableOf, tableWords}
-use Rattle.marks.specs.Walk.{place, rowCount, openBefore, placeBefore, closesBefore, Kept, rowHere, outputBefore}
-use Rattle.marks.proofs.MarkLaws.{closes, is-text, opens, kind-of, open-closes, open-text, open-opens, rows-closes, closes-some}
-use Rattle.marks.proofs.MarkLaws.{InPlace, fault-read, end-read}
+use Rattle.marks.specs.Private.Walk.{markPlace, rowCount, openBefore, beforeMark, closesBefore, Kept, rowHere, outputBefore}
+use Rattle.marks.proofs.MarkLaws.{closes, is-text, opens, kind-of, open-closes, open-text, open-opens, rows-closes, closes-some, InPlace, fault-read, end-read}
 use Rattle.marks.proofs.Keeping.{before-closes, kept-none, kept-before, rows-here, open-forth, length-kept}
 use Rattle.marks.proofs.Passing.{count-closes, count-node}
 
@@ -39,9 +38,9 @@ row-before out₀ out count r later h room e =
     ∙ sets-before out₀ (5 * (count - 1)) (rowWords r) (wordsIn rowWords later) (omega arith)
 
 -- one mark back over the place and the output
-module _ (p : Place) (mark : ℕ) (rest : List ℕ) (some : (mark ≡ CLOSE → ⊥) → (0 < p .rows) × ((mark ≡ TEXT → ⊥) → 0 < p .depth)) where
-  rows-back : {total : ℕ} → p .rows + rowCount rest ≡ total → placeBefore p mark .rows + rowCount (mark ∷ rest) ≡ total
-  unfolding placeBefore
+module _ (p : MarkPlace) (mark : ℕ) (rest : List ℕ) (some : (mark ≡ CLOSE → ⊥) → (0 < p .rows) × ((mark ≡ TEXT → ⊥) → 0 < p .depth)) where
+  rows-back : {total : ℕ} → p .rows + rowCount rest ≡ total → beforeMark p mark .rows + rowCount (mark ∷ rest) ≡ total
+  unfolding beforeMark
   rows-back e =
       elim (either (closeb mark)) [
         | inl h ↦ rw (h, count-closes mark rest (eqb-true _ _ h)) e
@@ -52,10 +51,10 @@ module _ (p : Place) (mark : ℕ) (rest : List ℕ) (some : (mark ≡ CLOSE → 
       → out ≡ take (ROW-WORDS * p .rows) out₀
       ++ written (wordsIn rowWords (rowsFrom document (position + 1) (p .depth) rest)) (drop (ROW-WORDS * p .rows) out₀)
       → outputBefore document position kept p mark out
-      ≡ take (ROW-WORDS * placeBefore p mark .rows) out₀
+      ≡ take (ROW-WORDS * beforeMark p mark .rows) out₀
       ++ written (wordsIn rowWords (rowsFrom document position (openBefore (p .depth) mark) (mark ∷ rest)))
-      (drop (ROW-WORDS * placeBefore p mark .rows) out₀)
-  unfolding placeBefore outputBefore
+      (drop (ROW-WORDS * beforeMark p mark .rows) out₀)
+  unfolding beforeMark outputBefore
   output-back document position kept out₀ out room k e =
       elim (either (closeb mark)) [
         | inl h ↦ let c : mark ≡ CLOSE = eqb-true _ _ h in
@@ -68,7 +67,7 @@ module _ (p : Place) (mark : ℕ) (rest : List ℕ) (some : (mark ≡ CLOSE → 
       ]
 
 -- the output keeps its length
-length-output : (document position : ℕ) (kept : List ℕ) (p : Place) (mark : ℕ) (out : List ℕ)
+length-output : (document position : ℕ) (kept : List ℕ) (p : MarkPlace) (mark : ℕ) (out : List ℕ)
     → length (outputBefore document position kept p mark out) ≡ length out
 unfolding outputBefore
 length-output document position kept p mark out =
@@ -119,7 +118,7 @@ count-rest (mark ∷ marks) (suc k) =
     ]
 
 -- a walk back to a position, which keeps the closes of the elements open there and has written the rows that begin behind it
-pub record Back (document : ℕ) (marks out₀ : List ℕ) (position : ℕ) (kept : List ℕ) (p : Place) (out : List ℕ) : Type 0 where
+pub record Back (document : ℕ) (marks out₀ : List ℕ) (position : ℕ) (kept : List ℕ) (p : MarkPlace) (out : List ℕ) : Type 0 where
   pub long : length kept ≡ MOST-LEVELS
   pub same : length out ≡ length out₀
   pub depth : p .depth ≡ openAt marks position
@@ -129,7 +128,7 @@ pub record Back (document : ℕ) (marks out₀ : List ℕ) (position : ℕ) (kep
       ++ written (wordsIn rowWords (rowsFrom document (position + 1) (p .depth) (drop position marks))) (drop (ROW-WORDS * p .rows) out₀)
 
 -- what a mark asks for on the way back
-pub record Asked (marks : List ℕ) (p : Place) (mark : ℕ) : Type 0 where
+pub record MarkNeeds (marks : List ℕ) (p : MarkPlace) (mark : ℕ) : Type 0 where
   pub low : p .depth ≤ MOST-LEVELS
   pub few : p .rows ≤ rowCount marks
   pub closes : mark ≡ CLOSE → p .depth < MOST-LEVELS
@@ -138,7 +137,7 @@ pub record Asked (marks : List ℕ) (p : Place) (mark : ℕ) : Type 0 where
 module _ (document : ℕ) (marks out₀ : List ℕ) (taken : faultFrom 1 0 marks ≡ TAKEN) where
   -- at the end nothing is open, and nothing is written
   pub back-start : (kept : List ℕ) (total : ℕ) → length kept ≡ MOST-LEVELS → total ≡ rowCount marks
-      → Back document marks out₀ (length marks) kept (place 0 total) out₀
+      → Back document marks out₀ (length marks) kept (markPlace 0 total) out₀
   unfolding rowsFrom wordsIn flatMap written rowCount keep
   back-start kept total long e =
       let none = rw (drop-length marks) at (rest-taken marks taken (length marks) (omega arith)) in
@@ -153,7 +152,7 @@ module _ (document : ℕ) (marks out₀ : List ℕ) (taken : faultFrom 1 0 marks
       }
 
   -- at the beginning all rows are written
-  pub back-end : (kept : List ℕ) (p : Place) (out : List ℕ) (position : ℕ) → position ≤ 0 → Back document marks out₀ position kept p out
+  pub back-end : (kept : List ℕ) (p : MarkPlace) (out : List ℕ) (position : ℕ) → position ≤ 0 → Back document marks out₀ position kept p out
       → out ≡ written (tableWords document marks) out₀
   unfolding tableWords tableOf openAt
   back-end kept p out zero h b =
@@ -163,8 +162,8 @@ module _ (document : ℕ) (marks out₀ : List ℕ) (taken : faultFrom 1 0 marks
   back-end kept p out (suc k) h b = absurd (not-suc-le-zero h)
 
   -- what the mark before a position asks for
-  asks-at : (kept : List ℕ) (p : Place) (out : List ℕ) (k : ℕ) → k < length marks → Back document marks out₀ (suc k) kept p out
-      → Asked marks p (getD marks k 0)
+  asks-at : (kept : List ℕ) (p : MarkPlace) (out : List ℕ) (k : ℕ) → k < length marks → Back document marks out₀ (suc k) kept p out
+      → MarkNeeds marks p (getD marks k 0)
   unfolding openAt
   asks-at kept p out k i b =
       let d = b .depth in
@@ -183,17 +182,17 @@ module _ (document : ℕ) (marks out₀ : List ℕ) (taken : faultFrom 1 0 marks
             (omega arith, λ t. let o = open-opens (openAt marks k) (getD marks k 0) c t in omega arith);
       }
 
-  pub back-asks : (kept : List ℕ) (p : Place) (out : List ℕ) (position : ℕ) → 0 < position → position ≤ length marks
-      → Back document marks out₀ position kept p out → Asked marks p (getD marks (position - 1) 0)
+  pub back-asks : (kept : List ℕ) (p : MarkPlace) (out : List ℕ) (position : ℕ) → 0 < position → position ≤ length marks
+      → Back document marks out₀ position kept p out → MarkNeeds marks p (getD marks (position - 1) 0)
   back-asks kept p out zero h i b = absurd (not-suc-le-zero h)
   back-asks kept p out (suc k) h i b = rw (sub-one (suc k)) (asks-at kept p out k i b)
 
   -- one mark back, where there is room for all rows
-  module _ (kept : List ℕ) (p : Place) (out : List ℕ) (room : ROW-WORDS * rowCount marks ≤ length out₀) where
+  module _ (kept : List ℕ) (p : MarkPlace) (out : List ℕ) (room : ROW-WORDS * rowCount marks ≤ length out₀) where
     back-to : (k : ℕ) → k < length marks → Back document marks out₀ (suc k) kept p out
-        → Back document marks out₀ k (closesBefore kept (suc k) (p .depth) (getD marks k 0)) (placeBefore p (getD marks k 0))
+        → Back document marks out₀ k (closesBefore kept (suc k) (p .depth) (getD marks k 0)) (beforeMark p (getD marks k 0))
         (outputBefore document (suc k) kept p (getD marks k 0) out)
-    unfolding openAt placeBefore
+    unfolding openAt beforeMark
     back-to k i b =
         let asks = asks-at kept p out k i b in
         let few = asks .few in
@@ -211,7 +210,7 @@ module _ (document : ℕ) (marks out₀ : List ℕ) (taken : faultFrom 1 0 marks
         }
 
     pub back-on : (position : ℕ) → 0 < position → position ≤ length marks → Back document marks out₀ position kept p out
-        → (q : Place) (kept′ out′ : List ℕ) → q ≡ placeBefore p (getD marks (position - 1) 0)
+        → (q : MarkPlace) (kept′ out′ : List ℕ) → q ≡ beforeMark p (getD marks (position - 1) 0)
         → kept′ ≡ closesBefore kept position (p .depth) (getD marks (position - 1) 0)
         → out′ ≡ outputBefore document position kept p (getD marks (position - 1) 0) out → Back document marks out₀ (position - 1) kept′ q out′
     back-on zero h i b q kept′ out′ e f g = absurd (not-suc-le-zero h)

@@ -8,18 +8,17 @@ use Prim.Native.Nat.{ℕ, _+_, _-_, _≤_, _<_}
 use native.Mathlib.Omega.{arith}
 use lib.Dec.{leb, eqb}
 use borrow.Author.Tests.{leb-true, leb-false, eqb-true, eqb-false}
-use Rattle.nodes.specs.Answer.{TAKEN}
-use Rattle.nodes.specs.Choose.{All, Pairs, In}
+use Rattle.answers.specs.Answer.{TAKEN}
+use Rattle.laws.specs.Choose.{All, Pairs, In}
 use Rattle.nodes.specs.Node.{insideb, directlyb}
 use Rattle.nodes.specs.Words.{node}
-use Rattle.nodes.proofs.Choices.{all-in, pairs-in}
+use Rattle.laws.proofs.Choices.{all-in, pairs-in}
 use Rattle.nodes.proofs.NodeLaws.{within, inside-make, directly-inside, directly-make}
-use Rattle.nodes.proofs.Tests.{either}
+use Rattle.laws.proofs.Tests.{either}
 use Rattle.marks.specs.declared.row.Row.{Row}
 use Rattle.marks.specs.Mark.{CLOSE, TEXT, openAfter, faultFrom, checkMarks}
 use Rattle.marks.specs.Table.{row, closeAt, endOf, rowsFrom, tableOf}
-use Rattle.marks.proofs.MarkLaws.{closes, is-text, opens, kind-of, open-closes, open-text, open-opens, close-closes}
-use Rattle.marks.proofs.MarkLaws.{close-text, close-opens, rows-closes, rows-node, end-opens, InPlace, fault-read, check-read, closes-some}
+use Rattle.marks.proofs.MarkLaws.{closes, is-text, opens, kind-of, open-closes, open-text, open-opens, close-closes, close-text, close-opens, rows-closes, rows-node, end-opens, InPlace, fault-read, check-read, closes-some}
 use Rattle.marks.proofs.Numbered.{close-from, Made, all-made, Settled, all-settled}
 
 -- a row that contains another, and has a level

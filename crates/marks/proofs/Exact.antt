@@ -9,9 +9,9 @@ use native.Mathlib.Omega.{arith}
 use lib.Dec.{ltb, eqb}
 use lib.ListN.{length}
 use borrow.Author.Tests.{ltb-false, eqb-true, eqb-false, le-ltb, eq-eqb}
-use Rattle.nodes.specs.Answer.{TAKEN, TABLE}
+use Rattle.answers.specs.Answer.{TAKEN, TABLE}
 use Rattle.nodes.specs.Words.{MOST-NODES}
-use Rattle.nodes.proofs.Tests.{either, not-so, not-none}
+use Rattle.laws.proofs.Tests.{either, not-so, not-none}
 use Rattle.lists.proofs.Faults.{skip}
 use Rattle.marks.specs.declared.row.Row.{Row}
 use Rattle.marks.specs.Back.{Numbering, documentOf, numberedb, checkTable}
@@ -97,10 +97,11 @@ module _ (document : ℕ) (marks : List ℕ) (h : checkMarks marks ≡ TAKEN) wh
 
 -- and the marks of a table are numbered into it again
 pub same-table : (table : List ℕ) → checkTable table ≡ TAKEN
-    → (checkMarks (tableMarks table) ≡ TAKEN) × (tableWords (documentOf (rows table)) (tableMarks table) ≡ table)
+    → (checkMarks (tableMarks table) ≡ TAKEN) × (tableOf (documentOf (rows table)) (tableMarks table) ≡ rows table)
+    × (tableWords (documentOf (rows table)) (tableMarks table) ≡ table)
 unfolding tableMarks tableWords
 same-table table h =
     let t = taken-exact table .0 h in
     let n = t .1 in
     rw (tell-marks (rows table) n, tell-document (rows table) n, n .table)
-    (n .taken, words-of-rows table (whole-rows table .0 (t .0) .0))
+    (n .taken, refl, words-of-rows table (whole-rows table .0 (t .0) .0))

@@ -10,16 +10,15 @@ use lib.Dec.{eqb}
 use lib.ListN.{length, replicate, length-append}
 use lib.Seq.{append-snoc, set-at}
 use borrow.Author.Tests.{eqb-true, eq-eqb}
-use Rattle.nodes.specs.Answer.{TAKEN}
+use Rattle.answers.specs.Answer.{TAKEN}
 use Rattle.nodes.specs.Node.{sameb}
 use Rattle.nodes.proofs.NodeLaws.{same-read, same-self}
-use Rattle.nodes.proofs.Tests.{either, never, and-read, and-make}
+use Rattle.laws.proofs.Tests.{either, never, and-read, and-make}
 use Rattle.marks.specs.declared.row.Row.{Row}
 use Rattle.marks.specs.Back.{Numbering, tagged, marksOf, documentOf, sameRowb, sameRowsb, numberedb}
 use Rattle.marks.specs.Mark.{CLOSE, closeb, openAfter, faultFrom, checkMarks}
 use Rattle.marks.specs.Table.{row, closeAt, rowsFrom, tableOf, rowIn}
-use Rattle.marks.proofs.MarkLaws.{closes, is-text, opens, kind-of, open-closes, open-text, open-opens}
-use Rattle.marks.proofs.MarkLaws.{close-here, close-closes, close-text, close-opens, rows-node, end-opens, fault-read, end-read, check-read}
+use Rattle.marks.proofs.MarkLaws.{closes, is-text, opens, kind-of, open-closes, open-text, open-opens, close-here, close-closes, close-text, close-opens, rows-node, end-opens, fault-read, end-read, check-read}
 
 -- each tag comes to its mark's place, and what is no row's start stays a close
 tags-back : (document position depth : ℕ) (front marks : List ℕ) → position ≡ length front + 1

@@ -11,11 +11,10 @@ use borrow.Author.Tests.{eq-eqb, ne-eqb}
 use Rattle.nodes.specs.Words.{node}
 use Rattle.marks.specs.Mark.{CLOSE, TEXT, openAfter, closeb}
 use Rattle.marks.specs.Table.{row, endOf, rowsFrom}
-use Rattle.marks.specs.Walk.{openBefore, closesBefore, Kept, rowHere}
+use Rattle.marks.specs.Private.Walk.{openBefore, closesBefore, Kept, rowHere}
 use mathlib.Core.Logic.{inl, inr}
-use Rattle.nodes.proofs.Tests.{either}
-use Rattle.marks.proofs.MarkLaws.{closes, is-text, opens, kind-of, open-closes, open-text, open-opens, InPlace, closes-some}
-use Rattle.marks.proofs.MarkLaws.{close-here, close-closes, close-text, close-opens, rows-node, end-text, end-opens}
+use Rattle.laws.proofs.Tests.{either}
+use Rattle.marks.proofs.MarkLaws.{closes, is-text, opens, kind-of, open-closes, open-text, open-opens, InPlace, closes-some, close-here, close-closes, close-text, close-opens, rows-node, end-text, end-opens}
 
 module _ (depth mark : ℕ) where
   pub before-closes : mark ≡ CLOSE → openBefore depth mark ≡ depth + 1

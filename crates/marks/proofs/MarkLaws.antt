@@ -10,10 +10,10 @@ use native.Mathlib.Omega.{arith}
 use lib.Dec.{ltb, eqb, eqb·suc-zero}
 use lib.ListN.{length}
 use borrow.Author.Tests.{ltb-false, eqb-true, eqb-false, le-ltb, eq-eqb, ne-eqb}
-use Rattle.nodes.specs.Answer.{TAKEN}
+use Rattle.answers.specs.Answer.{TAKEN}
 use Rattle.nodes.specs.Node.{MOST-LEVELS}
 use Rattle.nodes.specs.Words.{MOST-NODES, node}
-use Rattle.nodes.proofs.Tests.{either, or-none}
+use Rattle.laws.proofs.Tests.{either, or-none}
 use Rattle.lists.proofs.Faults.{skip}
 use Rattle.marks.specs.Mark.{CLOSE, TEXT, closeb, textb, openAfter, strayb, deepb, markFault, unclosedb, faultFrom, checkMarks}
 use Rattle.marks.specs.Table.{row, closeAt, endOf, rowsFrom}

@@ -7,17 +7,15 @@ use Prim.Native.Nat.{ℕ, zero, suc, _+_, _-_, _≤_, _<_}
 use native.Mathlib.Numerals.{add-one}
 use native.Mathlib.Omega.{arith}
 use lib.ListN.{length}
-use Rattle.nodes.specs.Answer.{TAKEN}
-use Rattle.nodes.specs.Choose.{All, Pairs}
+use Rattle.answers.specs.Answer.{TAKEN}
+use Rattle.laws.specs.Choose.{All, Pairs}
 use Rattle.nodes.specs.Node.{MOST-LEVELS}
-use Rattle.nodes.specs.Words.{node}
-use Rattle.nodes.proofs.Choices.{all-map, all-both}
-use Rattle.nodes.proofs.Tests.{either}
+use Rattle.laws.proofs.Choices.{all-map, all-both}
+use Rattle.laws.proofs.Tests.{either}
 use Rattle.marks.specs.declared.row.Row.{Row}
 use Rattle.marks.specs.Mark.{CLOSE, TEXT, closeb, openAfter, faultFrom}
 use Rattle.marks.specs.Table.{closeAt, endOf, rowsFrom}
-use Rattle.marks.proofs.MarkLaws.{closes, is-text, opens, kind-of, open-closes, open-text, open-opens, close-here, close-closes}
-use Rattle.marks.proofs.MarkLaws.{close-text, close-opens, rows-closes, rows-node, end-text, end-opens, InPlace, fault-read, end-read}
+use Rattle.marks.proofs.MarkLaws.{closes, is-text, opens, kind-of, open-closes, open-text, open-opens, close-here, close-closes, close-text, close-opens, rows-closes, rows-node, end-text, end-opens, InPlace, fault-read, end-read}
 
 -- a close is not before the position from which it is looked for
 pub close-from : (inner position : ℕ) (marks : List ℕ) → position ≤ closeAt inner position marks

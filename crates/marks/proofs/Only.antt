@@ -2,7 +2,7 @@
 -- `Post` is what an `ensures` says of the answer and of what was lent; a contract that left a field or a word open would fall here.
 use mathlib.Core.Path.{_≡_}
 use denote.Ref.{now}
-use Rattle.nodes.proofs.Only.{only}
+use Rattle.laws.proofs.Only.{only}
 use Rattle.marks.proofs.number.number.Reads as number
 use Rattle.marks.proofs.pick.pick.Reads as pick
 use Rattle.marks.proofs.unnumber.unnumber.Reads as unnumber

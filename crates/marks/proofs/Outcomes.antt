@@ -3,9 +3,9 @@
 use mathlib.Core.Path.{_≡_, refl, sym, _∙_}
 use mathlib.Core.List.{List}
 use Prim.Native.Nat.{ℕ}
-use Rattle.nodes.specs.Answer.{TAKEN}
-use Rattle.nodes.specs.Written.{written, answerOf, outputOf}
-use Rattle.nodes.proofs.Writing.{if-taken, if-refused}
+use Rattle.answers.specs.Answer.{TAKEN}
+use Rattle.answers.specs.Output.{written, answerOf, outputOf}
+use Rattle.answers.proofs.OutputLaws.{if-taken, if-refused}
 use Rattle.marks.specs.Outcome.{outcome, outcomeOf}
 
 -- what the two calls that count their result answer and write

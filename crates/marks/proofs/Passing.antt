@@ -11,15 +11,15 @@ use lib.Dec.{ltb, eqb}
 use lib.ListN.{length, getD, drop, drop-of-length-le}
 use lib.Seq.{drop-cons}
 use borrow.Author.Tests.{eqb-true, eqb-false, eq-eqb, ne-eqb, lt-ltb, le-ltb}
-use Rattle.nodes.specs.Answer.{TAKEN, UNCLOSED}
-use Rattle.nodes.specs.Choose.{keep}
-use Rattle.nodes.proofs.Tests.{either, or-right}
-use Rattle.marks.specs.declared.mark.Place.{Place}
+use Rattle.answers.specs.Answer.{TAKEN, UNCLOSED}
+use Rattle.laws.specs.Choose.{keep}
+use Rattle.laws.proofs.Tests.{either, or-right}
+use Rattle.marks.specs.declared.mark.MarkPlace.{MarkPlace}
 use Rattle.marks.specs.declared.mark.Step.{Step}
 use Rattle.marks.specs.declared.mark.Step.the-variants.{Reached, Refused}
 use Rattle.marks.specs.Mark.{CLOSE, closeb, openAfter, markFault, unclosedb, faultFrom}
 use Rattle.marks.specs.Table.{rowsFrom}
-use Rattle.marks.specs.Walk.{place, rowCount, placeAfter, passed, walked, answerIn}
+use Rattle.marks.specs.Private.Walk.{markPlace, rowCount, afterMark, passed, walked, answerIn}
 use Rattle.marks.proofs.MarkLaws.{closes, is-text, opens, kind-of, open-closes, open-text, open-opens}
 
 -- the rows that marks make, mark by mark
@@ -46,8 +46,8 @@ length-table document position depth (mark ∷ marks) =
     elim (either (closeb mark)) [ inl h ↦ rw h later | inr h ↦ rw h (ap suc later) ]
 
 -- the rows of a place behind a mark
-rows-after : (p : Place) (mark : ℕ) (marks : List ℕ) → placeAfter p mark .rows + rowCount marks ≡ p .rows + rowCount (mark ∷ marks)
-unfolding placeAfter
+rows-after : (p : MarkPlace) (mark : ℕ) (marks : List ℕ) → afterMark p mark .rows + rowCount marks ≡ p .rows + rowCount (mark ∷ marks)
+unfolding afterMark
 rows-after p mark marks =
     elim (either (closeb mark)) [
       | inl h ↦ rw (h, count-closes mark marks (eqb-true _ _ h)) refl
@@ -59,34 +59,34 @@ Told : ℕ → ℕ → Step → Type 0
 Told fault rows (Reached p) = (fault ≡ TAKEN) × (p .rows ≡ rows)
 Told fault rows (Refused answer) = (answer ≡ fault) × (fault ≡ TAKEN → ⊥)
 
-told : (position : ℕ) (p : Place) (marks : List ℕ) → Told (faultFrom position (p .depth) marks) (p .rows + rowCount marks) (walked position p marks)
-unfolding faultFrom walked placeAfter rowCount keep Told
+told : (position : ℕ) (p : MarkPlace) (marks : List ℕ) → Told (faultFrom position (p .depth) marks) (p .rows + rowCount marks) (walked position p marks)
+unfolding faultFrom walked afterMark rowCount keep Told
 told position p [] =
     elim (either (unclosedb position (p .depth))) [ inl h ↦ rw h (refl, λ z. omega arith) | inr h ↦ rw h (refl, omega arith) ]
 told position p (mark ∷ marks) =
     elim (either (eqb (markFault position (p .depth) mark) TAKEN)) [
-      | inl h ↦ rw (h, ← rows-after p mark marks) (told (position + 1) (placeAfter p mark) marks)
+      | inl h ↦ rw (h, ← rows-after p mark marks) (told (position + 1) (afterMark p mark) marks)
       | inr h ↦ rw h (refl, eqb-false _ _ h)
     ]
 
-module _ (marks : List ℕ) (r : Step) (e : r ≡ walked 1 (place 0 0) marks) where
-  pub all-passed : (p : Place) → r ≡ Reached p → (faultFrom 1 0 marks ≡ TAKEN) × (p .rows ≡ rowCount marks)
+module _ (marks : List ℕ) (r : Step) (e : r ≡ walked 1 (markPlace 0 0) marks) where
+  pub all-passed : (p : MarkPlace) → r ≡ Reached p → (faultFrom 1 0 marks ≡ TAKEN) × (p .rows ≡ rowCount marks)
   unfolding Told
-  all-passed p h = let t = subst (Told (faultFrom 1 0 marks) (0 + rowCount marks)) (sym e ∙ h) (told 1 (place 0 0) marks) in (t .0, omega arith)
+  all-passed p h = let t = subst (Told (faultFrom 1 0 marks) (0 + rowCount marks)) (sym e ∙ h) (told 1 (markPlace 0 0) marks) in (t .0, omega arith)
 
   pub one-refused : (answer : ℕ) → r ≡ Refused answer → (answerIn r ≡ faultFrom 1 0 marks) × (faultFrom 1 0 marks ≡ TAKEN → ⊥)
   unfolding Told
   one-refused answer h =
-      let t = subst (Told (faultFrom 1 0 marks) (0 + rowCount marks)) (sym e ∙ h) (told 1 (place 0 0) marks) in
+      let t = subst (Told (faultFrom 1 0 marks) (0 + rowCount marks)) (sym e ∙ h) (told 1 (markPlace 0 0) marks) in
       (ap answerIn h ∙ t .0, t .1)
 
 -- a walk that has passed so many marks leaves to walk what the whole walk leaves, and has no more open or begun than it has passed
-pub record Walk (count : ℕ) (p : Place) (rest : List ℕ) (whole : Step) : Type 0 where
+pub record Walk (count : ℕ) (p : MarkPlace) (rest : List ℕ) (whole : Step) : Type 0 where
   pub depth : p .depth ≤ count
   pub rows : p .rows ≤ count
   pub same : walked (count + 1) p rest ≡ whole
 
-pub walk-start : (marks : List ℕ) → Walk 0 (place 0 0) marks (walked 1 (place 0 0) marks)
+pub walk-start : (marks : List ℕ) → Walk 0 (markPlace 0 0) marks (walked 1 (markPlace 0 0) marks)
 walk-start marks = record { depth = omega arith; rows = omega arith; same = refl }
 
 -- what a step's answer says of the walk
@@ -107,10 +107,10 @@ open-high depth mark =
 from-here : (marks : List ℕ) (i : ℕ) → i < length marks → drop i marks ≡ getD marks i 0 ∷ drop (i + 1) marks
 from-here marks i h = rw (add-one i) (drop-cons marks i 0 h)
 
-module _ {count : ℕ} {p : Place} (marks : List ℕ) {whole : Step} (w : Walk count p (drop count marks) whole) where
+module _ {count : ℕ} {p : MarkPlace} (marks : List ℕ) {whole : Step} (w : Walk count p (drop count marks) whole) where
   module _ (i : count < length marks) where
     steps : Steps (count + 1) (drop (count + 1) marks) whole (passed (count + 1) p (getD marks count 0))
-    unfolding Steps passed walked placeAfter
+    unfolding Steps passed walked afterMark
     steps =
         let d = w .depth in
         let e = w .rows in
@@ -123,7 +123,7 @@ module _ {count : ℕ} {p : Place} (marks : List ℕ) {whole : Step} (w : Walk c
         ]
 
     module _ (r : Step) (e : r ≡ passed (count + 1) p (getD marks count 0)) where
-      pub walk-on : (q : Place) → r ≡ Reached q → Walk (count + 1) q (drop (count + 1) marks) whole
+      pub walk-on : (q : MarkPlace) → r ≡ Reached q → Walk (count + 1) q (drop (count + 1) marks) whole
       unfolding Steps
       walk-on q h = subst (Steps (count + 1) (drop (count + 1) marks) whole) (sym e ∙ h) steps
 

@@ -9,11 +9,11 @@ use native.Mathlib.Omega.{arith}
 use lib.Dec.{eqb}
 use lib.ListN.{length}
 use Rattle.nodes.specs.declared.node.Node.{Node}
-use Rattle.nodes.specs.Answer.{TAKEN}
-use Rattle.nodes.specs.Choose.{All, Pairs, In, keep}
+use Rattle.answers.specs.Answer.{TAKEN}
+use Rattle.laws.specs.Choose.{All, Pairs, In, keep}
 use Rattle.nodes.specs.Words.{nodes}
-use Rattle.nodes.specs.Written.{wordsIn}
-use Rattle.nodes.proofs.Choices.{all-map, each-in, keep-all-of, keep-pairs, pairs-in, pairs-map}
+use Rattle.answers.specs.Output.{wordsIn}
+use Rattle.laws.proofs.Choices.{all-map, each-in, keep-all-of, keep-pairs, pairs-in, pairs-map}
 use Rattle.nodes.proofs.NodeLaws.{inside-make, apart-ahead, after-start}
 use Rattle.nodes.proofs.WordLaws.{nodes-of-words, length-words}
 use Rattle.lists.specs.Check.{checkWords}

@@ -11,11 +11,11 @@ use lib.ListN.{length, take, drop, length-append, length-take, take-append-drop}
 use lib.Seq.{length-sets, take-suc, take-all}
 use borrow.Author.Tests.{eq-eqb, ne-eqb, lt-ltb}
 use Rattle.nodes.specs.declared.node.Node.{Node}
-use Rattle.nodes.specs.Choose.{keep}
+use Rattle.laws.specs.Choose.{keep}
 use Rattle.nodes.specs.Words.{NODE-WORDS, node, wordsOf, count, putNode}
-use Rattle.nodes.specs.Written.{wordsIn, written}
-use Rattle.nodes.proofs.Tests.{either}
-use Rattle.nodes.proofs.Writing.{written-more, words-one-more}
+use Rattle.answers.specs.Output.{wordsIn, written}
+use Rattle.laws.proofs.Tests.{either}
+use Rattle.answers.proofs.OutputLaws.{written-more, words-one-more}
 use Rattle.marks.specs.declared.row.Row.{Row}
 use Rattle.marks.specs.Outcome.{nodesWith, pickedWords}
 use Rattle.marks.specs.Table.{ROW-WORDS, row, rows, rowIn}

@@ -12,29 +12,28 @@ use lib.Dec.{ltb, eqb}
 use lib.ListN.{length, drop, getD, replicate, length-drop, length-reverse}
 use lib.Seq.{drop-cons, drop-drop, getD-drop, drop-length}
 use borrow.Author.Tests.{ltb-true, eqb-true, eqb-false, lt-ltb, eq-eqb, ne-eqb}
-use Rattle.nodes.specs.Answer.{TAKEN}
+use Rattle.answers.specs.Answer.{TAKEN}
 use Rattle.nodes.specs.Node.{MOST-LEVELS}
 use Rattle.nodes.specs.Words.{MOST-NODES, node}
-use Rattle.nodes.proofs.Tests.{either, and-read, and-make, or-read, or-left, or-right, same-test}
-use Rattle.marks.specs.declared.mark.Place.{Place}
+use Rattle.laws.proofs.Tests.{either, and-read, and-make, or-read, or-left, or-right, same-test}
+use Rattle.marks.specs.declared.mark.MarkPlace.{MarkPlace}
 use Rattle.marks.specs.declared.row.Row.{Row}
 use Rattle.marks.specs.Back.{documentOf, numberedb}
 use Rattle.marks.specs.Mark.{CLOSE, TEXT, closeb, textb, openAfter, markFault, faultFrom}
 use Rattle.marks.specs.Table.{row, endOf, rowsFrom, tableOf, rowIn}
-use Rattle.marks.specs.Walk.{place, placeAfter, openBefore, placeBefore, closesBefore, Kept, rowHere, markHere, fitsb, readsBack, allReadBack}
+use Rattle.marks.specs.Private.Walk.{markPlace, afterMark, openBefore, beforeMark, closesBefore, Kept, rowHere, markHere, fitsb, readsBack, allReadBack}
 use Rattle.marks.proofs.Inverse.{tell-some, tell-last, tell-document, same-row, row-itself, numbered-read, numbered-make}
 use Rattle.marks.proofs.Keeping.{before-closes, open-back, kept-none, kept-before, rows-here, open-forth, length-kept}
-use Rattle.marks.proofs.MarkLaws.{closes, is-text, opens, kind-of, open-closes, open-text, open-opens, rows-closes, rows-node, closes-some}
-use Rattle.marks.proofs.MarkLaws.{InPlace, in-place, place-in, fault-read, fault-make, end-read, end-make, check-read, check-make}
+use Rattle.marks.proofs.MarkLaws.{closes, is-text, opens, kind-of, open-closes, open-text, open-opens, rows-closes, rows-node, closes-some, InPlace, in-place, place-in, fault-read, fault-make, end-read, end-make, check-read, check-make}
 
 -- a mark fits the last of the rows left: there is room to keep a close, and any other mark is in its place and has that row
-pub record Fits (rs : List Row) (document position : ℕ) (kept : List ℕ) (q : Place) (mark : ℕ) : Type 0 where
+pub record Fits (rs : List Row) (document position : ℕ) (kept : List ℕ) (q : MarkPlace) (mark : ℕ) : Type 0 where
   pub room : mark ≡ CLOSE → q .depth < MOST-LEVELS
   pub inner : (mark ≡ CLOSE → ⊥) → (mark ≡ TEXT → ⊥) → 0 < q .depth
   pub right : (mark ≡ CLOSE → ⊥) → InPlace position (openBefore (q .depth) mark) mark
   pub same : (mark ≡ CLOSE → ⊥) → rowHere document position kept (q .depth) mark ≡ rowIn rs (q .rows - 1)
 
-module _ (rs : List Row) (document position : ℕ) (kept : List ℕ) (q : Place) (mark : ℕ) where
+module _ (rs : List Row) (document position : ℕ) (kept : List ℕ) (q : MarkPlace) (mark : ℕ) where
   pub fits-read : fitsb rs document position kept q mark ≡ true → Fits rs document position kept q mark
   unfolding fitsb
   fits-read h =
@@ -82,7 +81,7 @@ rows-last rs zero p h = absurd (not-suc-le-zero p)
 rows-last rs (suc k) p h = rw (sub-one (suc k)) (drop-cons rs k (row (node 0 0 0 0) 0) h)
 
 -- a mark that fits is in its place
-right-place : (rs : List Row) (document position : ℕ) (kept : List ℕ) (q : Place) (mark : ℕ) → Fits rs document position kept q mark
+right-place : (rs : List Row) (document position : ℕ) (kept : List ℕ) (q : MarkPlace) (mark : ℕ) → Fits rs document position kept q mark
     → InPlace position (openBefore (q .depth) mark) mark
 right-place rs document position kept q mark f =
     elim (either (closeb mark)) [
@@ -98,7 +97,7 @@ record Part (rs : List Row) (document p depth count : ℕ) (marks : List ℕ) : 
   within : count ≤ length rs
 
 -- one mark back that fits
-module _ (rs : List Row) (document p : ℕ) (kept : List ℕ) (q : Place) (mark : ℕ) (marks : List ℕ)
+module _ (rs : List Row) (document p : ℕ) (kept : List ℕ) (q : MarkPlace) (mark : ℕ) (marks : List ℕ)
     (a : Part rs document (suc p) (q .depth) (q .rows) marks) (k : Kept kept (suc p + 1) (q .depth) marks)
     (f : Fits rs document (suc p) kept q mark) where
   fault-back : faultFrom (p + 1) (openBefore (q .depth) mark) (mark ∷ marks) ≡ TAKEN
@@ -107,8 +106,8 @@ module _ (rs : List Row) (document p : ℕ) (kept : List ℕ) (q : Place) (mark 
       (fault-make (suc p) (openBefore (q .depth) mark) mark marks (right-place rs document (suc p) kept q mark f)
       (rw (open-back (q .depth) mark (f .inner)) (a .fault)))
 
-  part-back : ((mark ≡ CLOSE → ⊥) → 0 < q .rows) → Part rs document p (openBefore (q .depth) mark) (placeBefore q mark .rows) (mark ∷ marks)
-  unfolding placeBefore
+  part-back : ((mark ≡ CLOSE → ⊥) → 0 < q .rows) → Part rs document p (openBefore (q .depth) mark) (beforeMark q mark .rows) (mark ∷ marks)
+  unfolding beforeMark
   part-back some =
       elim (either (closeb mark)) [
         | inl c ↦ let e : mark ≡ CLOSE = eqb-true _ _ c in
@@ -162,10 +161,10 @@ record Marks (rs : List Row) (document count : ℕ) : Type 0 where
   long : length marks ≡ count
 
 -- rows that read back are the table of the marks told
-sound : (rs : List Row) (document p : ℕ) (kept : List ℕ) (q : Place) (marks : List ℕ) (count : ℕ) → count ≡ p + length marks
+sound : (rs : List Row) (document p : ℕ) (kept : List ℕ) (q : MarkPlace) (marks : List ℕ) (count : ℕ) → count ≡ p + length marks
     → Part rs document p (q .depth) (q .rows) marks → Kept kept (p + 1) (q .depth) marks → length kept ≡ MOST-LEVELS
     → readsBack rs document p kept q ≡ true → Marks rs document count
-unfolding readsBack placeBefore
+unfolding readsBack beforeMark
 sound rs document zero kept q marks count e a k l h =
     let r = and-read (eqb (q .depth) 0) h in
     let d : q .depth ≡ 0 = eqb-true _ _ (r .0) in
@@ -180,27 +179,27 @@ sound rs document (suc p) kept q marks count e a k l h =
     let mark = markHere rs (q .rows) (suc p) in
     let r = and-read (fitsb rs document (suc p) kept q mark) h in
     let f = fits-read rs document (suc p) kept q mark (r .0) in
-    sound rs document p (closesBefore kept (suc p) (q .depth) mark) (placeBefore q mark) (mark ∷ marks) count (omega arith)
+    sound rs document p (closesBefore kept (suc p) (q .depth) mark) (beforeMark q mark) (mark ∷ marks) count (omega arith)
     (part-back rs document p kept q mark marks a k f (told-some rs (q .rows) (suc p)))
     (rw (add-one p) (kept-before kept (suc p) (q .depth) mark marks k (λ c. omega (arith, f .room c))))
     (length-kept kept (suc p) (q .depth) mark ∙ l)
     (r .1)
 
 -- the place behind marks, the last one first
-placeOf : List ℕ → Place
-placeOf [] = place 0 0
-placeOf (mark ∷ marks) = placeAfter (placeOf marks) mark
+placeOf : List ℕ → MarkPlace
+placeOf [] = markPlace 0 0
+placeOf (mark ∷ marks) = afterMark (placeOf marks) mark
 
 back-one : (n : ℕ) → n + 1 - 1 ≡ n
 back-one n = omega arith
 
 -- what holds at a place of marks that are taken and have the rows: the rows left start before it
-record Before (rs : List Row) (document p : ℕ) (q : Place) (marks : List ℕ) : Type 0 where
+record Before (rs : List Row) (document p : ℕ) (q : MarkPlace) (marks : List ℕ) : Type 0 where
   part : Part rs document p (q .depth) (q .rows) marks
   deep : q .depth ≤ MOST-LEVELS
   starts : 0 < q .rows → rowIn rs (q .rows - 1) .node .start ≤ p
 
-module _ (rs : List Row) (document p : ℕ) (q : Place) (mark : ℕ) (marks : List ℕ) (b : Before rs document p q (mark ∷ marks)) where
+module _ (rs : List Row) (document p : ℕ) (q : MarkPlace) (mark : ℕ) (marks : List ℕ) (b : Before rs document p q (mark ∷ marks)) where
   here : InPlace (suc p) (q .depth) mark × (faultFrom (suc p + 1) (openAfter (q .depth) mark) marks ≡ TAKEN)
   here = fault-read (suc p) (q .depth) mark marks (rw (add-one p) at (b .part .fault))
 
@@ -217,8 +216,8 @@ module _ (rs : List Row) (document p : ℕ) (q : Place) (mark : ℕ) (marks : Li
         | opens c t ↦ omega (arith, open-opens (q .depth) mark c t, here .0 .level c)
       ]
 
-  before-on : Before rs document (suc p) (placeAfter q mark) marks
-  unfolding placeAfter
+  before-on : Before rs document (suc p) (afterMark q mark) marks
+  unfolding afterMark
   before-on =
       elim (either (closeb mark)) [
         | inl c ↦ let e : mark ≡ CLOSE = eqb-true _ _ c in
@@ -244,8 +243,8 @@ module _ (rs : List Row) (document p : ℕ) (q : Place) (mark : ℕ) (marks : Li
       ]
 
   -- the rows tell the mark
-  told : markHere rs (placeAfter q mark .rows) (suc p) ≡ mark
-  unfolding placeAfter
+  told : markHere rs (afterMark q mark .rows) (suc p) ≡ mark
+  unfolding afterMark
   told =
       elim (either (closeb mark)) [
         | inl c ↦ rw c (told-close rs (q .rows) (suc p) (λ s e. omega (arith, b .starts s)) ∙ sym (eqb-true mark CLOSE c))
@@ -257,12 +256,12 @@ module _ (rs : List Row) (document p : ℕ) (q : Place) (mark : ℕ) (marks : Li
   forth : openBefore (openAfter (q .depth) mark) mark ≡ q .depth
   forth = open-forth (suc p) (q .depth) mark (here .0)
 
-  place-back : placeBefore (placeAfter q mark) mark ≡ q
-  unfolding placeBefore placeAfter
+  place-back : beforeMark (afterMark q mark) mark ≡ q
+  unfolding beforeMark afterMark
   place-back = elim (either (closeb mark)) [ inl c ↦ rw (forth, c) refl | inr c ↦ rw (forth, c, back-one (q .rows)) refl ]
 
-  fits : (kept : List ℕ) → Kept kept (suc p + 1) (openAfter (q .depth) mark) marks → Fits rs document (suc p) kept (placeAfter q mark) mark
-  unfolding placeAfter
+  fits : (kept : List ℕ) → Kept kept (suc p + 1) (openAfter (q .depth) mark) marks → Fits rs document (suc p) kept (afterMark q mark) mark
+  unfolding afterMark
   fits kept k =
       let inner : (mark ≡ CLOSE → ⊥) → (mark ≡ TEXT → ⊥) → 0 < openAfter (q .depth) mark = λ n t. omega (arith, open-opens (q .depth) mark n t) in
       record {
@@ -288,7 +287,7 @@ cut rs document (mark ∷ passed) marks f t =
 complete : (rs : List Row) (document : ℕ) (passed marks kept : List ℕ) → faultFrom 1 0 (reverseAux passed marks) ≡ TAKEN
     → rowsFrom document 1 0 (reverseAux passed marks) ≡ rs → Kept kept (length passed + 1) (placeOf passed .depth) marks → length kept ≡ MOST-LEVELS
     → readsBack rs document (length passed) kept (placeOf passed) ≡ true
-unfolding readsBack placeOf placeAfter
+unfolding readsBack placeOf afterMark
 complete rs document [] marks kept f t k l = refl
 complete rs document (mark ∷ passed) marks kept f t k l =
     let p = length passed in
@@ -297,7 +296,7 @@ complete rs document (mark ∷ passed) marks kept f t k l =
     let fit = fits rs document p q mark marks b kept k in
     let on = kept-before kept (suc p) (openAfter (q .depth) mark) mark marks k (λ c. omega (arith, fit .room c)) in
     rw (told rs document p q mark marks b)
-    (and-make (fits-make rs document (suc p) kept (placeAfter q mark) mark fit)
+    (and-make (fits-make rs document (suc p) kept (afterMark q mark) mark fit)
     (rw (place-back rs document p q mark marks b)
     (complete rs document passed (mark ∷ marks) (closesBefore kept (suc p) (openAfter (q .depth) mark) mark) f t
     (rw (add-one p) (rw (forth rs document p q mark marks b) at on))
@@ -312,7 +311,7 @@ module _ (rs : List Row) (document last : ℕ) where
             let n : length rs ≡ 0 = eqb-true _ _ (rw e at h) in
             absurd (omega arith)
         | inr z ↦ let e = eqb-false last 0 z in
-            let m = sound rs document last (replicate MOST-LEVELS 0) (place 0 (length rs)) [] last (omega arith)
+            let m = sound rs document last (replicate MOST-LEVELS 0) (markPlace 0 (length rs)) [] last (omega arith)
             (record { fault = end-make (last + 1) 0 refl (λ i. e (omega arith)); behind = drop-length rs; within = omega arith })
             (kept-none (replicate MOST-LEVELS 0) (last + 1) [])
             refl
@@ -332,7 +331,7 @@ module _ (rs : List Row) (document last : ℕ) where
       let l : last ≡ length passed = e ∙ sym (length-reverse marks) in
       let d : 0 ≡ placeOf passed .depth = sym (end-read (length passed + 1) (placeOf passed .depth) (a .fault) .0) in
       let n : length rs ≡ placeOf passed .rows = omega (arith, length-drop (placeOf passed .rows) rs, ap length (a .behind), a .within) in
-      (λ i. readsBack rs document (l i) (replicate MOST-LEVELS 0) (place (d i) (n i)))
+      (λ i. readsBack rs document (l i) (replicate MOST-LEVELS 0) (markPlace (d i) (n i)))
       ∙ complete rs document passed [] (replicate MOST-LEVELS 0) g u (rw (← d) (kept-none (replicate MOST-LEVELS 0) (length passed + 1) [])) refl
 
 -- a table has a row, and not too many marks

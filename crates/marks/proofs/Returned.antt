@@ -1,12 +1,13 @@
--- With room for it, numbering writes a table and the way back writes the marks that the table came from, so either call returns what the other
--- was given. A count, a document or a word that did not come back would fall here.
-use mathlib.Core.Path.{_≡_, ap, _∙_, sym}
+-- With room for it, numbering writes a table and the way back writes the marks that the table came
+-- from, so either call returns what the other was given. A count, a document or a word that did not
+-- come back would fall here.
+use mathlib.Core.Path.{_≡_, _∙_, sym}
 use mathlib.Core.List.{List}
 use Prim.Native.Nat.{ℕ, _≤_}
 use lib.ListN.{length}
-use Rattle.nodes.specs.Answer.{TAKEN}
-use Rattle.nodes.specs.Written.{written, outputOf}
-use Rattle.nodes.proofs.Writing.{answer-taken, if-taken}
+use Rattle.answers.specs.Answer.{TAKEN}
+use Rattle.answers.specs.Output.{written, outputOf}
+use Rattle.answers.proofs.OutputLaws.{answer-taken, if-taken}
 use Rattle.marks.specs.Back.{documentOf, checkTable}
 use Rattle.marks.specs.Mark.{checkMarks}
 use Rattle.marks.specs.Outcome.{outcome, numberOutcome, numberOutput, unnumbered, tableMarks, unnumberOutcome, unnumberOutput}
@@ -48,9 +49,9 @@ marks-return document marks out h l =
 
 -- what the way back wrote is numbered into the table that it was given
 pub table-returns : (table out : List ℕ) → checkTable table ≡ TAKEN → length table ≤ length out
-    → (numberOutcome (documentOf (rows table)) (tableMarks table) out .answer ≡ TAKEN)
+    → (numberOutcome (documentOf (rows table)) (tableMarks table) out ≡ outcome TAKEN (length (rows table)))
     × (numberOutput (documentOf (rows table)) (tableMarks table) out ≡ written table out)
 table-returns table out h l =
     let s = same-table table h in
-    let r = number-taken (documentOf (rows table)) (tableMarks table) out (s .0) (rw (s .1) l) in
-    (ap (λ o. o .answer) (r .0), r .1 ∙ (λ t. written (s .1 t) out))
+    let r = number-taken (documentOf (rows table)) (tableMarks table) out (s .0) (rw (s .2) l) in
+    (r .0 ∙ (λ t. outcome TAKEN (length (s .1 t))), r .1 ∙ (λ t. written (s .2 t) out))

@@ -9,10 +9,10 @@ use native.Mathlib.Numerals.{add-one}
 use lib.ListN.{length, getD, drop, drop-of-length-le}
 use lib.Seq.{drop-cons}
 use Rattle.nodes.specs.Words.{node, wordsOf}
-use Rattle.nodes.specs.Written.{wordsIn}
+use Rattle.answers.specs.Output.{wordsIn}
 use Rattle.marks.specs.declared.row.Row.{Row}
 use Rattle.marks.specs.Table.{ROW-WORDS, row, rowWords, rows, rowIn}
-use Rattle.nodes.proofs.Writing.{length-items}
+use Rattle.answers.proofs.OutputLaws.{length-items}
 
 pub length-rows : (ws : List ℕ) → length (rows ws) ≡ length ws / ROW-WORDS
 unfolding rows

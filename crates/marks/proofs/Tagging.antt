@@ -10,9 +10,9 @@ use native.Mathlib.Numerals.{add-one}
 use native.Mathlib.Omega.{arith}
 use lib.ListN.{length, drop, set, getD, replicate, length-set, length-replicate, replicate-append-replicate}
 use lib.Seq.{drop-cons, set-at, append-snoc, set-append-left}
-use Rattle.nodes.specs.Choose.{All}
-use Rattle.nodes.specs.Written.{written}
-use Rattle.nodes.proofs.Tests.{either}
+use Rattle.laws.specs.Choose.{All}
+use Rattle.answers.specs.Output.{written}
+use Rattle.laws.proofs.Tests.{either}
 use Rattle.marks.specs.declared.row.Row.{Row}
 use Rattle.marks.specs.Back.{Numbering, tagged, marksOf, numberedb}
 use Rattle.marks.specs.Mark.{CLOSE, closeb, openAfter}

@@ -5,7 +5,7 @@ use mathlib.Core.Bool.{Bool, true, false, cond, _&&_}
 use mathlib.Core.List.{List, [], _∷_}
 use lib.Dec.{eqb}
 use lib.ListN.{replicate, set}
-use Rattle.nodes.specs.Answer.{TAKEN, TABLE}
+use Rattle.answers.specs.Answer.{TAKEN, TABLE}
 use Rattle.nodes.specs.Node.{sameb}
 use Rattle.marks.specs.declared.row.Row.{Row}
 use Rattle.marks.specs.Mark.{CLOSE, checkMarks}

@@ -4,7 +4,7 @@ use mathlib.Core.Bool.{Bool, cond, not, _&&_, _||_}
 use mathlib.Core.List.{List, [], _∷_}
 use lib.Dec.{ltb, eqb}
 use lib.ListN.{length}
-use Rattle.nodes.specs.Answer.{TAKEN, LONG, MARK, STRAY, DEEP, UNCLOSED}
+use Rattle.answers.specs.Answer.{TAKEN, LONG, MARK, STRAY, DEEP, UNCLOSED}
 use Rattle.nodes.specs.Node.{MOST-LEVELS}
 use Rattle.nodes.specs.Words.{MOST-NODES}
 
@@ -21,7 +21,7 @@ closeb mark = eqb mark CLOSE
 abbrev pub textb : ℕ → Bool
 textb mark = eqb mark TEXT
 
--- how many elements are open behind a mark, where so many are open before it
+-- how many elements are open after a mark, if `depth` are open before it
 unfoldable pub openAfter : ℕ → ℕ → ℕ
 openAfter depth mark = cond (closeb mark) (depth - 1) (cond (textb mark) depth (depth + 1))
 
@@ -33,7 +33,7 @@ strayb position depth mark = eqb depth 0 && ((closeb mark || textb mark) || ltb 
 unfoldable pub deepb : ℕ → ℕ → Bool
 deepb depth mark = not (closeb mark) && ltb MOST-LEVELS (depth + 1)
 
--- what is wrong with the mark at a position, where so many elements are open: MARK, a mark above 65,536, then STRAY, then DEEP
+-- what is wrong with the mark at a position, if `depth` elements are open before it: MARK, a mark above 65,536, then STRAY, then DEEP
 unfoldable pub markFault : ℕ → ℕ → ℕ → ℕ
 markFault position depth mark =
     cond (ltb TEXT mark) MARK
@@ -44,7 +44,7 @@ markFault position depth mark =
 unfoldable pub unclosedb : ℕ → ℕ → Bool
 unclosedb position depth = ltb 0 depth || eqb position 1
 
--- the first faulty mark, from a position on at which so many elements are open; then UNCLOSED
+-- the first faulty mark, from a position on at which `depth` elements are open; then UNCLOSED
 unfoldable pub faultFrom : ℕ → ℕ → List ℕ → ℕ
 faultFrom position depth [] = cond (unclosedb position depth) UNCLOSED TAKEN
 faultFrom position depth (mark ∷ marks) =

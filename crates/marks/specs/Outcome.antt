@@ -4,25 +4,27 @@ use mathlib.Core.List.{List, map}
 use lib.Dec.{eqb}
 use lib.ListN.{length}
 use Rattle.nodes.specs.declared.node.Node.{Node}
-use Rattle.nodes.specs.Choose.{keep}
+use Rattle.laws.specs.Choose.{keep}
 use Rattle.nodes.specs.Words.{wordsOf}
-use Rattle.nodes.specs.Written.{wordsIn, answerOf, ifTaken, outputOf}
-use Rattle.marks.specs.declared.outcome.Outcome.{Outcome}
+use Rattle.answers.specs.Output.{wordsIn, answerOf, ifTaken, outputOf}
+use Rattle.answers.specs.declared.verdict.Counted.{Counted}
+use Rattle.answers.specs.Verdict.{ANCESTORS, verdict, counted}
 use Rattle.marks.specs.declared.unnumber.Unnumbered.{Unnumbered}
 use Rattle.marks.specs.declared.row.Row.{Row}
 use Rattle.marks.specs.Back.{marksOf, documentOf, checkTable}
 use Rattle.marks.specs.Mark.{checkMarks}
 use Rattle.marks.specs.Table.{tableOf, tableWords, rows, rowFault}
 
-abbrev pub outcome : ℕ → ℕ → Outcome
-outcome answer count = record { answer = answer; count = count }
+-- an answer that no node draws, and how much was written
+abbrev pub outcome : ℕ → ℕ → Counted
+outcome answer count = counted (verdict answer ANCESTORS 0) count
 
 -- a call's answer, and how much it wrote; nothing on refusal
-unfoldable pub outcomeOf : ℕ → List ℕ → List ℕ → ℕ → Outcome
+unfoldable pub outcomeOf : ℕ → List ℕ → List ℕ → ℕ → Counted
 outcomeOf fault result out count = outcome (answerOf fault result out) (ifTaken fault result out count 0)
 
 -- numbering: the words of the table, counted in rows
-unfoldable pub numberOutcome : ℕ → List ℕ → List ℕ → Outcome
+unfoldable pub numberOutcome : ℕ → List ℕ → List ℕ → Counted
 numberOutcome document marks out = outcomeOf (checkMarks marks) (tableWords document marks) out (length (tableOf document marks))
 
 unfoldable pub numberOutput : ℕ → List ℕ → List ℕ → List ℕ
@@ -51,7 +53,7 @@ nodesWith tag rs = map (λ r. r .node) (keep (λ r. eqb (r .tag) tag) rs)
 unfoldable pub pickedWords : ℕ → List ℕ → List ℕ
 pickedWords tag table = wordsIn wordsOf (nodesWith tag (rows table))
 
-unfoldable pub pickOutcome : List ℕ → ℕ → List ℕ → Outcome
+unfoldable pub pickOutcome : List ℕ → ℕ → List ℕ → Counted
 pickOutcome table tag out = outcomeOf (rowFault table) (pickedWords tag table) out (length (nodesWith tag (rows table)))
 
 unfoldable pub pickOutput : List ℕ → ℕ → List ℕ → List ℕ

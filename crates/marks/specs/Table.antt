@@ -1,22 +1,22 @@
 -- Document 01, "Marks and tables": the rows of a document's nodes, in start order, and the words of a table.
-use Prim.Native.Nat.{ℕ, _+_, _-_, _%_, _/_}
+use Prim.Native.Nat.{ℕ, _+_, _-_, _%_, _/_, _≤_, _<_}
 use mathlib.Core.Path.{_≡_}
 use mathlib.Core.Bool.{cond, not, _&&_}
 use mathlib.Core.List.{List, [], _∷_, _++_}
 use lib.Dec.{ltb, eqb}
 use lib.ListN.{length, getD}
 use Rattle.nodes.specs.declared.node.Node.{Node}
-use Rattle.nodes.specs.Answer.{TAKEN, RAGGED, LONG}
+use Rattle.answers.specs.Answer.{TAKEN, RAGGED, LONG}
 use Rattle.nodes.specs.Words.{MOST-NODES, node, wordsOf}
-use Rattle.nodes.specs.Written.{wordsIn}
+use Rattle.answers.specs.Output.{wordsIn}
 use Rattle.marks.specs.declared.row.Row.{Row}
 use Rattle.marks.specs.Mark.{CLOSE, TEXT, closeb, textb, openAfter}
 
 abbrev pub row : Node → ℕ → Row
 row n tag = record { node = n; tag = tag }
 
--- the position of an element's close among the marks from a position on, where so many elements inside it are open; where no mark closes it,
--- the position behind the last
+-- the position of an element's close among the marks from a position on, where `inner` elements
+-- inside it are open; where no mark closes it, the position after the last
 unfoldable pub closeAt : ℕ → ℕ → List ℕ → ℕ
 closeAt inner position [] = position
 closeAt inner position (mark ∷ marks) =
@@ -26,7 +26,8 @@ closeAt inner position (mark ∷ marks) =
 unfoldable pub endOf : ℕ → ℕ → List ℕ → ℕ
 endOf position mark marks = cond (textb mark) position (closeAt 0 (position + 1) marks)
 
--- the rows of the nodes that begin from a position on, where so many elements are open; a node's level is one more
+-- the rows of the nodes that begin from a position on, where `depth` elements are open; a node's level
+-- is one more
 unfoldable pub rowsFrom : ℕ → ℕ → ℕ → List ℕ → List Row
 rowsFrom document position depth [] = []
 rowsFrom document position depth (mark ∷ marks) =
@@ -37,12 +38,21 @@ rowsFrom document position depth (mark ∷ marks) =
 unfoldable pub tableOf : ℕ → List ℕ → List Row
 tableOf document marks = rowsFrom document 1 0 marks
 
--- a row stands where its marks do, among the marks from a position on: its tag is the mark at its start, a text ends there, and at an element's
--- end stands a close
-pub record Marked (position : ℕ) (marks : List ℕ) (r : Row) : Type 0 where
-  pub tag-at : getD marks (r .node .start - position) 0 ≡ r .tag
+-- a mark is the one at a position, among the marks from another position on; there is a mark at that
+-- position, so that the default of `getD` is never read
+pub record MarkAt (from : ℕ) (marks : List ℕ) (position mark : ℕ) : Type 0 where
+  pub reached : from ≤ position
+  pub present : position < from + length marks
+  pub read : getD marks (position - from) 0 ≡ mark
+
+-- a row stands where its marks do, among the marks from a position on: its tag is the mark at its
+-- start and not a close, a text ends where it starts, and an element ends after its start, at a close
+pub record Marked (from : ℕ) (marks : List ℕ) (r : Row) : Type 0 where
+  pub tag-at : MarkAt from marks (r .node .start) (r .tag)
+  pub no-close : r .tag ≡ CLOSE → ⊥
   pub one-position : r .tag ≡ TEXT → r .node .end ≡ r .node .start
-  pub closed-at : (r .tag ≡ TEXT → ⊥) → getD marks (r .node .end - position) 0 ≡ CLOSE
+  pub closed-after : (r .tag ≡ TEXT → ⊥) → r .node .start < r .node .end
+  pub closed-at : (r .tag ≡ TEXT → ⊥) → MarkAt from marks (r .node .end) CLOSE
 
 -- how many words a row takes: a node's four and the tag
 abbrev pub ROW-WORDS : ℕ

@@ -1,7 +1,8 @@
-// Marks walked backwards. Each close is met before its opening, so where an element ends is known when its row is made: the closes of the
-// elements that are open at a place are kept, the innermost's last, and there are never more of them than levels.
+// Marks walked backwards. Each close is met before its opening, so where an element ends is known
+// when its row is made: the closes of the elements that are open at a place are kept, the
+// innermost's last, and there are never more of them than levels.
 use crate::mark::CLOSE;
-use crate::mark::Place;
+use crate::mark::MarkPlace;
 use crate::mark::TEXT;
 use crate::row::Row;
 use nodes::node::MOST_LEVELS;
@@ -10,9 +11,9 @@ ghost use mathlib.Core.Path.{_≡_};
 ghost use Prim.Native.Nat.{_≤_, _<_};
 ghost use Rattle.nodes.specs.Node.{MOST-LEVELS};
 ghost use Rattle.marks.specs.Mark.{CLOSE, TEXT};
-ghost use Rattle.marks.specs.Walk.{place, openBefore, placeBefore, closesBefore, rowHere};
+ghost use Rattle.marks.specs.Private.Walk.{openBefore, beforeMark, closesBefore, rowHere};
 
-// How many elements are open before an opening or a text, where so many are open behind it.
+// Returns how many elements are open before an opening or a text, with `depth` open after it.
 pub(crate) fn open_before(depth: usize, mark: u32) -> usize
     requires { ⌜ (mark ≡ CLOSE → ⊥) × ((mark ≡ TEXT → ⊥) → 0 < depth) ⌝ }
     ensures { λ r. ⌜ r ≡ openBefore depth mark ⌝ }
@@ -23,8 +24,8 @@ pub(crate) fn open_before(depth: usize, mark: u32) -> usize
     depth - 1
 }
 
-// The row of the node that an opening or a text begins, where so many elements are open behind it: a text ends where it starts, and an
-// element at the innermost of the closes kept.
+// Returns the row of the node that an opening or a text begins, with `depth` elements open after it:
+// a text ends where it starts, and an element at the innermost of the closes kept.
 pub(crate) fn row_here(
     document: u32,
     position: u32,
@@ -59,24 +60,28 @@ pub(crate) fn row_here(
 }
 
 // A close is kept: the element that it closes is open before it.
-pub(crate) fn keep_close(closes: &mut [u32; MOST_LEVELS], position: u32, place: Place) -> Place
+pub(crate) fn keep_close(
+    closes: &mut [u32; MOST_LEVELS],
+    position: u32,
+    place: MarkPlace,
+) -> MarkPlace
     requires { ⌜ place .depth < MOST-LEVELS ⌝ }
-    ensures { λ r. ⌜ (r ≡ placeBefore place CLOSE) × (now (closes .exit) ≡ closesBefore (now (closes .entry)) position (place .depth) CLOSE) ⌝ }
+    ensures { λ r. ⌜ (r ≡ beforeMark place CLOSE) × (now (closes .exit) ≡ closesBefore (now (closes .entry)) position (place .depth) CLOSE) ⌝ }
 {
     let depth = place.depth;
     closes[depth] = position;
-    Place {
+    MarkPlace {
         depth: depth + 1,
         rows: place.rows,
     }
 }
 
 // The place before an opening or a text, which begins the last of the rows.
-pub(crate) fn before_node(place: Place, mark: u32) -> Place
+pub(crate) fn before_node(place: MarkPlace, mark: u32) -> MarkPlace
     requires { ⌜ (mark ≡ CLOSE → ⊥) × ((mark ≡ TEXT → ⊥) → 0 < place .depth) × (0 < place .rows) ⌝ }
-    ensures { λ r. ⌜ r ≡ placeBefore place mark ⌝ }
+    ensures { λ r. ⌜ r ≡ beforeMark place mark ⌝ }
 {
-    Place {
+    MarkPlace {
         depth: open_before(place.depth, mark),
         rows: place.rows - 1,
     }

@@ -1,16 +1,16 @@
 // What a mark does, and the walk along a document's marks that checks them, a mark at a time.
-use nodes::answer::DEEP;
-use nodes::answer::MARK;
-use nodes::answer::STRAY;
-use nodes::answer::TAKEN;
-use nodes::answer::UNCLOSED;
+use answers::answer::DEEP;
+use answers::answer::MARK;
+use answers::answer::STRAY;
+use answers::answer::TAKEN;
+use answers::answer::UNCLOSED;
 use nodes::node::MOST_LEVELS;
 ghost use mathlib.Core.Path.{_≡_};
 ghost use Prim.Native.Nat.{_≤_, _<_};
 ghost use lib.ListN.{length};
 ghost use Rattle.nodes.specs.Words.{MOST-NODES};
 ghost use Rattle.marks.specs.Mark.{CLOSE, strayb, markFault};
-ghost use Rattle.marks.specs.Walk.{place, passed, placeAfter, walked, answerIn};
+ghost use Rattle.marks.specs.Private.Walk.{markPlace, passed, afterMark, walked, answerIn};
 
 // The mark that closes an element.
 pub const CLOSE: u32 = 0;
@@ -19,18 +19,19 @@ pub const CLOSE: u32 = 0;
 pub const TEXT: u32 = 65536;
 
 // Where a walk stands: how many elements are open, and how many rows begin before.
-pub(crate) struct Place {
+pub(crate) struct MarkPlace {
     pub depth: usize,
     pub rows: usize,
 }
 
 // What a step answers: the place that it reached, or the number of the refusal.
 pub(crate) enum Step {
-    Reached(Place),
+    Reached(MarkPlace),
     Refused(u32),
 }
 
-// Whether the mark at a position is out of place: with nothing open only the first mark may come, and it has to open the root.
+// Whether the mark at a position is out of place: with nothing open only the first mark may come,
+// and it has to open the root.
 fn is_stray(position: usize, depth: usize, mark: u32) -> bool
     ensures { λ r. ⌜ r ≡ strayb position depth mark ⌝ }
 {
@@ -46,7 +47,8 @@ fn is_stray(position: usize, depth: usize, mark: u32) -> bool
     1 < position
 }
 
-// What is wrong with the mark at a position, where so many elements are open: MARK, STRAY, DEEP, or nothing, which is TAKEN.
+// Returns what is wrong with the mark at a position, with `depth` elements open before it: MARK,
+// STRAY, DEEP, or nothing, which is TAKEN.
 pub(crate) fn mark_fault(position: usize, depth: usize, mark: u32) -> u32
     ensures { λ r. ⌜ r ≡ markFault position depth mark ⌝ }
 {
@@ -65,31 +67,31 @@ pub(crate) fn mark_fault(position: usize, depth: usize, mark: u32) -> u32
     TAKEN
 }
 
-// The place behind a mark that isn't stray.
-fn place_after(place: Place, mark: u32) -> Place
+// Returns the place after a mark that isn't stray.
+fn place_after(place: MarkPlace, mark: u32) -> MarkPlace
     requires { ⌜ (place .depth < MOST-NODES) × (place .rows < MOST-NODES) × (mark ≡ CLOSE → 0 < place .depth) ⌝ }
-    ensures { λ r. ⌜ r ≡ placeAfter place mark ⌝ }
+    ensures { λ r. ⌜ r ≡ afterMark place mark ⌝ }
 {
     if mark == CLOSE {
-        return Place {
+        return MarkPlace {
             depth: place.depth - 1,
             rows: place.rows,
         };
     }
     if mark == TEXT {
-        return Place {
+        return MarkPlace {
             depth: place.depth,
             rows: place.rows + 1,
         };
     }
-    Place {
+    MarkPlace {
         depth: place.depth + 1,
         rows: place.rows + 1,
     }
 }
 
-// One step: the place behind the mark is reached, or the mark is refused.
-fn pass_mark(position: usize, place: Place, mark: u32) -> Step
+// One step: the place after the mark is reached, or the mark is refused.
+fn pass_mark(position: usize, place: MarkPlace, mark: u32) -> Step
     requires { ⌜ (place .depth < MOST-NODES) × (place .rows < MOST-NODES) ⌝ }
     ensures { λ r. ⌜ r ≡ passed position place mark ⌝ }
 {
@@ -103,9 +105,9 @@ fn pass_mark(position: usize, place: Place, mark: u32) -> Step
 // The walk along all marks, which are not too many: the place at their end, or the first refusal.
 pub(crate) fn pass_marks(marks: &[u32]) -> Step
     requires { ⌜ length (now marks) ≤ MOST-NODES ⌝ }
-    ensures { λ r. ⌜ r ≡ walked 1 (place 0 0) (now (marks .entry)) ⌝ }
+    ensures { λ r. ⌜ r ≡ walked 1 (markPlace 0 0) (now (marks .entry)) ⌝ }
 {
-    let mut place = Place { depth: 0, rows: 0 };
+    let mut place = MarkPlace { depth: 0, rows: 0 };
     let mut passed = 0;
     while passed < marks.len() {
         let step = pass_mark(passed + 1, place, marks[passed]);

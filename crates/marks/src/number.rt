@@ -3,42 +3,43 @@ use crate::back::before_node;
 use crate::back::keep_close;
 use crate::back::row_here;
 use crate::mark::CLOSE;
-use crate::mark::Place;
+use crate::mark::MarkPlace;
 use crate::mark::Step;
 use crate::mark::answer_in;
 use crate::mark::pass_marks;
-use crate::outcome::Outcome;
-use crate::outcome::refused;
 use crate::row::put_row;
 use crate::row::row_count;
-use nodes::answer::LONG;
-use nodes::answer::ROOM;
-use nodes::answer::TAKEN;
+use answers::answer::LONG;
+use answers::answer::ROOM;
+use answers::outcome::wrote;
+use answers::outcome::wrote_nothing;
+use answers::verdict::Counted;
 use nodes::node::MOST_LEVELS;
 use nodes::node::MOST_NODES;
 ghost use mathlib.Core.Path.{_≡_};
 ghost use Prim.Native.Nat.{_/_, _≤_, _<_};
 ghost use lib.ListN.{length};
-ghost use Rattle.nodes.specs.Answer.{TAKEN};
+ghost use Rattle.answers.specs.Answer.{TAKEN};
 ghost use Rattle.nodes.specs.Node.{MOST-LEVELS};
-ghost use Rattle.nodes.specs.Written.{written};
+ghost use Rattle.answers.specs.Output.{written};
 ghost use Rattle.marks.specs.Mark.{CLOSE, TEXT, checkMarks};
 ghost use Rattle.marks.specs.Outcome.{numberOutcome, numberOutput};
 ghost use Rattle.marks.specs.Table.{ROW-WORDS, tableWords};
-ghost use Rattle.marks.specs.Walk.{placeBefore, closesBefore, outputBefore, rowCount};
+ghost use Rattle.marks.specs.Private.Walk.{beforeMark, closesBefore, outputBefore, rowCount};
 
-// One mark back: a close is kept, and the node of any other mark becomes the last row that is still to be written.
+// One mark back: a close is kept, and the node of any other mark becomes the last row that is still
+// to be written.
 fn write_mark(
     document: u32,
     position: u32,
     mark: u32,
     closes: &mut [u32; MOST_LEVELS],
-    place: Place,
+    place: MarkPlace,
     out: &mut [u32],
-) -> Place
+) -> MarkPlace
     requires { ⌜ (mark ≡ CLOSE → place .depth < MOST-LEVELS) × ((mark ≡ CLOSE → ⊥) → (0 < place .rows) × ((mark ≡ TEXT → ⊥) → 0 < place .depth))
         × (place .depth ≤ MOST-LEVELS) × (place .rows ≤ length (now out) / ROW-WORDS) ⌝ }
-    ensures { λ r. ⌜ (r ≡ placeBefore place mark)
+    ensures { λ r. ⌜ (r ≡ beforeMark place mark)
         × (now (closes .exit) ≡ closesBefore (now (closes .entry)) position (place .depth) mark)
         × (now (out .exit) ≡ outputBefore document position (now (closes .entry)) place mark (now (out .entry))) ⌝ }
 {
@@ -59,7 +60,7 @@ fn write_rows(document: u32, marks: &[u32], rows: usize, out: &mut [u32])
     ensures { λ r. ⌜ now (out .exit) ≡ written (tableWords document (now (marks .entry))) (now (out .entry)) ⌝ }
 {
     let mut closes = [0u32; MOST_LEVELS];
-    let mut place = Place {
+    let mut place = MarkPlace {
         depth: 0,
         rows: rows,
     };
@@ -71,25 +72,23 @@ fn write_rows(document: u32, marks: &[u32], rows: usize, out: &mut [u32])
     }
 }
 
-// The caller gets the rows of a document's nodes in the output, in start order, and their number; or the refusal, and an output as it was.
-pub fn number(document: u32, marks: &[u32], out: &mut [u32]) -> Outcome
+// Writes the rows of a document's nodes into the output, in start order, and returns their number;
+// on refusal the output is as it was.
+pub fn number(document: u32, marks: &[u32], out: &mut [u32]) -> Counted
     ensures { λ r. ⌜ (r ≡ numberOutcome document (now (marks .entry)) (now (out .entry)))
         × (now (out .exit) ≡ numberOutput document (now (marks .entry)) (now (out .entry))) ⌝ }
 {
     if MOST_NODES < marks.len() {
-        return refused(LONG);
+        return wrote_nothing(LONG);
     }
     let step = pass_marks(marks);
     let Step::Reached(end) = step else {
-        return refused(answer_in(step));
+        return wrote_nothing(answer_in(step));
     };
     let rows = end.rows;
     if row_count(out) < rows {
-        return refused(ROOM);
+        return wrote_nothing(ROOM);
     }
     write_rows(document, marks, rows, out);
-    Outcome {
-        answer: TAKEN,
-        count: rows,
-    }
+    wrote(rows)
 }

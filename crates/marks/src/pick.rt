@@ -1,18 +1,19 @@
 // Picking a tag: the list of its nodes out of a table.
-use crate::outcome::Outcome;
-use crate::outcome::refused;
 use crate::row::row_at;
 use crate::row::row_count;
 use crate::row::row_fault;
-use nodes::answer::ROOM;
-use nodes::answer::TAKEN;
+use answers::answer::ROOM;
+use answers::answer::TAKEN;
+use answers::outcome::wrote;
+use answers::outcome::wrote_nothing;
+use answers::verdict::Counted;
 use nodes::node::node_count;
 use nodes::node::put_node;
 ghost use mathlib.Core.Path.{_≡_};
 ghost use Prim.Native.Nat.{_≤_};
 ghost use lib.ListN.{length};
 ghost use Rattle.nodes.specs.Words.{count};
-ghost use Rattle.nodes.specs.Written.{written};
+ghost use Rattle.answers.specs.Output.{written};
 ghost use Rattle.marks.specs.Outcome.{nodesWith, pickedWords, pickOutcome, pickOutput};
 ghost use Rattle.marks.specs.Table.{rows};
 
@@ -49,23 +50,20 @@ fn put_tag(table: &[u32], tag: u32, out: &mut [u32])
     }
 }
 
-// The caller gets the first four words of each row with the tag in the output, in row order, and their number; or the refusal, and an
-// output as it was. The rows may be any.
-pub fn pick(table: &[u32], tag: u32, out: &mut [u32]) -> Outcome
+// Writes the first four words of each row with the tag into the output, in row order, and returns
+// the number of nodes; on refusal the output is as it was. The rows may be any.
+pub fn pick(table: &[u32], tag: u32, out: &mut [u32]) -> Counted
     ensures { λ r. ⌜ (r ≡ pickOutcome (now (table .entry)) tag (now (out .entry)))
         × (now (out .exit) ≡ pickOutput (now (table .entry)) tag (now (out .entry))) ⌝ }
 {
     let fault = row_fault(table);
     if fault != TAKEN {
-        return refused(fault);
+        return wrote_nothing(fault);
     }
     let found = count_tag(table, tag);
     if node_count(out) < found {
-        return refused(ROOM);
+        return wrote_nothing(ROOM);
     }
     put_tag(table, tag, out);
-    Outcome {
-        answer: TAKEN,
-        count: found,
-    }
+    wrote(found)
 }

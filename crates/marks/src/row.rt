@@ -1,7 +1,7 @@
 // A row of a table: a node and its tag, in five words.
-use nodes::answer::LONG;
-use nodes::answer::RAGGED;
-use nodes::answer::TAKEN;
+use answers::answer::LONG;
+use answers::answer::RAGGED;
+use answers::answer::TAKEN;
 use nodes::node::MOST_NODES;
 use nodes::node::NODE_WORDS;
 use nodes::node::Node;
@@ -27,7 +27,8 @@ pub(crate) fn row_count(words: &[u32]) -> usize
     words.len() / ROW_WORDS
 }
 
-// What is wrong with the words of a table, whatever the rows are: RAGGED, LONG, or nothing, which is TAKEN.
+// What is wrong with the words of a table, whatever the rows are: RAGGED, LONG, or nothing, which
+// is TAKEN.
 pub(crate) fn row_fault(words: &[u32]) -> u32
     ensures { λ r. ⌜ r ≡ rowFault (now (words .entry)) ⌝ }
 {

@@ -4,7 +4,7 @@ use crate::back::keep_close;
 use crate::back::open_before;
 use crate::back::row_here;
 use crate::mark::CLOSE;
-use crate::mark::Place;
+use crate::mark::MarkPlace;
 use crate::mark::Step;
 use crate::mark::TEXT;
 use crate::mark::mark_fault;
@@ -12,9 +12,9 @@ use crate::row::Row;
 use crate::row::row_at;
 use crate::row::row_count;
 use crate::row::row_fault;
-use nodes::answer::ROOM;
-use nodes::answer::TABLE;
-use nodes::answer::TAKEN;
+use answers::answer::ROOM;
+use answers::answer::TABLE;
+use answers::answer::TAKEN;
 use nodes::node::MOST_LEVELS;
 use nodes::node::MOST_NODES;
 use nodes::node::is_same;
@@ -23,16 +23,18 @@ ghost use mathlib.Core.Bool.{_||_};
 ghost use Prim.Native.Nat.{_/_, _≤_, _<_};
 ghost use lib.Dec.{ltb};
 ghost use lib.ListN.{length, replicate};
-ghost use Rattle.nodes.specs.Choose.{All};
+ghost use Rattle.laws.specs.Choose.{All};
 ghost use Rattle.nodes.specs.Node.{MOST-LEVELS};
-ghost use Rattle.nodes.specs.Written.{written};
+ghost use Rattle.answers.specs.Output.{written};
 ghost use Rattle.marks.specs.Back.{sameRowb, numberedb, tagged};
 ghost use Rattle.marks.specs.Mark.{CLOSE, textb};
 ghost use Rattle.marks.specs.Outcome.{unnumbered, unnumberOutcome, unnumberOutput};
 ghost use Rattle.marks.specs.Table.{ROW-WORDS, rows};
-ghost use Rattle.marks.specs.Walk.{markHere, fitsb, SteppedBack, allReadBack};
+ghost use Rattle.marks.specs.Private.Walk.{markHere, fitsb, SteppedBack, allReadBack};
 
-// The answer of the way back: its number, the document's number and how many marks were written, both 0 on refusal.
+// The answer of the way back: its number, the document's number and how many marks were written,
+// both 0 on refusal.
+#[repr(C)]
 pub struct Unnumbered {
     pub answer: u32,
     pub document: u32,
@@ -60,7 +62,8 @@ fn is_same_row(x: Row, y: Row) -> bool
     x.tag == y.tag
 }
 
-// The mark at a position, as the last of the first so many rows tells: its tag where it starts there, else a close.
+// Returns the mark at a position, as the last of the first `count` rows tells: its tag where it
+// starts there, else a close.
 fn mark_here(table: &[u32], count: usize, position: u32) -> u32
     requires { ⌜ count ≤ length (now table) / ROW-WORDS ⌝ }
     ensures { λ r. ⌜ r ≡ markHere (rows (now (table .entry))) count position ⌝ }
@@ -75,7 +78,7 @@ fn mark_here(table: &[u32], count: usize, position: u32) -> u32
     last.tag
 }
 
-// Whether an element is open behind an opening; behind a text there need be none.
+// Returns whether an element is open after an opening; after a text there need be none.
 fn is_opened(depth: usize, mark: u32) -> bool
     ensures { λ r. ⌜ r ≡ (textb mark || ltb 0 depth) ⌝ }
 {
@@ -91,7 +94,7 @@ fn is_fitting(
     document: u32,
     position: u32,
     closes: &[u32; MOST_LEVELS],
-    place: Place,
+    place: MarkPlace,
     mark: u32,
 ) -> bool
     requires { ⌜ (mark ≡ CLOSE → ⊥) × (place .depth ≤ MOST-LEVELS) × (0 < place .rows) × (place .rows ≤ length (now table) / ROW-WORDS) ⌝ }
@@ -115,7 +118,7 @@ fn step_back(
     document: u32,
     position: u32,
     closes: &mut [u32; MOST_LEVELS],
-    place: Place,
+    place: MarkPlace,
 ) -> Step
     requires { ⌜ (place .depth ≤ MOST-LEVELS) × (place .rows ≤ length (now table) / ROW-WORDS) ⌝ }
     ensures { λ r. ⌜ SteppedBack (rows (now (table .entry))) document position (now (closes .entry)) place r (now (closes .exit)) ⌝ }
@@ -138,7 +141,7 @@ fn reads_back(table: &[u32], document: u32, last: u32) -> bool
     ensures { λ r. ⌜ r ≡ allReadBack (rows (now (table .entry))) document last ⌝ }
 {
     let mut closes = [0u32; MOST_LEVELS];
-    let mut place = Place {
+    let mut place = MarkPlace {
         depth: 0,
         rows: row_count(table),
     };
@@ -157,7 +160,8 @@ fn reads_back(table: &[u32], document: u32, last: u32) -> bool
     place.rows == 0
 }
 
-// Whether the table is that of an accepted list of marks, the last of which is the root's close. No marks have no table.
+// Whether the table is that of an accepted list of marks, the last of which is the root's close. No
+// marks have no table.
 fn is_numbered(table: &[u32]) -> bool
     ensures { λ r. ⌜ r ≡ numberedb (rows (now (table .entry))) ⌝ }
 {
@@ -171,7 +175,7 @@ fn is_numbered(table: &[u32]) -> bool
     reads_back(table, root.node.document, root.node.end)
 }
 
-// The first so many words of the output become closes.
+// Makes closes of the first `count` words of the output.
 fn put_closes(out: &mut [u32], count: usize)
     requires { ⌜ count ≤ length (now out) ⌝ }
     ensures { λ r. ⌜ now (out .exit) ≡ written (replicate count CLOSE) (now (out .entry)) ⌝ }
@@ -196,7 +200,8 @@ fn put_tags(table: &[u32], out: &mut [u32])
     }
 }
 
-// The caller gets the marks of a table in the output, their number and the document's number; or the refusal, and an output as it was.
+// Writes the marks of a table into the output, and returns their number and the document's; on
+// refusal the output is as it was.
 pub fn unnumber(table: &[u32], out: &mut [u32]) -> Unnumbered
     ensures { λ r. ⌜ (r ≡ unnumberOutcome (now (table .entry)) (now (out .entry)))
         × (now (out .exit) ≡ unnumberOutput (now (table .entry)) (now (out .entry))) ⌝ }

@@ -10,7 +10,7 @@ use lib.Dec.{ltb, eqb}
 use borrow.Author.Tests.{ltb-true, ltb-false, leb-true, leb-false, eqb-true, lt-ltb, le-leb, eq-eqb}
 use Rattle.nodes.specs.declared.node.Node.{Node}
 use Rattle.nodes.specs.Node.{endsb, insideb, deeperb, directlyb, apartb, afterb, openb, sameb}
-use Rattle.nodes.proofs.Tests.{not-so, and-read, and-make, or-read, or-left, or-right, or-none}
+use Rattle.laws.proofs.Tests.{not-so, and-read, and-make, or-read, or-left, or-right, or-none}
 
 -- the ends of nodes that end within one another; only here is the comparison known
 ends-before : (y x : Node) → endsb y x ≡ true → y .end < x .end
@@ -58,6 +58,10 @@ inside-trans z y x h k =
 -- a node isn't inside itself
 pub inside-self : (x : Node) → insideb x x ≡ false
 inside-self x = not-so (λ h. lt-irrefl _ (within x x h .start))
+
+-- and no node is inside a text, which ends where it starts, unless it ends before it starts itself
+pub text-empty : (y x : Node) → y .start ≤ y .end → x .end ≡ x .start → insideb y x ≡ false
+text-empty y x span t = not-so (λ h. let w = within y x h in omega arith)
 
 pub directly-inside : (y x : Node) → directlyb y x ≡ true → (insideb y x ≡ true) × (y .level ≡ x .level + 1)
 unfolding directlyb deeperb

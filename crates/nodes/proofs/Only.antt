@@ -1,8 +1,8 @@
 -- Each public contract is an equation with a definition, and two things that equal a third are equal; so no second answer satisfies it.
 -- `Post` is what a function's `ensures` says of its result and of what it was lent; a contract that left a field open would fall here.
-use mathlib.Core.Path.{_≡_, sym, _∙_}
+use mathlib.Core.Path.{_≡_}
 use denote.Ref.{now}
-use Rattle.nodes.proofs.answer.name_of.Reads as name-of
+use Rattle.laws.proofs.Only.{only}
 use Rattle.nodes.proofs.node.ends_within.Reads as ends-within
 use Rattle.nodes.proofs.node.is_after.Reads as is-after
 use Rattle.nodes.proofs.node.is_inside.Reads as is-inside
@@ -12,10 +12,6 @@ use Rattle.nodes.proofs.node.is_same.Reads as is-same
 use Rattle.nodes.proofs.node.node_at.Reads as node-at
 use Rattle.nodes.proofs.node.node_count.Reads as node-count
 use Rattle.nodes.proofs.node.put_node.Reads as put-node
-
--- the one law
-pub only {ℓ} : {A : Type ℓ} {x y z : A} → x ≡ z → y ≡ z → x ≡ y
-only p q = p ∙ sym q
 
 pub ends-within-only : (κs : _) (a : _) (r r′ : _) (s s′ : _) → ends-within.Post κs a r s → ends-within.Post κs a r′ s′ → r ≡ r′
 ends-within-only κs a r r′ s s′ p q = only p q
@@ -43,6 +39,3 @@ node-at-only κs a r r′ s s′ p q = only p q
 
 pub put-node-only : (κs : _) (a : _) (r r′ : _) (s s′ : _) → put-node.Post κs a r s → put-node.Post κs a r′ s′ → now (s .0) ≡ now (s′ .0)
 put-node-only κs a r r′ s s′ p q = only p q
-
-pub name-of-only : (κs : _) (a : _) (r r′ : _) (s s′ : _) → name-of.Post κs a r s → name-of.Post κs a r′ s′ → r ≡ r′
-name-of-only κs a r r′ s s′ p q = only p q

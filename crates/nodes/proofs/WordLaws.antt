@@ -5,14 +5,14 @@ use mathlib.Core.List.{List, [], _∷_, flatMap}
 use Prim.Native.Nat.{ℕ, zero, suc, _+_, _*_, _-_, _%_, _≤_, _<_}
 use native.Mathlib.Omega.{arith}
 use native.Mathlib.Nat.{not-suc-le-zero}
-use lib.ListN.{length, getD, set, take, drop, length-drop, drop-of-length-le}
+use lib.ListN.{length, getD, set, take, drop, drop-of-length-le}
 use lib.Seq.{sets, take-all, take-nil, drop-nil, drop-cons}
 use native.Mathlib.Numerals.{add-one, towards-suc}
 use borrow.Author.Tests.{lt-ltb}
 use Rattle.nodes.specs.declared.node.Node.{Node}
 use Rattle.nodes.specs.Words.{node, nodes, count, nodeAt, wordsOf, putNode}
-use Rattle.nodes.specs.Written.{wordsIn}
-use Rattle.nodes.proofs.Writing.{length-items}
+use Rattle.answers.specs.Output.{wordsIn}
+use Rattle.answers.proofs.OutputLaws.{length-items}
 
 pub length-nodes : (ws : List ℕ) → length (nodes ws) ≡ count ws
 unfolding nodes
@@ -59,11 +59,20 @@ stored (d ∷ s ∷ e ∷ l ∷ ws) zero n h = refl
 stored (d ∷ s ∷ e ∷ l ∷ ws) (suc i) n h =
     ap nodes (past d s e l ws {k = 4 * i} {m = 4 * suc i} (wordsOf n) (omega arith)) ∙ ap (λ ns. node d s e l ∷ ns) (stored ws i n (omega arith))
 
--- the four stores that write a node
-pub four-stores : (ws : List ℕ) (i : ℕ) (n : Node) → i < count ws
-    → set (set (set (set ws (4 * i) (n .document)) (4 * i + 1) (n .start)) (4 * i + 2) (n .end)) (4 * i + 3) (n .level) ≡ putNode ws i n
-unfolding putNode wordsOf
-four-stores ws i n h = rw (lt-ltb _ _ h) (simp towards-suc)
+-- the four stores that write a node's words, from any word on
+pub four-words : (ws : List ℕ) (w : ℕ) (n : Node)
+    → set (set (set (set ws w (n .document)) (w + 1) (n .start)) (w + 2) (n .end)) (w + 3) (n .level) ≡ sets ws w (wordsOf n)
+unfolding wordsOf
+four-words ws w n = simp towards-suc
+
+-- a node's words where one starts, stored and read
+pub words-put : (ws : List ℕ) (w i : ℕ) (n : Node) → w ≡ 4 * i → i < count ws → sets ws w (wordsOf n) ≡ putNode ws i n
+unfolding putNode
+words-put ws w i n q h = rw (q, lt-ltb _ _ h) refl
+
+pub four-stores : (ws : List ℕ) (w i : ℕ) (n : Node) → w ≡ 4 * i → i < count ws
+    → set (set (set (set ws w (n .document)) (w + 1) (n .start)) (w + 2) (n .end)) (w + 3) (n .level) ≡ putNode ws i n
+four-stores ws w i n q h = four-words ws w n ∙ words-put ws w i n q h
 
 pub nodes-put : (ws : List ℕ) (i : ℕ) (n : Node) → i < count ws → nodes (putNode ws i n) ≡ set (nodes ws) i n
 unfolding putNode
@@ -108,14 +117,6 @@ nodes-take (d ∷ s ∷ e ∷ []) (suc k) = ap nodes (take-all (4 * suc k) (d �
 nodes-take (d ∷ s ∷ e ∷ l ∷ ws) zero = refl
 nodes-take (d ∷ s ∷ e ∷ l ∷ ws) (suc k) =
     ap nodes (up-to-four d s e l ws {k = 4 * k} {m = 4 * suc k} (omega arith)) ∙ ap (λ ns. node d s e l ∷ ns) (nodes-take ws k)
-
--- the nodes of a part of the words: from one index up to another, or to the end
-pub nodes-part : (ws : List ℕ) (from to m : ℕ) → m ≡ 4 * (to - from) → nodes (take m (drop (4 * from) ws)) ≡ take (to - from) (drop from (nodes ws))
-nodes-part ws from to m q = rw q (nodes-take (drop (4 * from) ws) (to - from) ∙ ap (take (to - from)) (nodes-drop ws from))
-
-pub nodes-rest : (ws : List ℕ) (k : ℕ) → nodes (take (length ws - 4 * k) (drop (4 * k) ws)) ≡ drop k (nodes ws)
-nodes-rest ws k =
-    ap nodes (take-all (length ws - 4 * k) (drop (4 * k) ws) (omega (arith, length-drop (4 * k) ws))) ∙ nodes-drop ws k
 
 -- nodes written as words are read as the same nodes
 pub nodes-of-words : (ns : List Node) → nodes (wordsIn wordsOf ns) ≡ ns

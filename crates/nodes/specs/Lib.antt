@@ -1,6 +1,3 @@
--- What the contracts of `nodes` cite, and the definitions that every layer above shares.
-pub mod Answer
-pub mod Choose
+-- What the contracts of `nodes` cite.
 pub mod Node
 pub mod Words
-pub mod Written

@@ -1,3 +1,2 @@
-// What a node is, which node contains which, and what the answer numbers are called.
-pub mod answer;
+// What a node is, and which node contains which.
 pub mod node;

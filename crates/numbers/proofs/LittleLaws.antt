@@ -2,17 +2,20 @@
 -- A number read one byte off, or with its bytes in another order, falls here.
 use mathlib.Core.Path.{_≡_, refl, ap, sym, _∙_}
 use mathlib.Core.List.{List, [], _∷_, _++_, map, flatMap}
-use Prim.Native.Nat.{ℕ, zero, suc, _+_, _*_, _/_, _%_, _≤_, _<_}
+use Prim.Native.Nat.{ℕ, _+_, _*_, _/_, _%_, _≤_, _<_}
 use native.Mathlib.Omega.{arith}
 use lib.ListN.{length, getD, take, drop, set, length-map, List·getD-map, List·getD-eq-default}
 use native.Mathlib.Numerals.{towards-suc}
 use borrow.Author.Tests.{lt-ltb}
 use Rattle.nodes.specs.declared.node.Node.{Node}
-use Rattle.nodes.specs.Choose.{All}
+use Rattle.laws.specs.Choose.{All}
 use Rattle.nodes.specs.Words.{node, nodes, nodeAt}
-use Rattle.nodes.specs.Written.{wordsIn}
+use Rattle.answers.specs.Output.{wordsIn, written}
 use Rattle.nodes.proofs.WordLaws.{length-nodes, node-words, nodes-drop, nodes-take, nodes-from, nodes-behind}
-use Rattle.nodes.proofs.Writing.{length-items}
+use Rattle.answers.proofs.OutputLaws.{length-items}
+use Rattle.laws.proofs.Choices.{map-drop, map-take}
+use lib.Seq.{take-all}
+use Rattle.numbers.specs.Part.{copied}
 use Rattle.numbers.specs.Little.{NODE-BYTES, little, bytesOf, numbers, numberCount, numberAt, putNumber, nodeIn}
 
 -- the number of four bytes that are read as if they were the words of a node
@@ -26,17 +29,6 @@ by-fours (a ∷ []) = refl
 by-fours (a ∷ b ∷ []) = refl
 by-fours (a ∷ b ∷ c ∷ []) = refl
 by-fours (a ∷ b ∷ c ∷ d ∷ bs) = ap (λ ns. little a b c d ∷ ns) (by-fours bs)
-
-module _ {A B : Type 0} (f : A → B) where
-  map-drop : (k : ℕ) (xs : List A) → map f (drop k xs) ≡ drop k (map f xs)
-  map-drop zero xs = refl
-  map-drop (suc k) [] = refl
-  map-drop (suc k) (x ∷ xs) = map-drop k xs
-
-  map-take : (k : ℕ) (xs : List A) → map f (take k xs) ≡ take k (map f xs)
-  map-take zero xs = refl
-  map-take (suc k) [] = refl
-  map-take (suc k) (x ∷ xs) = ap (λ ys. f x ∷ ys) (map-take k xs)
 
 pub length-numbers : (bs : List ℕ) → length (numbers bs) ≡ numberCount bs
 length-numbers bs = ap length (by-fours bs) ∙ length-map (nodes bs) four ∙ length-nodes bs
@@ -149,3 +141,8 @@ node-numbers bs i d s e l h p q r t =
     let three = r ∙ sym (number-there bs (4 * i + 2) (16 * i + 8) (omega arith) (omega arith)) in
     let last = t ∙ sym (number-there bs (4 * i + 3) (16 * i + 12) (omega arith) (omega arith)) in
     (λ k. node (one k) (two k) (three k) (last k)) ∙ sym (node-words (numbers bs) i (omega (arith, length-numbers bs)))
+
+-- numbers copied into words that have room for all of them
+pub copied-whole : (bytes words : List ℕ) → numberCount bytes ≤ length words → copied bytes words ≡ written (numbers bytes) words
+unfolding copied
+copied-whole bytes words h = ap (λ ns. written ns words) (take-all (length words) (numbers bytes) (omega (arith, length-numbers bytes)))

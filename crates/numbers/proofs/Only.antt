@@ -1,8 +1,8 @@
 -- Each public contract is an equation with a definition, and two things that equal a third are equal; so no second answer satisfies it.
 -- `Post` is what a function's `ensures` says of its result and of what it was lent; a contract that left a byte open would fall here.
 use mathlib.Core.Path.{_≡_}
-use denote.Ref.{now}
-use Rattle.nodes.proofs.Only.{only}
+use denote.Ref.{now, ptr}
+use Rattle.laws.proofs.Only.{only}
 use Rattle.numbers.proofs.little.node_in.Reads as node-in
 use Rattle.numbers.proofs.little.number_at.Reads as number-at
 use Rattle.numbers.proofs.little.put_number.Reads as put-number
@@ -18,8 +18,9 @@ put-number-only κs a r r′ s s′ p q = only p q
 pub node-in-only : (κs : _) (a : _) (r r′ : _) (s s′ : _) → node-in.Post κs a r s → node-in.Post κs a r′ s′ → r ≡ r′
 node-in-only κs a r r′ s s′ p q = only p q
 
-pub part-of-only : (κs : _) (a : _) (r r′ : _) (s s′ : _) → part-of.Post κs a r s → part-of.Post κs a r′ s′ → now r ≡ now r′
-part-of-only κs a r r′ s s′ p q = only p q
+pub part-of-only : (κs : _) (a : _) (r r′ : _) (s s′ : _) → part-of.Post κs a r s → part-of.Post κs a r′ s′
+    → (now r ≡ now r′) × (ptr r ≡ ptr r′)
+part-of-only κs a r r′ s s′ p q = (only (p .0) (q .0), only (p .1) (q .1))
 
 pub copy-numbers-only : (κs : _) (a : _) (r r′ : _) (s s′ : _) → copy-numbers.Post κs a r s → copy-numbers.Post κs a r′ s′
     → now (s .1 .0) ≡ now (s′ .1 .0)

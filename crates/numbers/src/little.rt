@@ -12,7 +12,7 @@ pub const NUMBER_BYTES: usize = 4;
 // How many bytes a node takes.
 pub const NODE_BYTES: usize = NUMBER_BYTES * NODE_WORDS;
 
-// The caller gets the number of whole numbers in the bytes.
+// Returns the number of whole numbers in the bytes.
 fn number_count(bytes: &[u8]) -> usize
     ensures { λ r. ⌜ r ≡ numberCount (now (bytes .entry)) ⌝ }
 {
@@ -35,7 +35,7 @@ fn number_from(bytes: &[u8], at: usize) -> u32
     from_four(bytes[at], bytes[at + 1], bytes[at + 2], bytes[at + 3])
 }
 
-// The caller gets the number at an index of the bytes, counted in numbers, or 0 where they have none there.
+// Returns the number at an index of the bytes, counted in numbers, or 0 where they have none there.
 pub fn number_at(bytes: &[u8], index: usize) -> u32
     ensures { λ r. ⌜ r ≡ numberAt (now (bytes .entry)) index ⌝ }
 {
@@ -45,7 +45,8 @@ pub fn number_at(bytes: &[u8], index: usize) -> u32
     number_from(bytes, NUMBER_BYTES * index)
 }
 
-// The number at an index of the bytes, counted in numbers, becomes the given one; where they have none there, no byte changes.
+// The number at an index of the bytes, counted in numbers, becomes the given one; where they have
+// none there, no byte changes.
 pub fn put_number(bytes: &mut [u8], index: usize, number: u32)
     ensures { λ r. ⌜ now (bytes .exit) ≡ putNumber (now (bytes .entry)) index number ⌝ }
 {
@@ -59,7 +60,8 @@ pub fn put_number(bytes: &mut [u8], index: usize, number: u32)
     bytes[at + 3] = (number / 16777216 % 256) as u8;
 }
 
-// The caller gets the node at an index of a list that lies in bytes, or a node of zeros where the list has none there.
+// Returns the node at an index of a list that lies in bytes, or a node of zeros where the list has
+// none there.
 pub fn node_in(bytes: &[u8], index: usize) -> Node
     ensures { λ r. ⌜ r ≡ nodeIn (now (bytes .entry)) index ⌝ }
 {

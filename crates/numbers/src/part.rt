@@ -2,11 +2,15 @@
 use crate::little::NUMBER_BYTES;
 use crate::little::number_at;
 ghost use mathlib.Core.Path.{_≡_};
-ghost use Rattle.numbers.specs.Part.{partOf, copied};
+ghost use denote.Ref.{ptr};
+ghost use lib.ListN.{length};
+ghost use Rattle.numbers.specs.Part.{partOf, placeIn, copied};
 
-// The caller gets so many of the bytes from a place on, as far as they go, as a part of the very bytes that were lent.
+// Returns `count` of the bytes, the first of them at `from`, as far as they go; as a part of the
+// very bytes that were lent.
 pub fn part_of(bytes: &[u8], from: usize, count: usize) -> &[u8]
-    ensures { λ r. ⌜ now r ≡ partOf (now (bytes .entry)) from count ⌝ }
+    ensures { λ r. ⌜ (now r ≡ partOf (now (bytes .entry)) from count)
+        × (ptr r ≡ placeIn (ptr (bytes .entry)) (length (now (bytes .entry))) from) ⌝ }
 {
     if bytes.len() < from {
         return &bytes[..0];
@@ -17,7 +21,8 @@ pub fn part_of(bytes: &[u8], from: usize, count: usize) -> &[u8]
     &bytes[from..from + count]
 }
 
-// The words begin with the numbers of the bytes, as many as there is room for; no word beyond them changes.
+// The words begin with the numbers of the bytes, as many as there is room for; no word beyond them
+// changes.
 pub fn copy_numbers(bytes: &[u8], words: &mut [u32])
     ensures { λ r. ⌜ now (words .exit) ≡ copied (now (bytes .entry)) (now (words .entry)) ⌝ }
 {

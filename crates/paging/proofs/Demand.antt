@@ -10,9 +10,9 @@ use native.Mathlib.Omega.{arith}
 use lib.ListN.{length, take, length-take}
 use lib.Seq.{take-all}
 use borrow.Author.Tests.{eqb-true, eqb-false}
-use Rattle.nodes.specs.Choose.{All, Pairs, In, keep}
-use Rattle.nodes.proofs.Choices.{all-in, all-map, each-in, take-all-of, keep-in, keep-past, keep-pairs, keep-all-of, pairs-map}
-use Rattle.nodes.proofs.Tests.{never}
+use Rattle.laws.specs.Choose.{All, Pairs, In, keep}
+use Rattle.laws.proofs.Choices.{all-in, all-map, each-in, take-all-of, keep-in, keep-past, keep-pairs, keep-all-of, pairs-map}
+use Rattle.laws.proofs.Tests.{never}
 use Rattle.paging.specs.Calls.{Call, refused, accepted, given, moved, placeAfter, allGiven}
 use Rattle.paging.specs.Key.{aboveb}
 use Rattle.paging.specs.Page.{Spot, fresh, after, pastb, remains, handed, doneb, reached}

@@ -8,7 +8,7 @@ use Prim.Native.Nat.{ℕ, _<_}
 use native.Mathlib.Omega.{arith}
 use lib.Dec.{ltb, eqb}
 use borrow.Author.Tests.{ltb-true, eqb-true, lt-ltb, le-ltb, eq-eqb}
-use Rattle.nodes.proofs.Tests.{never, and-read, and-make, or-read, or-left, or-right}
+use Rattle.laws.proofs.Tests.{never, and-read, and-make, or-read, or-left, or-right}
 use Rattle.paging.specs.Key.{aboveb}
 
 -- no key stands above itself

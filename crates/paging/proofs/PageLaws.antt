@@ -3,7 +3,7 @@
 use mathlib.Core.Path.{_≡_, refl}
 use mathlib.Core.List.{List, [], _∷_, _++_}
 use Prim.Native.Nat.{ℕ}
-use Rattle.nodes.proofs.Choices.{keep-append}
+use Rattle.laws.proofs.Choices.{keep-append}
 use Rattle.paging.specs.Page.{Spot, pastb, remains, reached}
 
 -- what remains of two listings in a row is what remains of each

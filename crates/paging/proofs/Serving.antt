@@ -11,10 +11,10 @@ use lib.Dec.{ltb, eqb, eqb·zero-suc, eqb·suc-suc}
 use lib.ListN.{length, take, drop, length-append}
 use lib.Seq.{sets, length-sets, take-nil}
 use borrow.Author.Tests.{ltb-true, lt-ltb, le-ltb}
-use Rattle.nodes.proofs.Tests.{either, never}
-use Rattle.nodes.proofs.Writing.{sets-behind, written-behind}
-use Rattle.paging.specs.Serve.{store, serve}
-use Rattle.nodes.specs.Written.{wordsIn, written}
+use Rattle.laws.proofs.Tests.{either, never}
+use Rattle.answers.proofs.OutputLaws.{sets-behind, written-behind}
+use Rattle.paging.specs.Private.Serve.{store, serve}
+use Rattle.answers.specs.Output.{wordsIn, written}
 
 -- answers equal in each part are equal
 same-answer : {o o′ : List ℕ} {n n′ : ℕ} {b b′ : Bool} → o ≡ o′ → n ≡ n′ → b ≡ b′ → _≡_ {A = List ℕ × ℕ × Bool} (o, n, b) (o′, n′, b′)

@@ -1,18 +1,18 @@
--- The place that a call reaches leaves of an unaltered listing just what the call did not hand out, so the pages put together are the listing.
--- Were a page to begin before or behind where the last one ended, this would fall.
+-- The place that a call reaches leaves of an unaltered listing just what the call did not hand out, so
+-- the pages put together are the listing, and rooms that together suffice bring it to its end. Were a
+-- page to begin before or after where the last one ended, or to leave room unused, this would fall.
 use mathlib.Core.Path.{_≡_, refl, ap, _∙_}
-use mathlib.Core.Logic.{inl, inr}
-use mathlib.Core.Bool.{Bool, true, false}
+use mathlib.Core.Bool.{true, false}
 use mathlib.Core.List.{List, [], _∷_, _++_, map, append-nil}
-use Prim.Native.Nat.{ℕ, zero, suc}
+use Prim.Native.Nat.{ℕ, zero, suc, _+_, _≤_}
 use native.Mathlib.Omega.{arith}
-use lib.ListN.{length, take, drop, length-take, take-append-drop}
+use lib.ListN.{length, take, drop, length-take, length-drop, take-append-drop}
 use lib.Seq.{take-all}
-use borrow.Author.Tests.{eqb-true}
-use Rattle.nodes.specs.Choose.{keep}
-use Rattle.nodes.proofs.Choices.{keep-failed, keep-all, all-of}
-use Rattle.nodes.proofs.Tests.{never, not-so, either}
-use Rattle.paging.specs.Calls.{accepted, given, moved, placeAfter, allGiven}
+use borrow.Author.Tests.{eqb-true, eq-eqb}
+use Rattle.laws.specs.Choose.{keep}
+use Rattle.laws.proofs.Choices.{keep-failed, keep-all, all-of, keep-kept}
+use Rattle.laws.proofs.Tests.{never, not-so}
+use Rattle.paging.specs.Calls.{accepted, total, given, moved, placeAfter, allGiven}
 use Rattle.paging.specs.Page.{Spot, fresh, after, pastb, remains, handed, doneb, reached}
 use Rattle.paging.proofs.Demand.{Ascends, Run, past-trans, run-past, run-take, run-remains}
 use Rattle.paging.proofs.KeyLaws.{above-self, above-trans}
@@ -45,21 +45,8 @@ module _ {A : Type 0} (key : A → List ℕ) where
       (end-behind (key x) (take n xs) (run-take key (after (key x)) n xs (r .1)))
       ∙ run-rest (after (key x)) n xs (r .1)
 
-  -- a test that only elements kept by another pass keeps the same of both
-  keep-kept : (outer inner : A → Bool) → ((x : A) → inner x ≡ true → outer x ≡ true) → (xs : List A) → keep inner xs ≡ keep inner (keep outer xs)
-  unfolding keep
-  keep-kept outer inner h [] = refl
-  keep-kept outer inner h (x ∷ xs) =
-      elim (either (inner x)) [
-        | inl i ↦ rw (i, h x i, i) (ap (λ ys. x ∷ ys) (keep-kept outer inner h xs))
-        | inr i ↦ elim (either (outer x)) [
-          | inl o ↦ rw (i, o, i) (keep-kept outer inner h xs)
-          | inr o ↦ rw (i, o) (keep-kept outer inner h xs)
-        ]
-      ]
-
   -- past the place that a page reaches, there remains what it did not hand out
-  page-rest : (place : Spot) (xs : List A) → Ascends key xs → (room : ℕ)
+  pub page-rest : (place : Spot) (xs : List A) → Ascends key xs → (room : ℕ)
       → remains key (moved key place (accepted xs room)) xs ≡ drop room (remains key place xs)
   unfolding moved given handed remains
   page-rest place xs a room =
@@ -89,3 +76,21 @@ module _ {A : Type 0} (key : A → List ℕ) where
       → allGiven key fresh (map (accepted xs) rooms ++ accepted xs room ∷ []) ≡ xs
   unfolding remains pastb
   pages-whole xs a rooms room d = pages-from fresh xs a rooms room d ∙ keep-all (λ x. pastb fresh (key x)) xs (all-of (λ x. refl) xs)
+
+  -- where the rooms together are enough for what remains, the last page is done
+  ends-from : (place : Spot) (xs : List A) → Ascends key xs → (rooms : List ℕ) (room : ℕ)
+      → length (remains key place xs) ≤ total rooms + room → doneb key (placeAfter key place (map (accepted xs) rooms)) room xs ≡ true
+  unfolding placeAfter doneb handed
+  ends-from place xs a [] room enough =
+      let rest = remains key place xs in
+      eq-eqb (length (take room rest)) (length rest) (omega (arith, length-take room rest))
+  ends-from place xs a (r ∷ rooms) room enough =
+      ends-from (moved key place (accepted xs r)) xs a rooms room
+      (rw (page-rest place xs a r) (omega (arith, length-drop r (remains key place xs))))
+
+  -- and from a fresh start where they are enough for all of it
+  pub pages-end : (xs : List A) → Ascends key xs → (rooms : List ℕ) (room : ℕ) → length xs ≤ total rooms + room
+      → doneb key (placeAfter key fresh (map (accepted xs) rooms)) room xs ≡ true
+  unfolding remains pastb
+  pages-end xs a rooms room enough =
+      ends-from fresh xs a rooms room (rw (keep-all (λ x. pastb fresh (key x)) xs (all-of (λ x. refl) xs)) enough)

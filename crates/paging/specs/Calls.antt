@@ -1,5 +1,5 @@
 -- One listing followed through calls: each call has its own listing and room, or is refused, and takes the place that the last one reached.
-use Prim.Native.Nat.{ℕ}
+use Prim.Native.Nat.{ℕ, _+_}
 use mathlib.Core.List.{List, [], _∷_, _++_}
 use Rattle.paging.specs.Page.{Spot, after, handed, reached}
 
@@ -7,6 +7,11 @@ use Rattle.paging.specs.Page.{Spot, after, handed, reached}
 pub data Call (A : Type 0) : Type 0 where
   refused : Call A
   accepted : List A → ℕ → Call A
+
+-- the sum of several rooms
+abbrev pub total : List ℕ → ℕ
+total [] = 0
+total (room ∷ rooms) = room + total rooms
 
 module _ {A : Type 0} (key : A → List ℕ) where
   -- what a call hands out at a place; a refused one, nothing

@@ -1,6 +1,6 @@
 -- What a page of a listing is, whatever is listed: `Key` orders the keys, `Page` says what a call hands out, `Calls` follows a sequence of
--- calls, `Serve` is one step of a page.
+-- calls.
 pub mod Calls
 pub mod Key
 pub mod Page
-pub mod Serve
+pub mod Private

@@ -4,7 +4,7 @@ use mathlib.Core.Bool.{Bool, true}
 use mathlib.Core.List.{List, [], _∷_}
 use lib.Dec.{eqb}
 use lib.ListN.{length, take}
-use Rattle.nodes.specs.Choose.{keep}
+use Rattle.laws.specs.Choose.{keep}
 use Rattle.paging.specs.Key.{aboveb}
 
 -- the place reached: fresh, or the key of the last item handed out

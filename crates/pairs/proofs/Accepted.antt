@@ -8,15 +8,15 @@ use native.Mathlib.Omega.{arith}
 use lib.ListN.{length, getD, drop}
 use lib.Seq.{drop-nil}
 use Rattle.nodes.specs.declared.node.Node.{Node}
-use Rattle.nodes.specs.Answer.{TAKEN}
-use Rattle.nodes.specs.Choose.{All, Pairs}
+use Rattle.answers.specs.Answer.{TAKEN}
+use Rattle.laws.specs.Choose.{All, Pairs}
 use Rattle.nodes.specs.Node.{afterb}
 use Rattle.nodes.specs.Words.{node, nodes}
-use Rattle.nodes.proofs.Choices.{all-map, all-both, all-at, pairs-at}
+use Rattle.laws.proofs.Choices.{all-map, all-both, all-at, pairs-at}
 use Rattle.nodes.proofs.NodeLaws.{after-trans}
-use Rattle.nodes.proofs.Tests.{never, not-so}
+use Rattle.laws.proofs.Tests.{never, not-so}
 use Rattle.lists.specs.Two.{checkTwo}
-use Rattle.lists.specs.Walk.{firsts}
+use Rattle.lists.specs.Private.Walk.{firsts}
 use Rattle.lists.proofs.Faults.{Sound}
 use Rattle.lists.proofs.Merging.{Even, even-fine}
 use Rattle.lists.proofs.Pairing.{two-taken-iff}

@@ -1,5 +1,6 @@
--- A refused call has nothing to hand out, and an accepted one no more than fits, so what it writes stays within the output and ends where it counts.
--- A refusal that moved the ticket, a word altered behind the last pair, or a first page that left out a pair in spite of room would fall here.
+-- A refused call has nothing to hand out, and an accepted one no more than fits, so what it writes
+-- stays within the output and ends where it counts. A refusal that moved the ticket, a word altered
+-- after the last pair, or a first page that left out a pair in spite of room would fall here.
 use mathlib.Core.Path.{_≡_, refl, sym, ap, _∙_}
 use mathlib.Core.Logic.{inl, inr}
 use mathlib.Core.Bool.{true, false}
@@ -7,30 +8,29 @@ use mathlib.Core.List.{List, [], flatMap}
 use Prim.Native.Nat.{_*_, _≤_}
 use native.Mathlib.Omega.{arith}
 use lib.Dec.{eqb}
-use lib.ListN.{length, drop, length-append, length-take, length-drop}
-use lib.Seq.{take-all, drop-append-seam}
+use lib.ListN.{length, take, drop, length-append, length-take, length-drop}
+use lib.Seq.{take-all, take-append-seam, drop-append-seam}
 use borrow.Author.Tests.{eqb-true, eq-eqb}
 use Rattle.nodes.specs.declared.node.Node.{Node}
-use Rattle.nodes.specs.Answer.{TAKEN}
-use Rattle.nodes.specs.Choose.{Pairs}
+use Rattle.answers.specs.Answer.{TAKEN}
+use Rattle.laws.specs.Choose.{Pairs}
 use Rattle.nodes.specs.Node.{afterb}
 use Rattle.nodes.specs.Words.{nodes, wordsOf}
-use Rattle.nodes.proofs.Choices.{all-of, keep-all, pairs-map}
-use Rattle.nodes.proofs.Tests.{either, so, not-none}
-use Rattle.lists.specs.Two.{refusedb, checkTwo}
+use Rattle.laws.proofs.Choices.{all-of, keep-all, pairs-map}
+use Rattle.laws.proofs.Tests.{either, so, not-none}
+use Rattle.answers.specs.Verdict.{refusedb}
+use Rattle.lists.specs.Two.{checkTwo}
 use Rattle.lists.proofs.Taken.{Fine}
 use Rattle.paging.specs.Page.{fresh, pastb, remains, handed, doneb, reached}
-use Rattle.nodes.specs.Written.{wordsIn, written}
-use Rattle.tickets.specs.declared.ticket.Order.{Order}
+use Rattle.answers.specs.Output.{wordsIn, written}
 use Rattle.tickets.specs.declared.ticket.Place.the-variants.{After}
-use Rattle.tickets.specs.declared.ticket.Relation.{Relation}
 use Rattle.tickets.specs.declared.ticket.Ticket.{Ticket}
 use Rattle.tickets.specs.Listing.{Pair, keyOf, sortKey}
-use Rattle.tickets.specs.Row.{PAIR-WORDS, pairWords, room}
-use Rattle.tickets.specs.Ticket.{freshTicket, ticket, spotOf}
+use Rattle.tickets.specs.PairWords.{PAIR-WORDS, pairWords, room}
+use Rattle.tickets.specs.Ticket.{freshTicket, askedBy, ticketAt, Asked}
 use Rattle.pairs.specs.Calls.{Call, AcceptedCall, fullListing, answer, output, shown}
-use Rattle.pairs.specs.Page.{listingOf, handedOut, saysDone, ticketAfter, pageOf, outputAfter}
-use Rattle.nodes.proofs.Writing.{length-items}
+use Rattle.pairs.specs.Page.{remaining, handedOut, saysDone, ticketAfter, pageOf, outputAfter}
+use Rattle.answers.proofs.OutputLaws.{length-items}
 use Rattle.pairs.proofs.Accepted.{accepted}
 use Rattle.pairs.proofs.Shown.{shown-is}
 
@@ -73,20 +73,34 @@ module _ (t : Ticket) (c : Call) where
   refusal f = (
     ap length (nothing f),
     rw (so (λ h. f (is-accepted c h))),
-    ap (λ ps. ticket (t .relation) (t .order) (reached (λ p. After (keyOf (t .order) p)) (t .place) ps)) (nothing f),
+    ap (λ ps. ticketAt (askedBy t) (reached (λ p. After (keyOf (t .order) p)) (t .place) ps)) (nothing f),
     ap (λ ps. written (wordsIn pairWords ps) (c .out)) (nothing f),
   )
 
-  given-fits : length given ≤ room (c .out)
+  -- what it counts is what it hands out, which is what its output shows
+  pub count-given : answer t c .count ≡ length given
+  unfolding pageOf
+  count-given = refl
+
+  pub count-shown : answer t c .count ≡ length (shown t c)
+  count-shown = count-given ∙ ap length (sym (shown-is t c))
+
+  -- it hands out no more pairs than there is room for,
+  pub given-fits : length given ≤ room (c .out)
   unfolding handedOut handed
   given-fits =
-      let left = remains (sortKey (t .order)) (spotOf (t .place)) (listingOf t (c .ancestors) (c .descendants)) in
+      let left = remaining t (c .ancestors) (c .descendants) in
       elim (either (refusedb (checkTwo (c .ancestors) (c .descendants)))) [
         | inl h ↦ rw h (omega arith)
         | inr h ↦ rw h (omega (arith, length-take (room (c .out)) left))
       ]
 
-  -- behind the pairs that it counts, the output's words are those it had
+  -- its output begins with their words,
+  pub output-begins : take (PAIR-WORDS * length given) (output t c) ≡ wordsIn pairWords given
+  unfolding outputAfter written
+  output-begins = ap (λ k. take k (output t c)) (sym (words-length given)) ∙ take-append-seam (wordsIn pairWords given) _
+
+  -- and after them the output's words are those it had
   pub beyond-kept : drop (PAIR-WORDS * answer t c .count) (output t c) ≡ drop (PAIR-WORDS * answer t c .count) (c .out)
   unfolding pageOf outputAfter written
   beyond-kept =
@@ -98,19 +112,19 @@ module _ (t : Ticket) (c : Call) where
       let ws = wordsIn pairWords given in
       omega (arith, length-append ws (drop (length ws) (c .out)), length-drop (length ws) (c .out), words-length given, given-fits)
 
-module _ (relation : Relation) (order : Order) (c : Call) where
+module _ (ask : Asked) (c : Call) where
   abbrev listed : List Pair
-  listed = fullListing relation order c
+  listed = fullListing ask c
 
-  all-handed : length listed ≤ room (c .out) → handed (sortKey order) fresh (room (c .out)) listed ≡ listed
+  all-handed : length listed ≤ room (c .out) → handed (sortKey (ask .order)) fresh (room (c .out)) listed ≡ listed
   unfolding handed remains pastb
   all-handed l = rw (keep-all (λ p. true) listed (all-of (λ p. refl) listed)) (take-all (room (c .out)) listed l)
 
   -- a first call with room for the full listing hands out exactly it, and is done
   pub whole-listing : AcceptedCall c → length listed ≤ room (c .out)
-      → (shown (freshTicket relation order) c ≡ listed) × (answer (freshTicket relation order) c .done ≡ true)
+      → (shown (freshTicket ask) c ≡ listed) × (answer (freshTicket ask) c .done ≡ true)
   unfolding pageOf handedOut saysDone doneb remains pastb
   whole-listing a l = (
-    shown-is (freshTicket relation order) c ∙ rw (not-refused c a) (all-handed l),
+    shown-is (freshTicket ask) c ∙ rw (not-refused c a) (all-handed l),
     rw (not-refused c a, all-handed l, keep-all (λ p. true) listed (all-of (λ p. refl) listed)) (eq-eqb (length listed) (length listed) refl),
   )

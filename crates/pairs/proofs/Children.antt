@@ -2,8 +2,8 @@
 -- holds lies deeper still, so it is passed unseen. A child passed over with an inner zone, or a
 -- grandchild taken for a child, would fall here.
 use mathlib.Core.Path.{_≡_, refl, ap, sym, subst, _∙_}
-use mathlib.Core.Logic.{_⊎_, inl, inr, ⊎-elim}
-use mathlib.Core.Bool.{true, false}
+use mathlib.Core.Logic.{inl, inr, ⊎-elim}
+use mathlib.Core.Bool.{true, false, Bool}
 use mathlib.Core.List.{List, [], _∷_, _++_, map-append}
 use Prim.Native.Nat.{ℕ, zero, suc, _+_, _-_, _/_, _≤_, _<_}
 use native.Mathlib.Omega.{arith}
@@ -11,26 +11,30 @@ use lib.Dec.{ltb}
 use lib.ListN.{length, drop}
 use borrow.Author.Tests.{ltb-true, ltb-false}
 use Rattle.nodes.specs.declared.node.Node.{Node}
-use Rattle.nodes.specs.Answer.{TAKEN}
-use Rattle.nodes.specs.Choose.{All, Pairs, keep}
+use Rattle.answers.specs.Answer.{TAKEN}
+use Rattle.laws.specs.Choose.{All, Pairs, keep}
 use Rattle.nodes.specs.Node.{insideb, directlyb, afterb, MOST-LEVELS}
 use Rattle.nodes.specs.Words.{node, nodes, count, nodeAt}
-use Rattle.nodes.proofs.Choices.{all-map, keep-failed, all-at, pairs-at}
+use Rattle.laws.proofs.Choices.{all-map, keep-failed, all-at, pairs-at, pairs-drop}
 use Rattle.nodes.proofs.NodeLaws.{within, directly-inside, directly-make, inside-after, after-trans}
-use Rattle.nodes.proofs.Tests.{either, not-so}
+use Rattle.laws.proofs.Tests.{either, not-so}
 use Rattle.nodes.proofs.WordLaws.{length-nodes, nodes-from, nodes-behind}
 use Rattle.lists.specs.Two.{oddsb, checkTwo}
 use Rattle.lists.proofs.Faults.{Sound}
 use Rattle.lists.proofs.Merging.{even-fine}
 use Rattle.lists.proofs.Pairing.{two-taken-iff}
 use Rattle.lists.proofs.Taken.{Fine, nested-read, fine-settles, words-taken-iff}
+use Rattle.paging.specs.Private.Serve.{serve}
+use Rattle.paging.proofs.Serving.{left-on, left-stop}
 use Rattle.tickets.specs.declared.ticket.Order.the-variants.{Ancestor}
 use Rattle.tickets.specs.declared.ticket.Relation.the-variants.{Directly}
 use Rattle.tickets.specs.Listing.{relatedb, pairOf}
-use Rattle.tickets.specs.Row.{row, matches}
-use Rattle.pairs.specs.Sweep.{Placed, stretch, Running, Further, runEnd}
+use Rattle.tickets.specs.Private.Group.{group, matches}
+use Rattle.tickets.specs.PairWords.{PAIR-WORDS, pairWords}
+use Rattle.tickets.specs.Ticket.{asked}
+use Rattle.pairs.specs.Private.Sweep.{Placed, stretch, Running, Further, runEnd, servedGroup}
 use Rattle.pairs.proofs.Accepted.{Accepted, accepted}
-use Rattle.pairs.proofs.Running.{pairs-drop, running-from, end-from, inside-run}
+use Rattle.pairs.proofs.Running.{running-from, end-from, inside-run}
 use Rattle.pairs.proofs.Stretches.{stretch-next, stretch-none}
 
 -- what holds of all nodes of words, or of all pairs of them, holds at each index
@@ -45,7 +49,7 @@ node-pair ws R k i m l h = pairs-at R (nodes ws) k i (node 0 0 0 0) m (omega (ar
 module _ (ws : List ℕ) (a : Node) where
   -- descendants of which none is a child are passed
   none-from : (n k r : ℕ) → k + n ≡ r → ((j : ℕ) → k ≤ j → j < r → directlyb (nodeAt ws j) a ≡ false)
-      → matches Directly Ancestor a (drop k (nodes ws)) ≡ matches Directly Ancestor a (drop r (nodes ws))
+      → matches (asked Directly Ancestor) a (drop k (nodes ws)) ≡ matches (asked Directly Ancestor) a (drop r (nodes ws))
   unfolding matches relatedb pairOf keep
   none-from zero k r q f = let e : k ≡ r = omega arith in ap (λ i. keep (λ d. directlyb d a) (drop i (nodes ws))) e
   none-from (suc n) k r q f =
@@ -57,12 +61,12 @@ module _ (ws : List ℕ) (a : Node) where
       ]
 
   none-passed : (k r : ℕ) → k ≤ r → ((j : ℕ) → k ≤ j → j < r → directlyb (nodeAt ws j) a ≡ false)
-      → matches Directly Ancestor a (drop k (nodes ws)) ≡ matches Directly Ancestor a (drop r (nodes ws))
+      → matches (asked Directly Ancestor) a (drop k (nodes ws)) ≡ matches (asked Directly Ancestor) a (drop r (nodes ws))
   none-passed k r h f = none-from (r - k) k r (omega arith) f
 
   -- a descendant of the run that is one level deeper comes first of what is left
   child-next : (k m : ℕ) (d : Node) → Running ws a k → k < count ws → k < runEnd ws a k → d ≡ nodeAt ws k → d .level ≡ a .level + 1 → m ≡ k + 1
-      → matches Directly Ancestor a (drop k (nodes ws)) ≡ (nodeAt ws k ∷ []) ++ matches Directly Ancestor a (drop m (nodes ws))
+      → matches (asked Directly Ancestor) a (drop k (nodes ws)) ≡ (nodeAt ws k ∷ []) ++ matches (asked Directly Ancestor) a (drop m (nodes ws))
   unfolding matches relatedb pairOf keep
   child-next k m d r l h q e s =
       let t : directlyb (nodeAt ws k) a ≡ true = directly-make (nodeAt ws k) a (inside-run ws a k k r (omega arith) h) (rw (← q) e) in
@@ -72,22 +76,35 @@ module _ (ws : List ℕ) (a : Node) where
   not-deeper : (d : Node) → (d .level ≡ a .level + 1 → ⊥) → directlyb d a ≡ false
   not-deeper d n = not-so (λ h. n (directly-inside d a h .1))
 
-  -- so its row comes first, in words
-  pub child-row : (from k level : ℕ) (d : Node) → Placed ws k → k < length ws → Running ws a (from / 4) → from ≤ k → k / 4 < runEnd ws a (from / 4)
+  -- so its group comes first, in words
+  child-group : (from k level : ℕ) (d : Node) → Placed ws k → k < length ws → Running ws a (from / 4) → from ≤ k → k / 4 < runEnd ws a (from / 4)
       → d ≡ nodeAt ws (k / 4) → d .level ≡ level → level ≡ a .level + 1
-      → row Ancestor a (matches Directly Ancestor a (drop (k / 4) (nodes ws)))
-      ≡ row Ancestor a (stretch ws k (k + 4)) ++ row Ancestor a (matches Directly Ancestor a (drop ((k + 4) / 4) (nodes ws)))
-  unfolding row
-  child-row from k level d p l r h e q u v =
-      let ms : List Node = matches Directly Ancestor a (drop ((k + 4) / 4) (nodes ws)) in
+      → group Ancestor a (matches (asked Directly Ancestor) a (drop (k / 4) (nodes ws)))
+      ≡ group Ancestor a (stretch ws k (k + 4)) ++ group Ancestor a (matches (asked Directly Ancestor) a (drop ((k + 4) / 4) (nodes ws)))
+  unfolding group
+  child-group from k level d p l r h e q u v =
+      let ms : List Node = matches (asked Directly Ancestor) a (drop ((k + 4) / 4) (nodes ws)) in
       let one : stretch ws k (k + 4) ≡ nodeAt ws (k / 4) ∷ [] =
       stretch-next ws k (k + 4) p (p .0, omega (arith, p), omega (arith, p)) (omega arith)
       ∙ ap (λ ns. nodeAt ws (k / 4) ∷ ns) (stretch-none ws (k + 4) (k + 4) (omega arith)) in
       let same = end-from ws a (from / 4) (k / 4) (omega arith) (omega arith) in
-      ap (row Ancestor a)
+      ap (group Ancestor a)
       (child-next (k / 4) ((k + 4) / 4) d (running-from ws a (from / 4) (k / 4) (omega arith) (omega (arith, p)) r) (omega (arith, p)) (omega (arith, same)) q
       (omega arith) (omega arith))
-      ∙ map-append (pairOf Ancestor a) (nodeAt ws (k / 4) ∷ []) ms ∙ ap (λ ns. row Ancestor a ns ++ row Ancestor a ms) (sym one)
+      ∙ map-append (pairOf Ancestor a) (nodeAt ws (k / 4) ∷ []) ms ∙ ap (λ ns. group Ancestor a ns ++ group Ancestor a ms) (sym one)
+
+  -- and a group that found room leaves those after it to serve, while one that didn't ends the page
+  pub child-on : (from k level : ℕ) (d : Node) → Placed ws k → k < length ws → Running ws a (from / 4) → from ≤ k
+      → k / 4 < runEnd ws a (from / 4) → d ≡ nodeAt ws (k / 4) → d .level ≡ level → level ≡ a .level + 1 → (out : List ℕ) (n : ℕ) {o : List ℕ} {m : ℕ} {b : Bool} {whole : List ℕ × ℕ × Bool}
+      → (o, m, b) ≡ servedGroup Ancestor out n a (stretch ws k (k + 4)) → b ≡ true
+      → serve pairWords PAIR-WORDS out n (group Ancestor a (matches (asked Directly Ancestor) a (drop (k / 4) (nodes ws)))) ≡ whole → serve pairWords PAIR-WORDS o m (group Ancestor a (matches (asked Directly Ancestor) a (drop ((k + 4) / 4) (nodes ws)))) ≡ whole
+  child-on from k level d p l r h e q u v out n s t w = left-on pairWords PAIR-WORDS out n _ _ s t (child-group from k level d p l r h e q u v) w
+
+  pub child-stop : (from k level : ℕ) (d : Node) → Placed ws k → k < length ws → Running ws a (from / 4) → from ≤ k
+      → k / 4 < runEnd ws a (from / 4) → d ≡ nodeAt ws (k / 4) → d .level ≡ level → level ≡ a .level + 1 → (out : List ℕ) (n : ℕ) {o : List ℕ} {m : ℕ} {b : Bool} {whole : List ℕ × ℕ × Bool}
+      → (o, m, b) ≡ servedGroup Ancestor out n a (stretch ws k (k + 4)) → b ≡ false
+      → serve pairWords PAIR-WORDS out n (group Ancestor a (matches (asked Directly Ancestor) a (drop (k / 4) (nodes ws)))) ≡ whole → (o, m, b) ≡ whole
+  child-stop from k level d p l r h e q u v out n s t w = left-stop pairWords PAIR-WORDS out n _ _ s t (child-group from k level d p l r h e q u v) w
 
 module _ (as′ ws : List ℕ) (taken : checkTwo as′ ws .answer ≡ TAKEN) where
   -- one more than a level is a number of 32 bits
@@ -158,7 +175,7 @@ module _ (as′ ws : List ℕ) (taken : checkTwo as′ ws .answer ≡ TAKEN) whe
   pub inner-passed : (i zone k next level : ℕ) (d : Node) → i / 4 < zone / 4 → k < next → Placed ws next → d ≡ nodeAt ws (k / 4)
       → (d .level ≡ level → ⊥) → level ≡ nodeAt as′ (i / 4) .level + 1
       → ((j : ℕ) → k / 4 < j → j < next / 4 → (zone / 4 < count as′) × (insideb (nodeAt ws j) (nodeAt as′ (zone / 4)) ≡ true))
-      → matches Directly Ancestor (nodeAt as′ (i / 4)) (drop (k / 4) (nodes ws)) ≡ matches Directly Ancestor (nodeAt as′ (i / 4)) (drop (next / 4) (nodes ws))
+      → matches (asked Directly Ancestor) (nodeAt as′ (i / 4)) (drop (k / 4) (nodes ws)) ≡ matches (asked Directly Ancestor) (nodeAt as′ (i / 4)) (drop (next / 4) (nodes ws))
   inner-passed i zone k next level d l h p q n v f = none-passed ws (nodeAt as′ (i / 4)) (k / 4) (next / 4) (omega arith) none
     where
       none : (j : ℕ) → k / 4 ≤ j → j < next / 4 → directlyb (nodeAt ws j) (nodeAt as′ (i / 4)) ≡ false

@@ -2,38 +2,42 @@
 -- ended, and the stack stands for the descendants to come. A zone left for good while descendants
 -- are still to come, or one joined only while it is the innermost, would fall here.
 use mathlib.Core.Path.{_≡_, refl, ap, subst, _∙_}
-use mathlib.Core.Bool.{true, false}
+use mathlib.Core.Bool.{true, false, Bool}
 use mathlib.Core.List.{List, _++_, reverse}
 use Prim.Native.Nat.{ℕ, _+_, _*_, _/_, _%_, _≤_, _<_, zero-le}
 use native.Mathlib.Omega.{arith}
 use lib.ListN.{length, drop}
 use Rattle.nodes.specs.declared.node.Node.{Node}
-use Rattle.nodes.specs.Answer.{TAKEN}
-use Rattle.nodes.specs.Choose.{All, Pairs}
+use Rattle.answers.specs.Answer.{TAKEN}
+use Rattle.laws.specs.Choose.{All, Pairs}
 use Rattle.nodes.specs.Node.{afterb, openb}
 use Rattle.nodes.specs.Words.{node, nodes, nodeAt}
 use Rattle.nodes.proofs.WordLaws.{length-nodes, nodes-from}
 use Rattle.lists.specs.Check.{checkWords}
 use Rattle.lists.specs.Two.{checkTwo}
-use Rattle.lists.specs.Walk.{firsts, opened, unended, Upon, Fits}
+use Rattle.lists.specs.Private.Walk.{firsts, opened, unended, Upon, Fits}
 use Rattle.lists.proofs.Faults.{Sound}
 use Rattle.lists.proofs.Pairing.{two-taken-iff}
 use Rattle.lists.proofs.Taken.{Fine, words-taken-iff}
 use Rattle.paging.specs.Page.{remains}
+use Rattle.paging.specs.Private.Serve.{serve}
+use Rattle.paging.proofs.Serving.{left-on, left-stop}
 use Rattle.tickets.specs.declared.ticket.Order.the-variants.{Descendant}
 use Rattle.tickets.specs.declared.ticket.Place.{Place}
 use Rattle.tickets.specs.declared.ticket.Relation.{Relation}
 use Rattle.tickets.specs.Listing.{sortKey}
-use Rattle.tickets.specs.Row.{row, matches, servedIn}
-use Rattle.tickets.specs.Ticket.{spotOf}
-use Rattle.tickets.proofs.Rows.{rest-of, row-past}
-use Rattle.pairs.specs.Sweep.{Placed, Opening, fromStart}
-use Rattle.nodes.proofs.Choices.{all-at}
+use Rattle.tickets.specs.Private.Group.{group, matches}
+use Rattle.tickets.specs.Leaders.{servedIn}
+use Rattle.tickets.specs.PairWords.{PAIR-WORDS, pairWords}
+use Rattle.tickets.specs.Ticket.{spotOf, asked}
+use Rattle.tickets.proofs.Groups.{rest-of, group-past}
+use Rattle.pairs.specs.Private.Sweep.{Placed, Opening, fromStart, servedGroup}
+use Rattle.laws.proofs.Choices.{all-at}
 use Rattle.pairs.proofs.Accepted.{accepted, fine-with}
 use Rattle.pairs.proofs.Matching.{matches-open}
-use Rattle.pairs.proofs.OpenRow.{all-among, upon-open, left-open, open-none, open-left, open-later}
-use Rattle.pairs.proofs.Rowing.{matches-rise, rest-row}
-use Rattle.pairs.proofs.Telling.{Tells, served-in, after-next}
+use Rattle.pairs.proofs.OpenNodes.{all-among, upon-open, left-open, open-none, open-left, open-later}
+use Rattle.pairs.proofs.ListingGroups.{matches-rise, rest-group}
+use Rattle.pairs.proofs.SweepStart.{Tells, served-in, after-next}
 
 module _ (as′ ds : List ℕ) where
   -- at a descendant: the stack holds the ancestors that are open at it, and no ancestor before it
@@ -67,7 +71,7 @@ module _ (as′ ds : List ℕ) where
         let h = served-in place ds first q in
         record {
           at = (w .1, omega arith, omega arith);
-          stands = λ m. record { used-in = (refl, zero-le); passed-in = (w .0, refl, zero-le); row = open-none _ };
+          stands = λ m. record { used-in = (refl, zero-le); passed-in = (w .0, refl, zero-le); held = open-none _ };
         }
 
     module _ (j : ℕ) (l : j < length ds) where
@@ -93,8 +97,8 @@ module _ (as′ ds : List ℕ) where
             → opened left stack ≡ unended d (opened used stack) → Opening as′ d left passed stack × All (λ e. openb d e ≡ true) (opened left stack)
         left-at used passed left stack r f e =
             let o : Opening as′ d used passed stack = rw q (r .stands l) in (
-              record { used-in = f; passed-in = o .passed-in; row = rw e (open-left d _ _ (o .row)) },
-              rw e (left-open d (opened used stack) (o .row .stands .chain)),
+              record { used-in = f; passed-in = o .passed-in; held = rw e (open-left d _ _ (o .held)) },
+              rw e (left-open d (opened used stack) (o .held .stands .chain)),
             )
 
         -- once those that started before it are put on, it lies inside all of the stack
@@ -103,40 +107,51 @@ module _ (as′ ds : List ℕ) where
         at-descendant used passed stack o b none = subst (λ n. At n used passed stack) q (record {
           opening = o;
           none = none;
-          upon = upon-open d (opened used stack) (rw q sound-at) (all-among (λ f. Fine f d) (o .row)
-              (rw q (fine-at passed (o .passed-in .2) (rw q at (o .row .behind))))) b;
+          upon = upon-open d (opened used stack) (rw q sound-at) (all-among (λ f. Fine f d) (o .held)
+              (rw q (fine-at passed (o .passed-in .2) (rw q at (o .held .behind))))) b;
         })
 
       module _ (used passed : ℕ) (stack : List ℕ) (h : At (nodeAt ds (j / 4)) used passed stack) where
         -- what matches among all ancestors matches on the stack, and its starts rise
         at-matches : (relation : Relation)
-            → matches relation Descendant (nodeAt ds (j / 4)) (nodes as′) ≡ reverse (matches relation Descendant (nodeAt ds (j / 4)) (opened used stack))
+            → matches (asked relation Descendant) (nodeAt ds (j / 4)) (nodes as′) ≡ reverse (matches (asked relation Descendant) (nodeAt ds (j / 4)) (opened used stack))
         at-matches relation =
             matches-open (nodeAt ds (j / 4)) relation (nodes as′) (passed / 4) (opened used stack) sound-at
-            (let p = h .opening .passed-in in omega (arith, length-nodes as′)) (h .none) (h .opening .row)
+            (let p = h .opening .passed-in in omega (arith, length-nodes as′)) (h .none) (h .opening .held)
 
         at-rises : (relation : Relation)
-            → Pairs (λ x y. x .start < y .start) (reverse (matches relation Descendant (nodeAt ds (j / 4)) (opened used stack)))
+            → Pairs (λ x y. x .start < y .start) (reverse (matches (asked relation Descendant) (nodeAt ds (j / 4)) (opened used stack)))
         at-rises relation =
             subst (Pairs (λ x y. x .start < y .start)) (at-matches relation)
             (matches-rise relation Descendant (nodeAt ds (j / 4)) (nodes as′) (accepted as′ ds taken .fine-as))
 
-        -- the descendant's row comes first of what remains, from the start on that tells what lies
+        -- the descendant's group comes first of what remains, from the start on that tells what lies
         -- past the place
-        pub descend-row : (relation : Relation) (place : Place) (past : ℕ) → Tells place ds past j
+        descend-group : (relation : Relation) (place : Place) (past : ℕ) → Tells place ds past j
             → rest-of relation Descendant place (drop (j / 4) (nodes ds)) (nodes as′)
-            ≡ row Descendant (nodeAt ds (j / 4)) (fromStart past (reverse (matches relation Descendant (nodeAt ds (j / 4)) (opened used stack))))
+            ≡ group Descendant (nodeAt ds (j / 4)) (fromStart past (reverse (matches (asked relation Descendant) (nodeAt ds (j / 4)) (opened used stack))))
             ++ rest-of relation Descendant place (drop ((j + 4) / 4) (nodes ds)) (nodes as′)
         unfolding fromStart
-        descend-row relation place past p =
+        descend-group relation place past p =
             let w = whole in
             let next : (j + 4) / 4 ≡ j / 4 + 1 = omega arith in
             rw next
             (ap (λ ns. rest-of relation Descendant place ns (nodes as′)) (nodes-from ds (j / 4) (omega arith))
-            ∙ rest-row relation Descendant (nodeAt ds (j / 4)) place (drop (j / 4 + 1) (nodes ds)) (nodes as′)
+            ∙ rest-group relation Descendant (nodeAt ds (j / 4)) place (drop (j / 4 + 1) (nodes ds)) (nodes as′)
             ∙ ap (λ ps. ps ++ rest-of relation Descendant place (drop (j / 4 + 1) (nodes ds)) (nodes as′))
-            (ap (λ zs. remains (sortKey Descendant) (spotOf place) (row Descendant (nodeAt ds (j / 4)) zs)) (at-matches relation)
-            ∙ row-past Descendant place past (nodeAt ds (j / 4)) _ (p l) (at-rises relation)))
+            (ap (λ zs. remains (sortKey Descendant) (spotOf place) (group Descendant (nodeAt ds (j / 4)) zs)) (at-matches relation)
+            ∙ group-past Descendant place past (nodeAt ds (j / 4)) _ (p l) (at-rises relation)))
+
+        -- so a group that found room leaves those after it to serve, and one that didn't ends the page
+        pub descend-on : (relation : Relation) (place : Place) (past : ℕ) → Tells place ds past j → (out : List ℕ) (n : ℕ) {o : List ℕ} {d : ℕ} {b : Bool} {whole : List ℕ × ℕ × Bool}
+            → (o, d, b) ≡ servedGroup Descendant out n (nodeAt ds (j / 4)) (fromStart past (reverse (matches (asked relation Descendant) (nodeAt ds (j / 4)) (opened used stack)))) → b ≡ true
+            → serve pairWords PAIR-WORDS out n (rest-of relation Descendant place (drop (j / 4) (nodes ds)) (nodes as′)) ≡ whole → serve pairWords PAIR-WORDS o d (rest-of relation Descendant place (drop ((j + 4) / 4) (nodes ds)) (nodes as′)) ≡ whole
+        descend-on relation place past p out n s t e = left-on pairWords PAIR-WORDS out n _ _ s t (descend-group relation place past p) e
+
+        pub descend-stop : (relation : Relation) (place : Place) (past : ℕ) → Tells place ds past j → (out : List ℕ) (n : ℕ) {o : List ℕ} {d : ℕ} {b : Bool} {whole : List ℕ × ℕ × Bool}
+            → (o, d, b) ≡ servedGroup Descendant out n (nodeAt ds (j / 4)) (fromStart past (reverse (matches (asked relation Descendant) (nodeAt ds (j / 4)) (opened used stack)))) → b ≡ false
+            → serve pairWords PAIR-WORDS out n (rest-of relation Descendant place (drop (j / 4) (nodes ds)) (nodes as′)) ≡ whole → (o, d, b) ≡ whole
+        descend-stop relation place past p out n s t e = left-stop pairWords PAIR-WORDS out n _ _ s t (descend-group relation place past p) e
 
         -- and the stack is ready for the next one
         pub ready-next : Placed ds j → Ready (j + 4) used passed stack
@@ -145,6 +160,6 @@ module _ (as′ ds : List ℕ) where
           stands = λ m. record {
             used-in = h .opening .used-in;
             passed-in = h .opening .passed-in;
-            row = open-later (nodeAt ds (j / 4)) (nodeAt ds ((j + 4) / 4)) _ _ (after-next ds taken-ds j m) (h .opening .row);
+            held = open-later (nodeAt ds (j / 4)) (nodeAt ds ((j + 4) / 4)) _ _ (after-next ds taken-ds j m) (h .opening .held);
           };
         }

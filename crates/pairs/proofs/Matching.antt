@@ -1,7 +1,7 @@
--- Only open ancestors contain a descendant, so the row of open ones answers for all; each of them contains it, and only the innermost directly.
+-- Only open ancestors contain a descendant, so the chain of open ones answers for all; each of them contains it, and only the innermost directly.
 -- Joining with the innermost alone, or directly without the level, would fall here.
 use mathlib.Core.Path.{_≡_, refl, ap, sym, _∙_}
-use mathlib.Core.Logic.{inl, inr}
+use mathlib.Core.Logic.{inl}
 use mathlib.Core.Bool.{Bool, true, false, cond}
 use mathlib.Core.List.{List, [], _∷_, _++_, reverse, reverse-cons, append-nil}
 use Prim.Native.Nat.{ℕ, zero, suc, _≤_, _<_}
@@ -9,22 +9,23 @@ use native.Mathlib.Omega.{arith}
 use lib.ListN.{length, getD, take, drop, take-append-drop}
 use lib.Seq.{take-suc}
 use Rattle.nodes.specs.declared.node.Node.{Node}
-use Rattle.nodes.specs.Choose.{All, keep}
+use Rattle.laws.specs.Choose.{All, keep}
 use Rattle.nodes.specs.Node.{insideb, deeperb, directlyb, afterb}
 use Rattle.nodes.specs.Words.{node}
-use Rattle.nodes.proofs.Choices.{all-map, keep-append, keep-none, keep-all}
+use Rattle.laws.proofs.Choices.{all-map, keep-append, keep-none, keep-all, keep-turned}
 use Rattle.nodes.proofs.NodeLaws.{directly-inside, inside-after, inside-open}
-use Rattle.nodes.proofs.Tests.{either, never, not-so}
-use Rattle.lists.specs.Walk.{firsts, Upon, Chain}
+use Rattle.laws.proofs.Tests.{never, not-so}
+use Rattle.lists.specs.Private.Walk.{firsts, Upon, Chain}
 use Rattle.lists.proofs.Faults.{Sound}
 use Rattle.lists.proofs.Keeping.{chain-contains, chain-levels}
 use Rattle.tickets.specs.declared.ticket.Order.the-variants.{Descendant}
 use Rattle.tickets.specs.declared.ticket.Relation.{Relation}
 use Rattle.tickets.specs.declared.ticket.Relation.the-variants.{Inside, Directly}
 use Rattle.tickets.specs.Listing.{relatedb, pairOf}
-use Rattle.tickets.specs.Row.{matches}
+use Rattle.tickets.specs.Private.Group.{matches}
 use Rattle.tickets.proofs.Listed.{related-inside}
-use Rattle.pairs.specs.Sweep.{Open}
+use Rattle.tickets.specs.Ticket.{asked}
+use Rattle.pairs.specs.Private.Sweep.{Open}
 
 -- the first k nodes, turned round, are the first k in their order
 pub firsts-turned : (k : ℕ) (ns : List Node) → k ≤ length ns → reverse (firsts k ns) ≡ take k ns
@@ -35,22 +36,13 @@ firsts-turned (suc k) ns l =
     ∙ ap (λ xs. xs ++ (getD ns k (node 0 0 0 0) ∷ [])) (firsts-turned k ns (omega arith))
     ∙ sym (take-suc ns k (node 0 0 0 0) (omega arith))
 
-keep-turned : (test : Node → Bool) (xs : List Node) → keep test (reverse xs) ≡ reverse (keep test xs)
-unfolding keep
-keep-turned test [] = refl
-keep-turned test (x ∷ xs) =
-    ap (keep test) (reverse-cons x xs) ∙ keep-append test (reverse xs) (x ∷ []) ∙ elim (either (test x)) [
-      | inl h ↦ rw (h, keep-turned test xs) (sym (reverse-cons x (keep test xs)))
-      | inr h ↦ rw (h, keep-turned test xs) (append-nil _)
-    ]
-
--- everything under the innermost of a row has a lower level
+-- everything under the innermost of a chain has a lower level
 less-deep : (e : Node) (s : List Node) → Chain (e ∷ s) → All (λ f. f .level < e .level) s
 less-deep e [] c = tt
 less-deep e (f ∷ s) c = (c .1 .1, chain-levels (e .level) f s (c .2) (c .1 .1))
 
 module _ (d : Node) where
-  -- a test that only nodes which contain d pass keeps of all ancestors what it keeps of the row
+  -- a test that only nodes which contain d pass keeps of all ancestors what it keeps of the chain
   kept-open : (as′ : List Node) (i : ℕ) (s : List Node) → Sound d → i ≤ length as′ → All (λ a. afterb d a ≡ false) (drop i as′) → Open d (firsts i as′) s
       → (test : Node → Bool) → ((e : Node) → test e ≡ true → insideb d e ≡ true) → keep test as′ ≡ reverse (keep test s)
   kept-open as′ i s t l none k test only =
@@ -63,19 +55,19 @@ module _ (d : Node) where
 
   pub matches-open : (relation : Relation) (as′ : List Node) (i : ℕ) (s : List Node) → Sound d → i ≤ length as′
       → All (λ a. afterb d a ≡ false) (drop i as′) → Open d (firsts i as′) s
-      → matches relation Descendant d as′ ≡ reverse (matches relation Descendant d s)
+      → matches (asked relation Descendant) d as′ ≡ reverse (matches (asked relation Descendant) d s)
   unfolding matches pairOf
   matches-open relation as′ i s t l none k = kept-open as′ i s t l none k _ (λ e h. related-inside relation _ h)
 
-  -- every node of a row onto which d would fit contains it
-  pub inside-all : (s : List Node) → Chain s → Upon d s → matches Inside Descendant d s ≡ s
+  -- every node of a chain onto which d would fit contains it
+  pub inside-all : (s : List Node) → Chain s → Upon d s → matches (asked Inside Descendant) d s ≡ s
   unfolding matches relatedb pairOf keep
   inside-all [] c u = refl
   inside-all (e ∷ s) c u = rw (u .0) (ap (λ es. e ∷ es) (keep-all _ s (chain-contains d e s c (u .0))))
 
-  -- of a row onto which d would fit only the innermost can contain it directly: the others are less deep by two or more
+  -- of a chain onto which d would fit only the innermost can contain it directly: the others are less deep by two or more
   pub directly-top : (e : Node) (s : List Node) → Chain (e ∷ s) → Upon d (e ∷ s)
-      → matches Directly Descendant d (e ∷ s) ≡ cond (deeperb d e) (e ∷ []) []
+      → matches (asked Directly Descendant) d (e ∷ s) ≡ cond (deeperb d e) (e ∷ []) []
   unfolding matches relatedb pairOf keep directlyb
   directly-top e s c u =
       let none : keep (λ f. directlyb d f) s ≡ [] =

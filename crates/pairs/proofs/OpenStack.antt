@@ -10,20 +10,20 @@ use native.Mathlib.Omega.{arith}
 use native.Mathlib.Numerals.{add-one}
 use lib.ListN.{length, drop}
 use Rattle.nodes.specs.declared.node.Node.{Node}
-use Rattle.nodes.specs.Answer.{TAKEN}
-use Rattle.nodes.specs.Choose.{All}
+use Rattle.answers.specs.Answer.{TAKEN}
+use Rattle.laws.specs.Choose.{All}
 use Rattle.nodes.specs.Node.{afterb, openb, MOST-LEVELS}
 use Rattle.nodes.specs.Words.{node, nodes, count, nodeAt}
-use Rattle.nodes.proofs.Tests.{either}
+use Rattle.laws.proofs.Tests.{either}
 use Rattle.nodes.proofs.WordLaws.{length-nodes}
 use Rattle.lists.specs.Check.{checkWords}
-use Rattle.lists.specs.Walk.{firsts, opened, Chain, Fits}
+use Rattle.lists.specs.Private.Walk.{firsts, opened, Chain, Fits}
 use Rattle.lists.proofs.Faults.{Sound}
 use Rattle.lists.proofs.Taken.{words-taken-iff}
-use Rattle.pairs.specs.Sweep.{Open, Opening}
-use Rattle.nodes.proofs.Choices.{all-at}
+use Rattle.pairs.specs.Private.Sweep.{Open, Opening}
+use Rattle.laws.proofs.Choices.{all-at}
 use Rattle.pairs.proofs.Accepted.{fine-before, none-before}
-use Rattle.pairs.proofs.OpenRow.{open-push, open-skip}
+use Rattle.pairs.proofs.OpenNodes.{open-push, open-skip}
 
 module _ (ws : List ℕ) (d : Node) (taken : checkWords ws .answer ≡ TAKEN) where
   module _ (used i : ℕ) (stack : List ℕ) (a : Node) (k : Opening ws d used i stack) (o : All (λ e. openb d e ≡ true) (opened used stack))
@@ -39,7 +39,7 @@ module _ (ws : List ℕ) (d : Node) (taken : checkWords ws .answer ≡ TAKEN) wh
     unfolding nodeAt
     pushed =
         let p = k .passed-in in
-        open-push d a (firsts (i / 4) (nodes ws)) (opened used stack) h (k .row) sound-next
+        open-push d a (firsts (i / 4) (nodes ws)) (opened used stack) h (k .held) sound-next
         (rw q (fine-before (nodes ws) (words-taken-iff ws .0 taken .3) (i / 4) (omega (arith, length-nodes ws)))) o
 
     -- the words in use fit, the next ancestor's level is no higher than it may be, and where it is
@@ -49,15 +49,15 @@ module _ (ws : List ℕ) (d : Node) (taken : checkWords ws .answer ≡ TAKEN) wh
 
     -- once it is on top, or left out as it has ended, the sweep has passed one more, and all on the
     -- stack are open at d
-    passed-row : Open d (firsts ((i + 4) / 4) (nodes ws)) (cond (openb d a) (a ∷ opened used stack) (opened used stack))
+    passed-group : Open d (firsts ((i + 4) / 4) (nodes ws)) (cond (openb d a) (a ∷ opened used stack) (opened used stack))
         × All (λ e. openb d e ≡ true) (cond (openb d a) (a ∷ opened used stack) (opened used stack))
     unfolding firsts nodeAt
-    passed-row =
+    passed-group =
         let one : (i + 4) / 4 ≡ i / 4 + 1 = omega arith in
         rw (one, add-one (i / 4), ← q)
         (elim (either (openb d a)) [
           | inl b ↦ rw b (pushed, (b, o))
-          | inr b ↦ rw b (open-skip d a _ _ h (k .row) b, o)
+          | inr b ↦ rw b (open-skip d a _ _ h (k .held) b, o)
         ])
 
     pub next-passed : (r : ℕ) (after : List ℕ) → Fits r
@@ -65,7 +65,7 @@ module _ (ws : List ℕ) (d : Node) (taken : checkWords ws .answer ≡ TAKEN) wh
         → Opening ws d r (i + 4) after × All (λ e. openb d e ≡ true) (opened r after)
     next-passed r after m e =
         let p = k .passed-in in
-        (record { used-in = m; passed-in = (p .0, omega arith, omega arith); row = rw e (passed-row .0) }, rw e (passed-row .1))
+        (record { used-in = m; passed-in = (p .0, omega arith, omega arith); held = rw e (passed-group .0) }, rw e (passed-group .1))
 
   -- an ancestor that doesn't stand before d ends the passing, as none after it does; so does the
   -- end of the list

@@ -7,31 +7,27 @@ use Prim.Native.Nat.{ℕ, _≤_, zero-le}
 use lib.Dec.{eqb}
 use lib.ListN.{length, take}
 use borrow.Author.Tests.{eq-eqb, ne-eqb}
-use Rattle.nodes.specs.Answer.{TAKEN}
+use Rattle.answers.specs.Answer.{TAKEN}
 use Rattle.nodes.specs.Words.{nodes, wordsOf}
-use Rattle.lists.specs.declared.verdict.Verdict.{Verdict}
-use Rattle.lists.specs.Two.{refusedb, checkTwo}
-use Rattle.paging.specs.Page.{remains, handed, doneb, reached}
-use Rattle.paging.specs.Serve.{serve}
-use Rattle.nodes.specs.Written.{wordsIn, written}
+use Rattle.answers.specs.declared.verdict.Verdict.{Verdict}
+use Rattle.answers.specs.Verdict.{refusedb}
+use Rattle.lists.specs.Two.{checkTwo}
+use Rattle.paging.specs.Page.{handed, doneb, reached}
+use Rattle.paging.specs.Private.Serve.{serve}
+use Rattle.answers.specs.Output.{wordsIn, written}
 use Rattle.paging.proofs.Serving.{serve-count, serve-length, serve-shows}
 use Rattle.tickets.specs.declared.ticket.Ticket.{Ticket}
-use Rattle.tickets.specs.Listing.{Pair, sortKey}
-use Rattle.tickets.specs.Row.{PAIR-WORDS, pairWords, room}
-use Rattle.tickets.specs.Ticket.{ticket, spotOf}
+use Rattle.tickets.specs.PairWords.{PAIR-WORDS, pairWords, room}
+use Rattle.tickets.specs.Ticket.{askedBy, ticketAt}
 use Rattle.pairs.specs.declared.page.Page.{Page}
-use Rattle.pairs.specs.Page.{listingOf, handedOut, saysDone, ticketAfter, pageOf, outputAfter}
-use Rattle.pairs.specs.Sweep.{placeIn}
+use Rattle.pairs.specs.Page.{remaining, handedOut, saysDone, ticketAfter, pageOf, outputAfter}
+use Rattle.pairs.specs.Private.Sweep.{placeReached}
 use Rattle.pairs.proofs.Shown.{last-place}
 
 abbrev pub answered : Verdict → ℕ → Bool → Ticket → Page
 answered v count done t = record { verdict = v; count = count; done = done; ticket = t }
 
 module _ (as′ ds : List ℕ) (t : Ticket) (out : List ℕ) where
-  -- what remains for the ticket
-  abbrev pub remaining : List Pair
-  remaining = remains (sortKey (t .order)) (spotOf (t .place)) (listingOf t as′ ds)
-
   -- a refused call answers nothing but the verdict
   pub page-refused : (v : Verdict) → v ≡ checkTwo as′ ds → (v .answer ≡ TAKEN → ⊥)
       → (answered v 0 false t ≡ pageOf as′ ds t out) × (out ≡ outputAfter as′ ds t out)
@@ -42,38 +38,38 @@ module _ (as′ ds : List ℕ) (t : Ticket) (out : List ℕ) where
 
   module _ (taken : checkTwo as′ ds .answer ≡ TAKEN) where
     -- an accepted call hands out the first that remain, as many as fit, and is done if that is all
-    handed-first : handedOut as′ ds t out ≡ take (room out) remaining
+    handed-first : handedOut as′ ds t out ≡ take (room out) (remaining t as′ ds)
     unfolding handedOut refusedb handed
     handed-first = rw (eq-eqb (checkTwo as′ ds .answer) TAKEN taken) refl
 
-    done-all : saysDone as′ ds t out ≡ eqb (length (take (room out) remaining)) (length remaining)
+    done-all : saysDone as′ ds t out ≡ eqb (length (take (room out) (remaining t as′ ds))) (length (remaining t as′ ds))
     unfolding saysDone refusedb doneb handed
     done-all = rw (eq-eqb (checkTwo as′ ds .answer) TAKEN taken) refl
 
     -- the place read off the output is the one that the pairs reach
     place-read : (u : Ticket)
-        → u ≡ ticket (t .relation) (t .order) (placeIn (t .order) (t .place) (nodes (outputAfter as′ ds t out)) (length (handedOut as′ ds t out)))
+        → u ≡ ticketAt (askedBy t) (placeReached (t .order) (t .place) (nodes (outputAfter as′ ds t out)) (length (handedOut as′ ds t out)))
         → u ≡ ticketAfter as′ ds t out
     unfolding outputAfter ticketAfter written
-    place-read u p = p ∙ ap (ticket (t .relation) (t .order)) (last-place (t .order) (t .place) (handedOut as′ ds t out) _)
+    place-read u p = p ∙ ap (ticketAt (askedBy t)) (last-place (t .order) (t .place) (handedOut as′ ds t out) _)
 
-  module _ (out′ : List ℕ) (count : ℕ) (done : Bool) (s : (out′, count, done) ≡ serve pairWords PAIR-WORDS out 0 remaining) where
+  module _ (out′ : List ℕ) (count : ℕ) (done : Bool) (s : (out′, count, done) ≡ serve pairWords PAIR-WORDS out 0 (remaining t as′ ds)) where
     -- no more was written than there is room for
     pub written-in : count ≤ room out′
     written-in =
-        let kept : length out′ ≡ length out = ap (λ r. length (r .0)) s ∙ serve-length pairWords PAIR-WORDS out 0 remaining in
-        rw (kept, ap (λ r. r .1) s) (serve-count pairWords PAIR-WORDS out 0 remaining zero-le)
+        let kept : length out′ ≡ length out = ap (λ r. length (r .0)) s ∙ serve-length pairWords PAIR-WORDS out 0 (remaining t as′ ds) in
+        rw (kept, ap (λ r. r .1) s) (serve-count pairWords PAIR-WORDS out 0 (remaining t as′ ds) zero-le)
 
     module _ (taken : checkTwo as′ ds .answer ≡ TAKEN) where
       all-shown : _≡_ {A = List ℕ × ℕ × Bool} (out′, count, done) (outputAfter as′ ds t out, length (handedOut as′ ds t out), saysDone as′ ds t out)
       unfolding outputAfter pairWords wordsOf
-      all-shown = s ∙ serve-shows pairWords PAIR-WORDS (λ p. refl) out remaining ∙ rw (handed-first taken, done-all taken) refl
+      all-shown = s ∙ serve-shows pairWords PAIR-WORDS (λ p. refl) out (remaining t as′ ds) ∙ rw (handed-first taken, done-all taken) refl
 
       pub page-made : (v : Verdict) (u : Ticket) → v ≡ checkTwo as′ ds
-          → u ≡ ticket (t .relation) (t .order) (placeIn (t .order) (t .place) (nodes out′) count)
+          → u ≡ ticketAt (askedBy t) (placeReached (t .order) (t .place) (nodes out′) count)
           → (answered v count done u ≡ pageOf as′ ds t out) × (out′ ≡ outputAfter as′ ds t out)
       unfolding pageOf
       page-made v u q p =
           let e = all-shown in
-          let w = place-read taken u (p ∙ ap (λ r. ticket (t .relation) (t .order) (placeIn (t .order) (t .place) (nodes (r .0)) (r .1))) e) in
+          let w = place-read taken u (p ∙ ap (λ r. ticketAt (askedBy t) (placeReached (t .order) (t .place) (nodes (r .0)) (r .1))) e) in
           (λ i. answered (q i) (e i .1) (e i .2) (w i), ap (λ r. r .0) e)

@@ -13,12 +13,12 @@ use lib.ListN.{length, getD, take, drop, take-append-drop, length-drop}
 use lib.Seq.{getD-drop, drop-drop}
 use borrow.Author.Tests.{lt-ltb, le-ltb, ltb-true, ltb-false}
 use Rattle.nodes.specs.declared.node.Node.{Node}
-use Rattle.nodes.specs.Choose.{All, Pairs, keep, firstAt}
+use Rattle.laws.specs.Choose.{All, Pairs, keep, firstAt}
 use Rattle.nodes.specs.Node.{insideb, afterb, openb}
 use Rattle.nodes.specs.Words.{node, nodes, count, nodeAt}
-use Rattle.nodes.proofs.Choices.{all-map, all-both, keep-append, keep-none, all-at}
+use Rattle.laws.proofs.Choices.{all-map, all-both, keep-append, keep-none, all-at, all-drop, pairs-drop}
 use Rattle.nodes.proofs.NodeLaws.{after-trans, inside-after, inside-open, open-read, shut-later}
-use Rattle.nodes.proofs.Tests.{either, never, not-so, not-none, and-read}
+use Rattle.laws.proofs.Tests.{either, never, not-so, not-none, and-read}
 use Rattle.nodes.proofs.WordLaws.{length-nodes, nodes-from, nodes-behind}
 use Rattle.lists.proofs.Faults.{Sound}
 use Rattle.lists.proofs.Merging.{even-fine}
@@ -27,22 +27,11 @@ use Rattle.tickets.specs.declared.ticket.Order.the-variants.{Ancestor}
 use Rattle.tickets.specs.declared.ticket.Relation.{Relation}
 use Rattle.tickets.specs.declared.ticket.Relation.the-variants.{Inside}
 use Rattle.tickets.specs.Listing.{relatedb, pairOf}
-use Rattle.tickets.specs.Row.{matches}
-use Rattle.tickets.proofs.First.{first-in, first-failed, first-from}
+use Rattle.tickets.specs.Private.Group.{matches}
+use Rattle.laws.proofs.First.{first-in, first-failed, first-from, before-first}
 use Rattle.tickets.proofs.Listed.{related-inside}
-use Rattle.pairs.specs.Sweep.{Running, Further, runningb, runEnd, stretch}
-
-module _ {A : Type 0} where
-  -- what holds of all, or of all pairs, holds from an index on
-  all-drop : (P : A → Type 0) (k : ℕ) (xs : List A) → All P xs → All P (drop k xs)
-  all-drop P zero xs h = h
-  all-drop P (suc k) [] h = tt
-  all-drop P (suc k) (x ∷ xs) h = all-drop P k xs (h .1)
-
-  pub pairs-drop : (R : A → A → Type 0) (k : ℕ) (xs : List A) → Pairs R xs → Pairs R (drop k xs)
-  pairs-drop R zero xs h = h
-  pairs-drop R (suc k) [] h = tt
-  pairs-drop R (suc k) (x ∷ xs) h = pairs-drop R k xs (h .1)
+use Rattle.tickets.specs.Ticket.{asked}
+use Rattle.pairs.specs.Private.Sweep.{Running, Further, runningb, runEnd, stretch}
 
 -- nodes that ascend after an ancestor, each fine with it
 pub record Run (a : Node) (zs : List Node) : Type 0 where
@@ -61,12 +50,12 @@ module _ (a : Node) where
       ⊎-elim (λ q. absurd (omega (arith, p))) (λ q. nested-read d a q .0) (fine-settles d a (s .span) f (p .document))
 
   pub match-append : (relation : Relation) (xs ys : List Node)
-      → matches relation Ancestor a (xs ++ ys) ≡ matches relation Ancestor a xs ++ matches relation Ancestor a ys
+      → matches (asked relation Ancestor) a (xs ++ ys) ≡ matches (asked relation Ancestor) a xs ++ matches (asked relation Ancestor) a ys
   unfolding matches
   match-append relation xs ys = keep-append _ xs ys
 
   -- nodes of which none lies inside don't match
-  match-none : (relation : Relation) (zs : List Node) → All (λ z. insideb z a ≡ false) zs → matches relation Ancestor a zs ≡ []
+  match-none : (relation : Relation) (zs : List Node) → All (λ z. insideb z a ≡ false) zs → matches (asked relation Ancestor) a zs ≡ []
   unfolding matches pairOf
   match-none relation zs h = keep-none _ zs (all-map (λ z n. not-so (λ m. never (related-inside relation _ m) n)) zs h)
 
@@ -94,12 +83,12 @@ module _ (a : Node) where
       elim (either (openb d a)) [ inl o ↦ rw o (run-rest zs (run-next d zs r)) | inr o ↦ rw o (o, later-shut d zs r o) ]
 
   -- nodes at which it isn't open don't match
-  shut-none : (relation : Relation) (zs : List Node) → All Sound zs → All (λ z. openb z a ≡ false) zs → matches relation Ancestor a zs ≡ []
+  shut-none : (relation : Relation) (zs : List Node) → All Sound zs → All (λ z. openb z a ≡ false) zs → matches (asked relation Ancestor) a zs ≡ []
   shut-none relation zs t o =
       match-none relation zs (all-both (λ z s p. not-so (λ h. never (inside-open z a (s .span) h) p)) zs t o)
 
   -- all nodes of the run lie inside
-  run-inside : (zs : List Node) → Run a zs → matches Inside Ancestor a zs ≡ take (firstAt (λ d. not (openb d a)) zs) zs
+  run-inside : (zs : List Node) → Run a zs → matches (asked Inside Ancestor) a zs ≡ take (firstAt (λ d. not (openb d a)) zs) zs
   unfolding matches relatedb pairOf keep firstAt
   run-inside [] r = refl
   run-inside (d ∷ zs) r =
@@ -120,24 +109,13 @@ module _ (a : Node) where
 
   -- no node before it matches
   pub match-after : (relation : Relation) (ds : List Node)
-      → matches relation Ancestor a (drop (firstAt (λ d. afterb d a) ds) ds) ≡ matches relation Ancestor a ds
+      → matches (asked relation Ancestor) a (drop (firstAt (λ d. afterb d a) ds) ds) ≡ matches (asked relation Ancestor) a ds
   match-after relation ds =
       let k : ℕ = firstAt (λ d. afterb d a) ds in
-      let none : matches relation Ancestor a (take k ds) ≡ [] =
+      let none : matches (asked relation Ancestor) a (take k ds) ≡ [] =
       match-none relation (take k ds) (all-map (λ d b. not-so (λ h. never (inside-after d a h) b)) (take k ds) (first-failed (λ d. afterb d a) ds)) in
-      ap (λ zs. zs ++ matches relation Ancestor a (drop k ds)) (sym none) ∙ sym (match-append relation (take k ds) (drop k ds))
-      ∙ ap (matches relation Ancestor a) (take-append-drop k ds)
-
--- an element before the first that passes a test fails it
-before-first : {A : Type 0} (test : A → Bool) (xs : List A) (i : ℕ) (d : A) → i < firstAt test xs → test (getD xs i d) ≡ false
-unfolding firstAt
-before-first test [] i d l = absurd (not-suc-le-zero l)
-before-first test (x ∷ xs) zero d l = elim (either (test x)) [ inl h ↦ absurd (not-suc-le-zero (rw h at l)) | inr h ↦ h ]
-before-first test (x ∷ xs) (suc i) d l =
-    elim (either (test x)) [
-      | inl h ↦ absurd (not-suc-le-zero (rw h at l))
-      | inr h ↦ before-first test xs i d (let m : suc i < suc (firstAt test xs) = rw h at l in omega arith)
-    ]
+      ap (λ zs. zs ++ matches (asked relation Ancestor) a (drop k ds)) (sym none) ∙ sym (match-append relation (take k ds) (drop k ds))
+      ∙ ap (matches (asked relation Ancestor) a) (take-append-drop k ds)
 
 module _ (ws : List ℕ) (a : Node) where
   pub running-run : (k : ℕ) → Running ws a k → Run a (drop k (nodes ws))
@@ -246,7 +224,7 @@ module _ (ws : List ℕ) (a : Node) where
   further-stops k m f o = sym (run-stops (m / 4) o) ∙ f .3
 
   -- from its end on nothing lies inside
-  pub none-match : (relation : Relation) (k m : ℕ) → Running ws a k → runEnd ws a k ≤ m → matches relation Ancestor a (drop m (nodes ws)) ≡ []
+  pub none-match : (relation : Relation) (k m : ℕ) → Running ws a k → runEnd ws a k ≤ m → matches (asked relation Ancestor) a (drop m (nodes ws)) ≡ []
   none-match relation k m r h =
       let zs : List Node = drop k (nodes ws) in
       let e : k + (m - k) ≡ m = omega arith in
@@ -255,13 +233,13 @@ module _ (ws : List ℕ) (a : Node) where
       let run = running-run k r in
       let rest : drop (m - k - n) (drop n zs) ≡ drop m (nodes ws) =
       drop-drop (m - k - n) n zs ∙ ap (λ i. drop i zs) f ∙ drop-drop (m - k) k (nodes ws) ∙ ap (λ i. drop i (nodes ws)) e in
-      subst (λ xs. matches relation Ancestor a xs ≡ []) rest
+      subst (λ xs. matches (asked relation Ancestor) a xs ≡ []) rest
       (shut-none a relation (drop (m - k - n) (drop n zs)) (all-drop Sound (m - k - n) (drop n zs) (all-drop Sound n zs (run .sound)))
       (all-drop _ (m - k - n) (drop n zs) (run-rest a zs run)))
 
   -- the descendants inside are those from a place to the run's end
   pub run-stretch : (from to : ℕ) → Running ws a (from / 4) → to / 4 ≡ runEnd ws a (from / 4)
-      → stretch ws from to ≡ matches Inside Ancestor a (drop (from / 4) (nodes ws))
+      → stretch ws from to ≡ matches (asked Inside Ancestor) a (drop (from / 4) (nodes ws))
   run-stretch from to r q =
       let zs : List Node = drop (from / 4) (nodes ws) in
       let width : to / 4 - from / 4 ≡ firstAt (λ d. not (openb d a)) zs = omega arith in

@@ -1,4 +1,4 @@
--- A row is served follower by follower: one that fits is stored, one that doesn't ends it, and so
+-- A group is served follower by follower: one that fits is stored, one that doesn't ends it, and so
 -- does the last. A pair stored one off, a follower skipped or a count of what fits that is one off
 -- falls here.
 use Prim.Native.Nat.{ℕ, zero, suc, _+_, _-_, _*_, _/_, _%_, _≤_, _<_, zero-le}
@@ -13,17 +13,18 @@ use lib.ListN.{length, take, drop, length-take, length-drop, take-append-drop, d
 use lib.Seq.{length-take-le, take-nil, drop-drop}
 use borrow.Author.Tests.{eq-eqb, ne-eqb, ltb-true, ltb-false, le-leb, lt-leb}
 use Rattle.nodes.specs.declared.node.Node.{Node}
-use Rattle.nodes.specs.Choose.{firstAt}
+use Rattle.laws.specs.Choose.{firstAt}
 use Rattle.nodes.specs.Words.{nodes, count, nodeAt}
-use Rattle.nodes.proofs.Tests.{either}
+use Rattle.laws.proofs.Tests.{either}
 use Rattle.nodes.proofs.WordLaws.{length-nodes, nodes-from, nodes-behind, nodes-drop, nodes-take}
-use Rattle.paging.specs.Serve.{serve, store}
+use Rattle.paging.specs.Private.Serve.{serve, store}
 use Rattle.paging.proofs.Serving.{serve-next, serve-full, serve-on, serve-length}
 use Rattle.tickets.specs.declared.ticket.Order.{Order}
 use Rattle.tickets.specs.Listing.{pairOf}
-use Rattle.tickets.specs.Row.{PAIR-WORDS, pairWords, room, row}
-use Rattle.tickets.proofs.First.{first-in}
-use Rattle.pairs.specs.Sweep.{Placed, stretch, startsFrom, fromStart, servedRow}
+use Rattle.tickets.specs.PairWords.{PAIR-WORDS, pairWords, room}
+use Rattle.tickets.specs.Private.Group.{group}
+use Rattle.laws.proofs.First.{first-in}
+use Rattle.pairs.specs.Private.Sweep.{Placed, stretch, startsFrom, fromStart, servedGroup}
 
 -- a stretch begins with the node at its first place, and is empty where that isn't before its end
 pub stretch-next : (ws : List ℕ) (from to : ℕ) → Placed ws from → Placed ws to → from < to
@@ -47,92 +48,97 @@ take-less (suc m) (suc n) (x ∷ xs) h = ap (λ ys. x ∷ ys) (take-less m n xs 
 module _ (order : Order) (x : Node) where
   -- nodes of which none finds room
   none-fit : (out : List ℕ) (n : ℕ) (ys : List Node) → room out ≤ n → 0 < length ys
-      → _≡_ {A = List ℕ × ℕ × Bool} (out, n, false) (servedRow order out n x ys)
-  unfolding row
+      → _≡_ {A = List ℕ × ℕ × Bool} (out, n, false) (servedGroup order out n x ys)
+  unfolding group
   none-fit out n [] r h = absurd (not-suc-le-zero h)
-  none-fit out n (y ∷ ys) r h = sym (serve-full pairWords PAIR-WORDS out n (pairOf order x y) (row order x ys) r)
+  none-fit out n (y ∷ ys) r h = sym (serve-full pairWords PAIR-WORDS out n (pairOf order x y) (group order x ys) r)
 
-  pub all-fit : (out : List ℕ) (n : ℕ) (ys : List Node) → ys ≡ [] → _≡_ {A = List ℕ × ℕ × Bool} (out, n, true) (servedRow order out n x ys)
-  unfolding row serve
+  pub all-fit : (out : List ℕ) (n : ℕ) (ys : List Node) → ys ≡ [] → _≡_ {A = List ℕ × ℕ × Bool} (out, n, true) (servedGroup order out n x ys)
+  unfolding group serve
   all-fit out n ys q = rw q refl
 
   module _ (ws : List ℕ) where
     -- a loop along all followers stores the next one, and ends after the last
     pub turned : (out us : List ℕ) (written k : ℕ) (y : Node) → k < count ws → y ≡ nodeAt ws k → written + k < room out
         → us ≡ store pairWords PAIR-WORDS out (written + k) (pairOf order x y)
-        → servedRow order us (written + (k + 1)) x (drop (k + 1) (nodes ws)) ≡ servedRow order out (written + k) x (drop k (nodes ws))
-    unfolding row
+        → servedGroup order us (written + (k + 1)) x (drop (k + 1) (nodes ws)) ≡ servedGroup order out (written + k) x (drop k (nodes ws))
+    unfolding group
     turned out us written k y h q r e =
         let p : written + (k + 1) ≡ written + k + 1 = omega arith in
         rw (p, nodes-from ws k h, ← q, e)
-        (sym (serve-next pairWords PAIR-WORDS out (written + k) (pairOf order x y) (row order x (drop (k + 1) (nodes ws))) r))
+        (sym (serve-next pairWords PAIR-WORDS out (written + k) (pairOf order x y) (group order x (drop (k + 1) (nodes ws))) r))
 
-    pub ended : (out : List ℕ) (n k : ℕ) → count ws ≤ k → _≡_ {A = List ℕ × ℕ × Bool} (out, n, true) (servedRow order out n x (drop k (nodes ws)))
+    pub ended : (out : List ℕ) (n k : ℕ) → count ws ≤ k → _≡_ {A = List ℕ × ℕ × Bool} (out, n, true) (servedGroup order out n x (drop k (nodes ws)))
     ended out n k h = all-fit out n (drop k (nodes ws)) (nodes-behind ws k h)
 
     module _ (from to : ℕ) (p : Placed ws from) (q : Placed ws to) where
       -- the first pair of a stretch is stored
       pub stored : (out us : List ℕ) (written : ℕ) (x₁ y : Node) → from < to → x₁ ≡ x → y ≡ nodeAt ws (from / 4) → written < room out
           → us ≡ store pairWords PAIR-WORDS out written (pairOf order x₁ y)
-          → servedRow order us (written + 1) x (stretch ws (from + 4) to) ≡ servedRow order out written x (stretch ws from to)
-      unfolding row
+          → servedGroup order us (written + 1) x (stretch ws (from + 4) to) ≡ servedGroup order out written x (stretch ws from to)
+      unfolding group
       stored out us written x₁ y h e₁ e r s =
           rw (stretch-next ws from to p q h, ← e, s, e₁)
-          (sym (serve-next pairWords PAIR-WORDS out written (pairOf order x y) (row order x (stretch ws (from + 4) to)) r))
+          (sym (serve-next pairWords PAIR-WORDS out written (pairOf order x y) (group order x (stretch ws (from + 4) to)) r))
 
       -- what is served after it is served with it
       pub continued : (t : List ℕ × ℕ × Bool) (out us : List ℕ) (written : ℕ) (x₁ x₂ y : Node)
-          → t ≡ servedRow order us (written + 1) x₂ (stretch ws (from + 4) to) → x₂ ≡ x → from < to → x₁ ≡ x → y ≡ nodeAt ws (from / 4)
+          → t ≡ servedGroup order us (written + 1) x₂ (stretch ws (from + 4) to) → x₂ ≡ x → from < to → x₁ ≡ x → y ≡ nodeAt ws (from / 4)
           → written < room out → us ≡ store pairWords PAIR-WORDS out written (pairOf order x₁ y)
-          → t ≡ servedRow order out written x (stretch ws from to)
+          → t ≡ servedGroup order out written x (stretch ws from to)
       continued t out us written x₁ x₂ y v e₂ h e₁ e r s =
-          v ∙ ap (λ z. servedRow order us (written + 1) z (stretch ws (from + 4) to)) e₂ ∙ stored out us written x₁ y h e₁ e r s
+          v ∙ ap (λ z. servedGroup order us (written + 1) z (stretch ws (from + 4) to)) e₂ ∙ stored out us written x₁ y h e₁ e r s
 
       -- it finds no room, or it was the last
       pub cut : (out : List ℕ) (written : ℕ) → from < to → room out ≤ written
-          → _≡_ {A = List ℕ × ℕ × Bool} (out, written, false) (servedRow order out written x (stretch ws from to))
+          → _≡_ {A = List ℕ × ℕ × Bool} (out, written, false) (servedGroup order out written x (stretch ws from to))
       cut out written h r = none-fit out written (stretch ws from to) r (subst (λ ys. 0 < length ys) (sym (stretch-next ws from to p q h)) (omega arith))
 
       pub none : (out : List ℕ) (written : ℕ) → to ≤ from
-          → _≡_ {A = List ℕ × ℕ × Bool} (out, written, true) (servedRow order out written x (stretch ws from to))
+          → _≡_ {A = List ℕ × ℕ × Bool} (out, written, true) (servedGroup order out written x (stretch ws from to))
       none out written h = all-fit out written (stretch ws from to) (stretch-none ws from to h)
 
   -- of a stretch as many are served as fit: all of it, or until the room is full
   module _ (zs : List Node) (out us : List ℕ) (written fit wanted : ℕ) (w : wanted ≤ length zs) (f : fit ≤ wanted)
-      (s : _≡_ {A = List ℕ × ℕ × Bool} (us, written + fit, true) (servedRow order out written x (take fit zs))) where
+      (s : _≡_ {A = List ℕ × ℕ × Bool} (us, written + fit, true) (servedGroup order out written x (take fit zs))) where
     same-room : length us ≡ length out
-    same-room = ap (λ (t : List ℕ × ℕ × Bool). length (t .0)) s ∙ serve-length pairWords PAIR-WORDS out written (row order x (take fit zs))
+    same-room = ap (λ (t : List ℕ × ℕ × Bool). length (t .0)) s ∙ serve-length pairWords PAIR-WORDS out written (group order x (take fit zs))
 
     parted : take wanted zs ≡ take fit zs ++ drop fit (take wanted zs)
     parted = sym (take-append-drop fit (take wanted zs)) ∙ ap (λ ys. ys ++ drop fit (take wanted zs)) (take-less fit wanted zs f)
 
-    served-first : servedRow order out written x (take wanted zs) ≡ servedRow order us (written + fit) x (drop fit (take wanted zs))
-    unfolding row
+    served-first : servedGroup order out written x (take wanted zs) ≡ servedGroup order us (written + fit) x (drop fit (take wanted zs))
+    unfolding group
     served-first =
-        ap (λ ys. servedRow order out written x ys) parted
+        ap (λ ys. servedGroup order out written x ys) parted
         ∙ ap (serve pairWords PAIR-WORDS out written) (map-append (pairOf order x) (take fit zs) (drop fit (take wanted zs)))
-        ∙ serve-on pairWords PAIR-WORDS out written (row order x (take fit zs)) (row order x (drop fit (take wanted zs))) us (written + fit) (sym s)
+        ∙ serve-on pairWords PAIR-WORDS out written (group order x (take fit zs)) (group order x (drop fit (take wanted zs))) us (written + fit) (sym s)
 
     left : length (drop fit (take wanted zs)) ≡ wanted - fit
     left = length-drop fit (take wanted zs) ∙ ap (λ n. n - fit) (length-take-le wanted zs w)
 
     counted : (room out - written ≤ fit) ⊎ (wanted ≤ fit)
-        → _≡_ {A = List ℕ × ℕ × Bool} (us, written + fit, eqb fit wanted) (servedRow order out written x (take wanted zs))
+        → _≡_ {A = List ℕ × ℕ × Bool} (us, written + fit, eqb fit wanted) (servedGroup order out written x (take wanted zs))
     counted g = last g (either (ltb fit wanted)) ∙ sym served-first
       where
-        all : wanted ≤ fit → _≡_ {A = List ℕ × ℕ × Bool} (us, written + fit, eqb fit wanted) (servedRow order us (written + fit) x (drop fit (take wanted zs)))
+        all : wanted ≤ fit → _≡_ {A = List ℕ × ℕ × Bool} (us, written + fit, eqb fit wanted) (servedGroup order us (written + fit) x (drop fit (take wanted zs)))
         all l =
             rw (eq-eqb fit wanted (omega arith))
             (all-fit us (written + fit) (drop fit (take wanted zs)) (drop-of-length-le (take wanted zs) {i = fit} (omega (arith, length-take-le wanted zs w))))
 
         last : (room out - written ≤ fit) ⊎ (wanted ≤ fit) → (ltb fit wanted ≡ true) ⊎ (ltb fit wanted ≡ false)
-            → _≡_ {A = List ℕ × ℕ × Bool} (us, written + fit, eqb fit wanted) (servedRow order us (written + fit) x (drop fit (take wanted zs)))
+            → _≡_ {A = List ℕ × ℕ × Bool} (us, written + fit, eqb fit wanted) (servedGroup order us (written + fit) x (drop fit (take wanted zs)))
         last (inr b) t = all b
         last (inl b) (inr l) = all (ltb-false _ _ l)
         last (inl b) (inl l) =
             let m : fit < wanted = ltb-true _ _ l in
             rw (ne-eqb fit wanted (λ o. omega arith))
             (none-fit us (written + fit) (drop fit (take wanted zs)) (omega (arith, same-room)) (omega (arith, left)))
+
+-- the followers of a group that is served may be said in another way
+pub served-as : (order : Order) (out : List ℕ) (written : ℕ) (x : Node) {ns ms : List Node} {r : List ℕ × ℕ × Bool}
+    → r ≡ servedGroup order out written x ns → ns ≡ ms → r ≡ servedGroup order out written x ms
+served-as order out written x p q = p ∙ ap (servedGroup order out written x) q
 
 -- the same of a part of the words, whose length tells how many fit
 module _ (order : Order) (x : Node) (ws : List ℕ) (from to m fit : ℕ) (p : Placed ws from) (q : Placed ws to) (h : from ≤ to) (e : m ≡ 4 * fit)
@@ -147,17 +153,18 @@ module _ (order : Order) (x : Node) (ws : List ℕ) (from to m fit : ℕ) (p : P
   part-length = length-take-le m (drop from ws) (omega (arith, length-drop from ws))
 
   pub counted-in : (out us : List ℕ) (written : ℕ)
-      → _≡_ {A = List ℕ × ℕ × Bool} (us, written + count (take m (drop from ws)), true) (servedRow order out written x (nodes (take m (drop from ws))))
+      → _≡_ {A = List ℕ × ℕ × Bool} (us, written + count (take m (drop from ws)), true) (servedGroup order out written x (nodes (take m (drop from ws))))
       → (room out - written ≤ fit) ⊎ ((to - from) / 4 ≤ fit)
-      → _≡_ {A = List ℕ × ℕ × Bool} (us, written + fit, eqb fit ((to - from) / 4)) (servedRow order out written x (stretch ws from to))
+      → _≡_ {A = List ℕ × ℕ × Bool} (us, written + fit, eqb fit ((to - from) / 4)) (servedGroup order out written x (stretch ws from to))
   counted-in out us written s g =
       let n : count (take m (drop from ws)) ≡ fit = omega (arith, part-length) in
       let w : (to - from) / 4 ≡ to / 4 - from / 4 = omega arith in
-      let t : _≡_ {A = List ℕ × ℕ × Bool} (us, written + fit, true) (servedRow order out written x (take fit (drop (from / 4) (nodes ws)))) =
-      ap (λ k. (us, written + k, true)) (sym n) ∙ s ∙ ap (λ ns. servedRow order out written x ns) part-nodes in
-      counted order x (drop (from / 4) (nodes ws)) out us written fit ((to - from) / 4)
-      (omega (arith, length-drop (from / 4) (nodes ws), length-nodes ws)) f t g
-      ∙ ap (λ k. servedRow order out written x (take k (drop (from / 4) (nodes ws)))) w
+      let t : _≡_ {A = List ℕ × ℕ × Bool} (us, written + fit, true) (servedGroup order out written x (take fit (drop (from / 4) (nodes ws)))) =
+      served-as order out written x (rw n at s) part-nodes in
+      served-as order out written x
+      (counted order x (drop (from / 4) (nodes ws)) out us written fit ((to - from) / 4)
+      (omega (arith, length-drop (from / 4) (nodes ws), length-nodes ws)) f t g)
+      (ap (λ k. take k (drop (from / 4) (nodes ws))) w)
 
 -- the first start from which on all nodes start
 pub first-zero : (ns : List Node) → firstAt (startsFrom 0) ns ≡ 0

@@ -12,34 +12,37 @@ use lib.ListN.{length, take, drop, take-append-drop}
 use lib.Seq.{drop-drop, drop-nil}
 use borrow.Author.Tests.{le-leb, leb-true}
 use Rattle.nodes.specs.declared.node.Node.{Node}
-use Rattle.nodes.specs.Answer.{TAKEN}
-use Rattle.nodes.specs.Choose.{All, Pairs, keep, firstAt}
+use Rattle.answers.specs.Answer.{TAKEN}
+use Rattle.laws.specs.Choose.{All, Pairs, keep, firstAt}
 use Rattle.nodes.specs.Node.{afterb, openb}
 use Rattle.nodes.specs.Words.{nodes, count, nodeAt}
-use Rattle.nodes.proofs.Choices.{all-map, take-all-of, keep-all-of}
+use Rattle.laws.proofs.Choices.{all-map, take-all-of, keep-all-of}
 use Rattle.nodes.proofs.NodeLaws.{after-trans, open-read}
-use Rattle.nodes.proofs.Tests.{either, not-none}
+use Rattle.laws.proofs.Tests.{either, not-none}
 use Rattle.nodes.proofs.WordLaws.{length-nodes, nodes-from}
 use Rattle.lists.specs.Check.{checkWords}
 use Rattle.lists.specs.Two.{checkTwo}
 use Rattle.lists.proofs.Pairing.{two-taken-iff}
 use Rattle.lists.proofs.Taken.{Fine, words-taken-iff}
+use Rattle.paging.specs.Private.Serve.{serve}
+use Rattle.paging.proofs.Serving.{left-on, left-stop}
 use Rattle.tickets.specs.declared.ticket.Order.the-variants.{Ancestor}
 use Rattle.tickets.specs.declared.ticket.Place.{Place}
 use Rattle.tickets.specs.declared.ticket.Relation.{Relation}
 use Rattle.tickets.specs.Listing.{relatedb, sortKey, pairOf}
-use Rattle.tickets.specs.Row.{row, matches}
-use Rattle.tickets.specs.Ticket.{spotOf}
+use Rattle.tickets.specs.Private.Group.{group, matches}
+use Rattle.tickets.specs.PairWords.{PAIR-WORDS, pairWords}
+use Rattle.tickets.specs.Ticket.{spotOf, asked}
 use Rattle.paging.specs.Page.{remains}
-use Rattle.tickets.proofs.First.{first-in, first-failed, first-from, first-earlier}
+use Rattle.laws.proofs.First.{first-in, first-failed, first-from, first-earlier}
 use Rattle.tickets.proofs.Places.{Past}
-use Rattle.tickets.proofs.Rows.{rest-of, row-past}
-use Rattle.pairs.specs.Sweep.{Placed, Running, runningb, runEnd, stretch, startsFrom, fromStart}
+use Rattle.tickets.proofs.Groups.{rest-of, group-past}
+use Rattle.pairs.specs.Private.Sweep.{Placed, Running, runningb, runEnd, stretch, startsFrom, fromStart, servedGroup}
 use Rattle.pairs.proofs.Accepted.{accepted}
 use Rattle.pairs.proofs.Children.{node-pair, even-at}
-use Rattle.pairs.proofs.Rowing.{rising, matches-rise, rest-row}
+use Rattle.pairs.proofs.ListingGroups.{rising, matches-rise, rest-group}
 use Rattle.pairs.proofs.Running.{first-after, match-append, match-after, running-run, running-from, run-stops, end-from, end-in, none-match}
-use Rattle.pairs.proofs.Stretches.{stretch-ahead, ahead-in}
+use Rattle.pairs.proofs.Stretches.{stretch-ahead, ahead-in, served-as}
 
 pairs-take : (R : Node → Node → Type 0) (n : ℕ) (xs : List Node) → Pairs R xs → Pairs R (take n xs)
 pairs-take R zero xs h = tt
@@ -67,16 +70,16 @@ keep-from test past (z ∷ zs) h =
 module _ (ws : List ℕ) (a : Node) where
   -- what matches lies in the run
   run-matches : (relation : Relation) (from to : ℕ) → Running ws a (from / 4) → to / 4 ≡ runEnd ws a (from / 4)
-      → matches relation Ancestor a (drop (from / 4) (nodes ws)) ≡ matches relation Ancestor a (stretch ws from to)
+      → matches (asked relation Ancestor) a (drop (from / 4) (nodes ws)) ≡ matches (asked relation Ancestor) a (stretch ws from to)
   run-matches relation from to r q =
       let zs : List Node = drop (from / 4) (nodes ws) in
       let n : ℕ = to / 4 - from / 4 in
       let e : from / 4 + n ≡ to / 4 = omega arith in
       let rest : drop n zs ≡ drop (to / 4) (nodes ws) = drop-drop n (from / 4) (nodes ws) ∙ ap (λ i. drop i (nodes ws)) e in
-      let none : matches relation Ancestor a (drop n zs) ≡ [] =
-      ap (matches relation Ancestor a) rest ∙ none-match ws a relation (from / 4) (to / 4) r (omega arith) in
-      ap (matches relation Ancestor a) (sym (take-append-drop n zs)) ∙ match-append a relation (take n zs) (drop n zs)
-      ∙ ap (λ ms. matches relation Ancestor a (take n zs) ++ ms) none ∙ append-nil _
+      let none : matches (asked relation Ancestor) a (drop n zs) ≡ [] =
+      ap (matches (asked relation Ancestor) a) rest ∙ none-match ws a relation (from / 4) (to / 4) r (omega arith) in
+      ap (matches (asked relation Ancestor) a) (sym (take-append-drop n zs)) ∙ match-append a relation (take n zs) (drop n zs)
+      ∙ ap (λ ms. matches (asked relation Ancestor) a (take n zs) ++ ms) none ∙ append-nil _
 
   run-rises : (from to : ℕ) → Running ws a (from / 4) → to / 4 ≡ runEnd ws a (from / 4) → Pairs (λ y z. y .start < z .start) (stretch ws from to)
   run-rises from to r q =
@@ -90,16 +93,16 @@ module _ (ws : List ℕ) (a : Node) where
   -- matches
   run-ahead : (relation : Relation) (from to ahead past : ℕ) → Running ws a (from / 4) → to / 4 ≡ runEnd ws a (from / 4)
       → Running ws a (ahead / 4) → to / 4 ≡ runEnd ws a (ahead / 4) → ahead / 4 ≡ firstAt (startsFrom past) (stretch ws from to) + from / 4
-      → matches relation Ancestor a (drop (ahead / 4) (nodes ws)) ≡ fromStart past (matches relation Ancestor a (drop (from / 4) (nodes ws)))
+      → matches (asked relation Ancestor) a (drop (ahead / 4) (nodes ws)) ≡ fromStart past (matches (asked relation Ancestor) a (drop (from / 4) (nodes ws)))
   unfolding matches
   run-ahead relation from to ahead past r q r′ q′ e =
-      run-matches relation ahead to r′ q′ ∙ ap (matches relation Ancestor a) (stretch-ahead ws from to ahead past e)
+      run-matches relation ahead to r′ q′ ∙ ap (matches (asked relation Ancestor) a) (stretch-ahead ws from to ahead past e)
       ∙ keep-from (λ n. relatedb relation (pairOf Ancestor a n)) past (stretch ws from to) (run-rises from to r q)
       ∙ ap (fromStart past) (sym (run-matches relation from to r q))
 
-  -- an ancestor that isn't open at the first descendant after it has no row
+  -- an ancestor that isn't open at the first descendant after it has no group
   pub run-none : (relation : Relation) (past from : ℕ) (x : Node) (b : Bool) → Running ws a (from / 4) → x ≡ a → b ≡ runningb ws x (from / 4) → b ≡ false
-      → fromStart past (matches relation Ancestor a (drop (from / 4) (nodes ws))) ≡ []
+      → fromStart past (matches (asked relation Ancestor) a (drop (from / 4) (nodes ws))) ≡ []
   unfolding fromStart
   run-none relation past from x b r q o n =
       let e = run-stops ws a (from / 4) (ap (λ z. runningb ws z (from / 4)) (sym q) ∙ sym o ∙ n) in
@@ -127,9 +130,14 @@ module _ (ws : List ℕ) (a : Node) where
           end-at ∙ sym (end-from ws a (from / 4) (ahead / 4) l (omega (arith, end-at))),
         )
 
-    pub ahead-row : (relation : Relation) (n : ahead % 4 ≡ 0) → ahead / 4 ≡ firstAt (startsFrom past) (stretch ws from to) + from / 4
-        → matches relation Ancestor a (drop (ahead / 4) (nodes ws)) ≡ fromStart past (matches relation Ancestor a (drop (from / 4) (nodes ws)))
-    ahead-row relation n s = let t = ahead-placed n s in run-ahead relation from to ahead past r end-at (t .1) (t .2) s
+    -- so serving what matches from there on serves what is left of what matches
+    pub serve-run : (relation : Relation) (n : ahead % 4 ≡ 0) → ahead / 4 ≡ firstAt (startsFrom past) (stretch ws from to) + from / 4
+        → (out : List ℕ) (written : ℕ) {r : List ℕ × ℕ × Bool}
+        → r ≡ servedGroup Ancestor out written a (matches (asked relation Ancestor) a (drop (ahead / 4) (nodes ws)))
+        → r ≡ servedGroup Ancestor out written a (fromStart past (matches (asked relation Ancestor) a (drop (from / 4) (nodes ws))))
+    serve-run relation n s out written h =
+        let t = ahead-placed n s in
+        served-as Ancestor out written a h (run-ahead relation from to ahead past r end-at (t .1) (t .2) s)
 
 -- a sweep along the ancestors stands at one: no descendant before an index stands after it
 abbrev pub Reached : List ℕ → List ℕ → ℕ → ℕ → Type 0
@@ -168,17 +176,28 @@ module _ (as′ ws : List ℕ) (taken : checkTwo as′ ws .answer ≡ TAKEN) whe
         rw found
         (first-earlier (λ d. afterb d (nodeAt as′ i)) (λ d. afterb d (nodeAt as′ j)) (λ d h. after-trans d (nodeAt as′ j) (nodeAt as′ i) h (fine .after)) (nodes ws))
 
-    -- what remains of this ancestor's row comes next
-    pub sweep-row : (relation : Relation) (place : Place) (past j : ℕ) → Past place past (nodeAt as′ i) → j ≡ i + 1
+    -- what remains of this ancestor's group comes next
+    sweep-group : (relation : Relation) (place : Place) (past j : ℕ) → Past place past (nodeAt as′ i) → j ≡ i + 1
         → rest-of relation Ancestor place (drop i (nodes as′)) (nodes ws)
-        ≡ row Ancestor (nodeAt as′ i) (fromStart past (matches relation Ancestor (nodeAt as′ i) (drop to (nodes ws))))
+        ≡ group Ancestor (nodeAt as′ i) (fromStart past (matches (asked relation Ancestor) (nodeAt as′ i) (drop to (nodes ws))))
         ++ rest-of relation Ancestor place (drop j (nodes as′)) (nodes ws)
     unfolding fromStart
-    sweep-row relation place past j h s =
+    sweep-group relation place past j h s =
         let x = nodeAt as′ i in
         let later = drop (i + 1) (nodes as′) in
-        let ms : List Node = matches relation Ancestor x (nodes ws) in
-        let mine : remains (sortKey Ancestor) (spotOf place) (row Ancestor x ms) ≡ row Ancestor x (drop (firstAt (startsFrom past) ms) ms) =
-        row-past Ancestor place past x ms h (matches-rise relation Ancestor x (nodes ws) (accepted as′ ws taken .fine-ds)) in
+        let ms : List Node = matches (asked relation Ancestor) x (nodes ws) in
+        let mine : remains (sortKey Ancestor) (spotOf place) (group Ancestor x ms) ≡ group Ancestor x (drop (firstAt (startsFrom past) ms) ms) =
+        group-past Ancestor place past x ms h (matches-rise relation Ancestor x (nodes ws) (accepted as′ ws taken .fine-ds)) in
         rw (s, found, match-after x relation (nodes ws), nodes-from as′ i l)
-        (rest-row relation Ancestor x place later (nodes ws) ∙ ap (λ ps. ps ++ rest-of relation Ancestor place later (nodes ws)) mine)
+        (rest-group relation Ancestor x place later (nodes ws) ∙ ap (λ ps. ps ++ rest-of relation Ancestor place later (nodes ws)) mine)
+
+    -- so a group that found room leaves those after it to serve, and one that didn't ends the page
+    pub sweep-on : (relation : Relation) (place : Place) (past j : ℕ) → Past place past (nodeAt as′ i) → j ≡ i + 1 → (out : List ℕ) (n : ℕ) {o : List ℕ} {d : ℕ} {b : Bool} {whole : List ℕ × ℕ × Bool}
+        → (o, d, b) ≡ servedGroup Ancestor out n (nodeAt as′ i) (fromStart past (matches (asked relation Ancestor) (nodeAt as′ i) (drop to (nodes ws)))) → b ≡ true
+        → serve pairWords PAIR-WORDS out n (rest-of relation Ancestor place (drop i (nodes as′)) (nodes ws)) ≡ whole → serve pairWords PAIR-WORDS o d (rest-of relation Ancestor place (drop j (nodes as′)) (nodes ws)) ≡ whole
+    sweep-on relation place past j h q out n s t e = left-on pairWords PAIR-WORDS out n _ _ s t (sweep-group relation place past j h q) e
+
+    pub sweep-stop : (relation : Relation) (place : Place) (past j : ℕ) → Past place past (nodeAt as′ i) → j ≡ i + 1 → (out : List ℕ) (n : ℕ) {o : List ℕ} {d : ℕ} {b : Bool} {whole : List ℕ × ℕ × Bool}
+        → (o, d, b) ≡ servedGroup Ancestor out n (nodeAt as′ i) (fromStart past (matches (asked relation Ancestor) (nodeAt as′ i) (drop to (nodes ws)))) → b ≡ false
+        → serve pairWords PAIR-WORDS out n (rest-of relation Ancestor place (drop i (nodes as′)) (nodes ws)) ≡ whole → (o, d, b) ≡ whole
+    sweep-stop relation place past j h q out n s t e = left-stop pairWords PAIR-WORDS out n _ _ s t (sweep-group relation place past j h q) e

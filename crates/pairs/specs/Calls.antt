@@ -3,15 +3,14 @@ use Prim.Native.Nat.{ℕ}
 use mathlib.Core.Path.{_≡_}
 use mathlib.Core.List.{List, [], _∷_, _++_}
 use lib.ListN.{take}
-use Rattle.nodes.specs.Answer.{TAKEN}
-use Rattle.nodes.specs.Choose.{In}
+use Rattle.answers.specs.Answer.{TAKEN}
+use Rattle.laws.specs.Choose.{In}
 use Rattle.nodes.specs.Words.{nodes}
 use Rattle.lists.specs.Two.{checkTwo}
-use Rattle.tickets.specs.declared.ticket.Order.{Order}
-use Rattle.tickets.specs.declared.ticket.Relation.{Relation}
 use Rattle.tickets.specs.declared.ticket.Ticket.{Ticket}
 use Rattle.tickets.specs.Listing.{Pair, listing}
-use Rattle.tickets.specs.Row.{pairsIn}
+use Rattle.tickets.specs.PairWords.{pairsIn}
+use Rattle.tickets.specs.Ticket.{Asked}
 use Rattle.pairs.specs.declared.page.Page.{Page}
 use Rattle.pairs.specs.Page.{pageOf, outputAfter}
 
@@ -26,8 +25,8 @@ abbrev pub AcceptedCall : Call → Type 0
 AcceptedCall c = checkTwo (c .ancestors) (c .descendants) .answer ≡ TAKEN
 
 -- the full listing of the two lists
-abbrev pub fullListing : Relation → Order → Call → List Pair
-fullListing relation order c = listing relation order (nodes (c .ancestors)) (nodes (c .descendants))
+abbrev pub fullListing : Asked → Call → List Pair
+fullListing ask c = listing ask (nodes (c .ancestors)) (nodes (c .descendants))
 
 -- two calls have the same lists
 abbrev pub SameLists : Call → Call → Type 0

@@ -1,5 +1,4 @@
--- What the contracts of `pairs` cite: `Page` follows document 01; `Calls` follows one listing through calls; `Sweep` is a word of private
--- functions alone.
+-- What the contracts of `pairs` cite: `Page` follows document 01; `Calls` follows one listing through calls.
 pub mod Calls
 pub mod Page
-pub mod Sweep
+pub mod Private

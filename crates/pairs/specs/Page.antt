@@ -4,19 +4,24 @@ use mathlib.Core.Bool.{Bool, false, cond}
 use mathlib.Core.List.{List, []}
 use lib.ListN.{length}
 use Rattle.nodes.specs.Words.{nodes}
-use Rattle.lists.specs.Two.{refusedb, checkTwo}
-use Rattle.paging.specs.Page.{handed, doneb, reached}
-use Rattle.nodes.specs.Written.{wordsIn, written}
+use Rattle.answers.specs.Verdict.{refusedb}
+use Rattle.lists.specs.Two.{checkTwo}
+use Rattle.paging.specs.Page.{remains, handed, doneb, reached}
+use Rattle.answers.specs.Output.{wordsIn, written}
 use Rattle.tickets.specs.declared.ticket.Place.the-variants.{After}
 use Rattle.tickets.specs.declared.ticket.Ticket.{Ticket}
 use Rattle.tickets.specs.Listing.{Pair, keyOf, sortKey, listing}
-use Rattle.tickets.specs.Row.{pairWords, room}
-use Rattle.tickets.specs.Ticket.{ticket, spotOf}
+use Rattle.tickets.specs.PairWords.{pairWords, room}
+use Rattle.tickets.specs.Ticket.{spotOf, askedBy, ticketAt}
 use Rattle.pairs.specs.declared.page.Page.{Page}
 
 -- the full listing that a ticket asks for
 abbrev pub listingOf : Ticket → List ℕ → List ℕ → List Pair
-listingOf t ancestors descendants = listing (t .relation) (t .order) (nodes ancestors) (nodes descendants)
+listingOf t ancestors descendants = listing (askedBy t) (nodes ancestors) (nodes descendants)
+
+-- what remains of it past the ticket's place
+abbrev pub remaining : Ticket → List ℕ → List ℕ → List Pair
+remaining t ancestors descendants = remains (sortKey (t .order)) (spotOf (t .place)) (listingOf t ancestors descendants)
 
 -- one call: its two lists, its ticket and its output
 module _ (ancestors descendants : List ℕ) (t : Ticket) (out : List ℕ) where
@@ -34,7 +39,7 @@ module _ (ancestors descendants : List ℕ) (t : Ticket) (out : List ℕ) where
 
   -- the ticket that comes back: its place is the key of the last pair written, or the old place when none was
   unfoldable pub ticketAfter : Ticket
-  ticketAfter = ticket (t .relation) (t .order) (reached (λ p. After (keyOf (t .order) p)) (t .place) handedOut)
+  ticketAfter = ticketAt (askedBy t) (reached (λ p. After (keyOf (t .order) p)) (t .place) handedOut)
 
   -- the answer
   unfoldable pub pageOf : Page

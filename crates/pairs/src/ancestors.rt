@@ -1,16 +1,16 @@
 // The listing in ancestor order: each ancestor in turn with the run of descendants that start in
 // it.
-use crate::rows::Handed;
-use crate::rows::first_from;
-use crate::rows::node_from;
-use crate::rows::pair_with_descendants;
+use crate::groups::Handed;
+use crate::groups::first_from;
+use crate::groups::node_from;
+use crate::groups::pair_with_descendants;
 use nodes::node::NODE_WORDS;
 use nodes::node::Node;
 use nodes::node::is_after;
 use nodes::node::is_open;
 use nodes::node::node_at;
-use tickets::row::past_from;
-use tickets::row::served_count;
+use tickets::leader::past_from;
+use tickets::leader::served_count;
 use tickets::ticket::Order;
 use tickets::ticket::Place;
 use tickets::ticket::Relation;
@@ -18,12 +18,13 @@ ghost use mathlib.Core.Path.{_≡_};
 ghost use mathlib.Core.Bool.{true};
 ghost use Prim.Native.Nat.{ℕ, _+_, _/_, _%_, _≤_, _<_};
 ghost use lib.ListN.{length, drop};
-ghost use Rattle.nodes.specs.Answer.{TAKEN};
-ghost use Rattle.nodes.specs.Choose.{firstAt};
+ghost use Rattle.answers.specs.Answer.{TAKEN};
+ghost use Rattle.laws.specs.Choose.{firstAt};
 ghost use Rattle.nodes.specs.Node.{afterb, insideb};
 ghost use Rattle.nodes.specs.Words.{NODE-WORDS, nodes, count, nodeAt};
 ghost use Rattle.lists.specs.Two.{checkTwo};
-ghost use Rattle.pairs.specs.Sweep.{Placed, Running, Further, runningb, runEnd, RunFrom, matchesFrom, fromStart, servedRow, servedAll};
+ghost use Rattle.pairs.specs.Private.Sweep.{Placed, Running, Further, runningb, runEnd, RunFrom, matchesFrom, fromStart, servedGroup, servedAll};
+ghost use Rattle.tickets.specs.Ticket.{asked};
 
 // How many words further on the search for the end of a run looks: eight descendants.
 const STRIDE: usize = 8 * NODE_WORDS;
@@ -198,7 +199,7 @@ fn hand_children(
 ) -> Handed
     requires { ⌜ RunFrom (now ancestors) i (now descendants) from to ⌝ }
     ensures { λ r. ⌜ (now (out .exit), r .count, r .done)
-        ≡ servedRow Order.Ancestor (now (out .entry)) written (nodeAt (now (ancestors .entry)) (i / NODE-WORDS))
+        ≡ servedGroup Order.Ancestor (now (out .entry)) written (nodeAt (now (ancestors .entry)) (i / NODE-WORDS))
         (matchesFrom Relation.Directly (now (ancestors .entry)) i (now (descendants .entry)) from) ⌝ }
 {
     let mut handed = Handed {
@@ -246,7 +247,7 @@ fn hand_run(
 ) -> Handed
     requires { ⌜ RunFrom (now ancestors) i (now descendants) from to ⌝ }
     ensures { λ r. ⌜ (now (out .exit), r .count, r .done)
-        ≡ servedRow Order.Ancestor (now (out .entry)) written (nodeAt (now (ancestors .entry)) (i / NODE-WORDS))
+        ≡ servedGroup Order.Ancestor (now (out .entry)) written (nodeAt (now (ancestors .entry)) (i / NODE-WORDS))
         (matchesFrom relation (now (ancestors .entry)) i (now (descendants .entry)) from) ⌝ }
 {
     match relation {
@@ -280,7 +281,7 @@ fn hand_ancestor(
         × Placed (now descendants) from × (guess % NODE-WORDS ≡ 0)
         × Running (now descendants) (nodeAt (now ancestors) (i / NODE-WORDS)) (from / NODE-WORDS) ⌝ }
     ensures { λ r. ⌜ (r .guess % NODE-WORDS ≡ 0) × ((now (out .exit), r .handed .count, r .handed .done)
-        ≡ servedRow Order.Ancestor (now (out .entry)) written (nodeAt (now (ancestors .entry)) (i / NODE-WORDS))
+        ≡ servedGroup Order.Ancestor (now (out .entry)) written (nodeAt (now (ancestors .entry)) (i / NODE-WORDS))
         (fromStart past (matchesFrom relation (now (ancestors .entry)) i (now (descendants .entry)) from))) ⌝ }
 {
     let ancestor = node_from(ancestors, i);
@@ -322,7 +323,7 @@ pub(crate) fn sweep_ancestors(
     out: &mut [u32],
 ) -> Handed
     requires { ⌜ checkTwo (now ancestors) (now descendants) .answer ≡ TAKEN ⌝ }
-    ensures { λ r. ⌜ (now (out .exit), r .count, r .done) ≡ servedAll relation Order.Ancestor place
+    ensures { λ r. ⌜ (now (out .exit), r .count, r .done) ≡ servedAll (asked relation Order.Ancestor) place
         (now (out .entry)) (now (ancestors .entry)) (now (descendants .entry)) ⌝ }
 {
     let first = served_count(place, ancestors);

@@ -1,17 +1,17 @@
 // The listing in descendant order: each descendant in turn with the ancestors that are open at it.
+use crate::groups::Handed;
+use crate::groups::first_from;
+use crate::groups::node_from;
+use crate::groups::pair_with_ancestors;
 use crate::open::STACK_WORDS;
 use crate::open::open_before;
 use crate::open::still_open;
-use crate::rows::Handed;
-use crate::rows::first_from;
-use crate::rows::node_from;
-use crate::rows::pair_with_ancestors;
 use nodes::node::NODE_WORDS;
 use nodes::node::Node;
 use nodes::node::is_one_deeper;
 use nodes::node::node_at;
-use tickets::row::past_from;
-use tickets::row::served_count;
+use tickets::leader::past_from;
+use tickets::leader::served_count;
 use tickets::ticket::Order;
 use tickets::ticket::Place;
 use tickets::ticket::Relation;
@@ -19,12 +19,13 @@ ghost use mathlib.Core.Path.{_≡_};
 ghost use mathlib.Core.List.{reverse};
 ghost use Prim.Native.Nat.{_/_, _%_, _≤_, _<_};
 ghost use lib.ListN.{length};
-ghost use Rattle.nodes.specs.Answer.{TAKEN};
+ghost use Rattle.answers.specs.Answer.{TAKEN};
 ghost use Rattle.nodes.specs.Words.{NODE-WORDS, nodeAt};
 ghost use Rattle.lists.specs.Two.{checkTwo};
-ghost use Rattle.lists.specs.Walk.{opened, Chain, Upon, Fits};
-ghost use Rattle.tickets.specs.Row.{matches};
-ghost use Rattle.pairs.specs.Sweep.{Placed, stretch, fromStart, servedRow, servedAll};
+ghost use Rattle.lists.specs.Private.Walk.{opened, Chain, Upon, Fits};
+ghost use Rattle.tickets.specs.Private.Group.{matches};
+ghost use Rattle.tickets.specs.Ticket.{asked};
+ghost use Rattle.pairs.specs.Private.Sweep.{Placed, stretch, fromStart, servedGroup, servedAll};
 
 // Returns the word of the stack from which on the ancestors have the relation with a descendant
 // that lies inside all of them. Directly inside it can only lie in the innermost, as the levels
@@ -32,7 +33,7 @@ ghost use Rattle.pairs.specs.Sweep.{Placed, stretch, fromStart, servedRo
 fn first_match(relation: Relation, stack: &[u32], used: usize, descendant: Node) -> usize
     requires { ⌜ Placed (now stack) used × Chain (opened used (now stack)) × Upon descendant (opened used (now stack)) ⌝ }
     ensures { λ r. ⌜ (r % NODE-WORDS ≡ 0) × (r ≤ used)
-        × (reverse (matches relation Order.Descendant descendant (opened used (now (stack .entry)))) ≡ stretch (now (stack .entry)) r used) ⌝ }
+        × (reverse (matches (asked relation Order.Descendant) descendant (opened used (now (stack .entry)))) ≡ stretch (now (stack .entry)) r used) ⌝ }
 {
     match relation {
         Relation::Inside => 0,
@@ -63,8 +64,8 @@ fn hand_descendant(
     requires { ⌜ Placed (now descendants) at × (at < length (now descendants)) × Fits used
         × Chain (opened used (now stack)) × Upon (nodeAt (now descendants) (at / NODE-WORDS)) (opened used (now stack)) ⌝ }
     ensures { λ r. ⌜ (now (out .exit), r .count, r .done)
-        ≡ servedRow Order.Descendant (now (out .entry)) written (nodeAt (now (descendants .entry)) (at / NODE-WORDS))
-        (fromStart past (reverse (matches relation Order.Descendant (nodeAt (now (descendants .entry)) (at / NODE-WORDS))
+        ≡ servedGroup Order.Descendant (now (out .entry)) written (nodeAt (now (descendants .entry)) (at / NODE-WORDS))
+        (fromStart past (reverse (matches (asked relation Order.Descendant) (nodeAt (now (descendants .entry)) (at / NODE-WORDS))
         (opened used (now (stack .entry)))))) ⌝ }
 {
     let from = first_match(relation, stack, used, node_from(descendants, at));
@@ -84,7 +85,7 @@ pub(crate) fn sweep_descendants(
     out: &mut [u32],
 ) -> Handed
     requires { ⌜ checkTwo (now ancestors) (now descendants) .answer ≡ TAKEN ⌝ }
-    ensures { λ r. ⌜ (now (out .exit), r .count, r .done) ≡ servedAll relation Order.Descendant place
+    ensures { λ r. ⌜ (now (out .exit), r .count, r .done) ≡ servedAll (asked relation Order.Descendant) place
         (now (out .entry)) (now (ancestors .entry)) (now (descendants .entry)) ⌝ }
 {
     let mut stack = [0u32; STACK_WORDS];

@@ -1,6 +1,6 @@
 // A page of the full listing of two lists, in either order.
 mod ancestors;
 mod descendants;
+mod groups;
 mod open;
 pub mod page;
-mod rows;

@@ -1,7 +1,8 @@
 // The ancestors that are open where a sweep along the descendants stands. They lie on a stack, the
 // innermost on top; each lies inside the one below it and has a higher level, so there are never
 // more of them than levels.
-use crate::rows::node_from;
+use crate::groups::node_from;
+use crate::groups::put_words;
 use nodes::node::MOST_LEVELS;
 use nodes::node::NODE_WORDS;
 use nodes::node::Node;
@@ -10,15 +11,15 @@ use nodes::node::is_open;
 ghost use mathlib.Core.Path.{_≡_};
 ghost use mathlib.Core.Bool.{true, false, cond};
 ghost use mathlib.Core.List.{_∷_};
-ghost use Prim.Native.Nat.{_/_, _≤_, _<_};
-ghost use lib.ListN.{length, drop};
-ghost use Rattle.nodes.specs.Answer.{TAKEN};
-ghost use Rattle.nodes.specs.Choose.{All};
+ghost use Prim.Native.Nat.{_/_, _≤_};
+ghost use lib.ListN.{drop};
+ghost use Rattle.answers.specs.Answer.{TAKEN};
+ghost use Rattle.laws.specs.Choose.{All};
 ghost use Rattle.nodes.specs.Node.{afterb, openb, MOST-LEVELS};
-ghost use Rattle.nodes.specs.Words.{NODE-WORDS, nodes, putNode};
+ghost use Rattle.nodes.specs.Words.{NODE-WORDS, nodes};
 ghost use Rattle.lists.specs.Check.{checkWords};
-ghost use Rattle.lists.specs.Walk.{opened, unended, Chain, Fits};
-ghost use Rattle.pairs.specs.Sweep.{Placed, Opening};
+ghost use Rattle.lists.specs.Private.Walk.{opened, unended, Chain, Fits};
+ghost use Rattle.pairs.specs.Private.Sweep.{Opening};
 
 // The stack's words.
 pub(crate) const STACK_WORDS: usize = NODE_WORDS * MOST_LEVELS;
@@ -28,17 +29,6 @@ pub(crate) const STACK_WORDS: usize = NODE_WORDS * MOST_LEVELS;
 pub(crate) struct Opened {
     pub used: usize,
     pub passed: usize,
-}
-
-// Writes the ancestor at the word `used` of the stack.
-fn put_open(stack: &mut [u32], used: usize, ancestor: Node)
-    requires { ⌜ Placed (now stack) used × (used < length (now stack)) ⌝ }
-    ensures { λ r. ⌜ now (stack .exit) ≡ putNode (now (stack .entry)) (used / NODE-WORDS) ancestor ⌝ }
-{
-    stack[used] = ancestor.document;
-    stack[used + 1] = ancestor.start;
-    stack[used + 2] = ancestor.end;
-    stack[used + 3] = ancestor.level;
 }
 
 // Returns how many words of the stack are left once the ancestors on top that ended before the node
@@ -69,7 +59,7 @@ fn open_next(stack: &mut [u32; STACK_WORDS], used: usize, ancestor: Node, descen
     if !is_open(descendant, ancestor) {
         return used;
     }
-    put_open(stack, used, ancestor);
+    put_words(stack, used, ancestor);
     used + NODE_WORDS
 }
 

@@ -1,10 +1,11 @@
 // A page of a listing.
 use crate::ancestors::sweep_ancestors;
 use crate::descendants::sweep_descendants;
-use crate::rows::Handed;
+use crate::groups::Handed;
+use answers::answer::TAKEN;
+use answers::verdict::Verdict;
+use answers::verdict::without_node;
 use lists::two::check_two;
-use lists::verdict::Verdict;
-use nodes::answer::TAKEN;
 use nodes::node::node_at;
 use tickets::ticket::Key;
 use tickets::ticket::Order;
@@ -12,13 +13,13 @@ use tickets::ticket::Place;
 use tickets::ticket::Ticket;
 ghost use mathlib.Core.Path.{_≡_};
 ghost use Prim.Native.Nat.{_≤_};
-ghost use Rattle.nodes.specs.Answer.{TAKEN};
+ghost use Rattle.answers.specs.Answer.{TAKEN};
 ghost use Rattle.nodes.specs.Words.{nodes};
 ghost use Rattle.lists.specs.Two.{checkTwo};
-ghost use Rattle.tickets.specs.Row.{room};
-ghost use Rattle.tickets.specs.Ticket.{ticket};
+ghost use Rattle.tickets.specs.PairWords.{room};
+ghost use Rattle.tickets.specs.Ticket.{askedBy, ticketAt};
 ghost use Rattle.pairs.specs.Page.{pageOf, outputAfter};
-ghost use Rattle.pairs.specs.Sweep.{keyIn, placeIn, servedAll};
+ghost use Rattle.pairs.specs.Private.Sweep.{keyIn, placeReached, servedAll};
 
 // What a page call answers: the verdict on its two lists, how many pairs it wrote, whether that was
 // all that remained, and the ticket for the next page.
@@ -32,7 +33,7 @@ pub struct Page {
 // What remains of the listing that a ticket asks for is handed out, as much as fits.
 fn sweep(ancestors: &[u32], descendants: &[u32], ticket: Ticket, out: &mut [u32]) -> Handed
     requires { ⌜ checkTwo (now ancestors) (now descendants) .answer ≡ TAKEN ⌝ }
-    ensures { λ r. ⌜ (now (out .exit), r .count, r .done) ≡ servedAll (ticket .relation) (ticket .order) (ticket .place)
+    ensures { λ r. ⌜ (now (out .exit), r .count, r .done) ≡ servedAll (askedBy ticket) (ticket .place)
         (now (out .entry)) (now (ancestors .entry)) (now (descendants .entry)) ⌝ }
 {
     let relation = ticket.relation;
@@ -65,11 +66,11 @@ fn key_at(order: Order, out: &[u32], index: usize) -> Key
     }
 }
 
-// The ticket after so many pairs were written: its place is the key of the last of them, or the old
-// place when there was none.
+// Returns the ticket after `count` pairs were written: its place is the key of the last of them, or
+// the old place when there was none.
 fn ticket_after(old: Ticket, out: &[u32], count: usize) -> Ticket
     requires { ⌜ count ≤ room (now out) ⌝ }
-    ensures { λ r. ⌜ r ≡ ticket (old .relation) (old .order) (placeIn (old .order) (old .place) (nodes (now (out .entry))) count) ⌝ }
+    ensures { λ r. ⌜ r ≡ ticketAt (askedBy old) (placeReached (old .order) (old .place) (nodes (now (out .entry))) count) ⌝ }
 {
     if count == 0 {
         return old;
@@ -84,9 +85,9 @@ fn ticket_after(old: Ticket, out: &[u32], count: usize) -> Ticket
     }
 }
 
-// The caller gets the next page of a listing: the first pairs past the ticket's place, as many as
-// the output holds, and a ticket for what is left. A call whose lists are refused hands out
-// nothing, returns its ticket and alters no word of the output.
+// Returns the next page of a listing: the first pairs past the ticket's place, as many as the
+// output holds, and a ticket for what is left. A call whose lists are refused hands out nothing,
+// returns its ticket and alters no word of the output.
 pub fn next_page(ancestors: &[u32], descendants: &[u32], ticket: Ticket, out: &mut [u32]) -> Page
     ensures { λ r. ⌜ (r ≡ pageOf (now (ancestors .entry)) (now (descendants .entry)) ticket (now (out .entry)))
         × (now (out .exit) ≡ outputAfter (now (ancestors .entry)) (now (descendants .entry)) ticket (now (out .entry))) ⌝ }
@@ -102,7 +103,7 @@ pub fn next_page(ancestors: &[u32], descendants: &[u32], ticket: Ticket, out: &m
     }
     let handed = sweep(ancestors, descendants, ticket, out);
     Page {
-        verdict: verdict,
+        verdict: without_node(TAKEN),
         count: handed.count,
         done: handed.done,
         ticket: ticket_after(ticket, out, handed.count),

@@ -9,26 +9,28 @@ use native.Mathlib.Omega.{arith}
 use lib.Dec.{ltb, eqb}
 use lib.ListN.{length}
 use borrow.Author.Tests.{eq-eqb, eqb-false}
-use Rattle.nodes.specs.Answer.{TAKEN, LONG}
-use Rattle.nodes.specs.Choose.{All}
+use Rattle.answers.specs.Answer.{TAKEN, LONG}
+use Rattle.laws.specs.Choose.{All}
 use Rattle.nodes.specs.Words.{nodes}
-use Rattle.nodes.specs.Written.{wordsIn}
-use Rattle.nodes.proofs.Tests.{either}
-use Rattle.lists.specs.Two.{refusedb, checkTwo}
+use Rattle.answers.specs.Output.{wordsIn}
+use Rattle.laws.proofs.Tests.{either}
+use Rattle.answers.specs.Verdict.{refusedb}
+use Rattle.lists.specs.Two.{checkTwo}
 use Rattle.tickets.specs.declared.ticket.Order.the-variants.{Descendant}
 use Rattle.tickets.specs.declared.ticket.Relation.the-variants.{Inside}
 use Rattle.tickets.specs.declared.ticket.Ticket.{Ticket}
 use Rattle.tickets.specs.Listing.{Pair, listing}
-use Rattle.tickets.specs.Ticket.{freshTicket}
+use Rattle.tickets.specs.Ticket.{freshTicket, asked}
 use Rattle.pairs.specs.Calls.{Call, SameLists, answer, ticketThrough, shownThrough}
 use Rattle.pairs.proofs.Unaltered.{whole-through}
 use Rattle.books.specs.Find.{verdictAt}
 use Rattle.lines.specs.Line.{pairLine, totalLine}
-use Rattle.printing.specs.Print.{MOST-BYTES, listAt, printedAnswer, listingIn, printed}
+use Rattle.printing.specs.Print.{MOST-BYTES, printedAnswer, listingIn, printed}
+use Rattle.books.specs.Book.{listAt}
 
 -- the ticket that the program starts with
 abbrev first : Ticket
-first = freshTicket Inside Descendant
+first = freshTicket (asked Inside Descendant)
 
 module _ (book : List ℕ) (good : printedAnswer book ≡ TAKEN) where
   -- then the two lists are accepted together
@@ -55,5 +57,5 @@ module _ (book : List ℕ) (good : printedAnswer book ≡ TAKEN) where
     pages-printed =
         let a = ap (λ xs. checkTwo xs (c .descendants) .answer) one ∙ ap (λ ys. checkTwo (listAt book 0) ys .answer) two ∙ lists-taken in
         let whole : shown ≡ listingIn book =
-        whole-through Inside Descendant c a cs same done ∙ λ i. listing Inside Descendant (nodes (one i)) (nodes (two i)) in
+        whole-through (asked Inside Descendant) c a cs same done ∙ λ i. listing (asked Inside Descendant) (nodes (one i)) (nodes (two i)) in
         rw (eq-eqb (printedAnswer book) TAKEN good) (ap (λ ps. wordsIn pairLine ps ++ totalLine (length ps)) whole)

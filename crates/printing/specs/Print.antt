@@ -4,16 +4,16 @@ use mathlib.Core.Bool.{cond}
 use mathlib.Core.List.{List, _++_}
 use lib.Dec.{ltb, eqb}
 use lib.ListN.{length}
-use Rattle.nodes.specs.Answer.{TAKEN, LONG}
+use Rattle.answers.specs.Answer.{TAKEN, LONG}
 use Rattle.nodes.specs.Words.{nodes}
-use Rattle.nodes.specs.Written.{wordsIn}
-use Rattle.numbers.specs.Little.{numbers}
-use Rattle.contents.specs.Contents.{entryAt}
-use Rattle.lists.specs.Two.{refusedb, checkTwo}
+use Rattle.answers.specs.Output.{wordsIn}
+use Rattle.answers.specs.Verdict.{refusedb}
+use Rattle.lists.specs.Two.{checkTwo}
 use Rattle.tickets.specs.declared.ticket.Order.the-variants.{Descendant}
 use Rattle.tickets.specs.declared.ticket.Relation.the-variants.{Inside}
 use Rattle.tickets.specs.Listing.{Pair, listing}
-use Rattle.books.specs.Book.{bodyOf}
+use Rattle.tickets.specs.Ticket.{asked}
+use Rattle.books.specs.Book.{listAt}
 use Rattle.books.specs.Find.{verdictAt}
 use Rattle.lines.specs.Line.{pairLine, totalLine, refusalLine}
 
@@ -25,10 +25,6 @@ MOST-BYTES = 61440
 abbrev pub PAGE-PAIRS : ℕ
 PAGE-PAIRS = 4096
 
--- the words of the list at a place of a book
-unfoldable pub listAt : List ℕ → ℕ → List ℕ
-listAt book position = numbers (bodyOf book (entryAt book position))
-
 -- LONG, the book's own answer, ABSENT for fewer than two lists, JOINT
 unfoldable pub printedAnswer : List ℕ → ℕ
 printedAnswer book =
@@ -38,7 +34,7 @@ printedAnswer book =
 
 -- the full listing of the first list and the second: relation inside, descendant order
 unfoldable pub listingIn : List ℕ → List Pair
-listingIn book = listing Inside Descendant (nodes (listAt book 0)) (nodes (listAt book 1))
+listingIn book = listing (asked Inside Descendant) (nodes (listAt book 0)) (nodes (listAt book 1))
 
 -- what the program prints, whole: a line for each pair and then their number, or a refusal's one line
 unfoldable pub printed : List ℕ → List ℕ

@@ -1,4 +1,5 @@
 // A listing is printed page by page.
+use answers::answer::TAKEN;
 use io::write_all;
 use libc::STDOUT_FILENO;
 use lines::line::LINE_BYTES;
@@ -6,24 +7,28 @@ use lines::line::NOTE_BYTES;
 use lines::line::put_lines;
 use lines::line::put_refusal;
 use lines::line::put_total;
-use nodes::answer::TAKEN;
 use numbers::part::part_of;
 use pairs::page::Page;
 use pairs::page::next_page;
-use tickets::row::PAIR_WORDS;
+use tickets::leader::PAIR_WORDS;
 use tickets::ticket::Order;
 use tickets::ticket::Relation;
 use tickets::ticket::Ticket;
 use tickets::ticket::fresh;
 ghost use mathlib.Core.Path.{_≡_};
-ghost use Prim.Native.Nat.{_*_, _≤_};
+ghost use mathlib.Core.Bool.{true, false};
+ghost use Prim.Native.Nat.{_*_, _≤_, _<_};
 ghost use lib.ListN.{length, take};
-ghost use Rattle.nodes.specs.Written.{wordsIn};
+ghost use Rattle.nodes.specs.Words.{nodes};
+ghost use Rattle.answers.specs.Output.{wordsIn};
 ghost use Rattle.lists.specs.Two.{checkTwo};
-ghost use Rattle.tickets.specs.Row.{room};
+ghost use Rattle.tickets.specs.declared.ticket.Order.the-variants.{Descendant};
+ghost use Rattle.tickets.specs.declared.ticket.Relation.the-variants.{Inside};
+ghost use Rattle.tickets.specs.Listing.{listing};
+ghost use Rattle.tickets.specs.PairWords.{room};
+ghost use Rattle.tickets.specs.Ticket.{asked};
 ghost use Rattle.pairs.specs.Page.{handedOut, pageOf};
 ghost use Rattle.lines.specs.Line.{LINE-BYTES, pairLine};
-ghost use Rattle.printing.specs.Print.{PAGE-PAIRS};
 
 // How many pairs are printed at a time: a full page is written in one block of 24 to 135 thousand
 // bytes. Each page checks both lists again, so larger ones cost less; but their buffers are cleared
@@ -31,17 +36,20 @@ ghost use Rattle.printing.specs.Print.{PAGE-PAIRS};
 // program.
 const PAGE_PAIRS: usize = 4096;
 
-// A proved loop has to end. No run uses that many pages: a listing of 4,096 descendants in 63
-// ancestors each has 63.
-const MOST_PAGES: u64 = 4294967295;
-
 // A page of a listing, and how many bytes its lines have.
 struct Lines {
     page: Page,
     bytes: usize,
 }
 
-// The line of a refusal is printed, and the answer handed back.
+// What was printed of a listing: the answer, and whether all pairs were, with their number.
+struct Printed {
+    answer: u32,
+    count: u64,
+    whole: bool,
+}
+
+// Prints the line of a refusal, and returns its answer.
 pub(crate) fn print_refusal(answer: u32) -> u32
     ensures { λ r. ⌜ r ≡ answer ⌝ }
 {
@@ -51,14 +59,15 @@ pub(crate) fn print_refusal(answer: u32) -> u32
     answer
 }
 
-// The last line is printed.
+// Prints the last line, with the number of all pairs.
 fn print_total(count: u64) {
     let mut text = [0u8; NOTE_BYTES];
     let bytes = put_total(count, &mut text);
     write_all(STDOUT_FILENO, part_of(&text[0..NOTE_BYTES], 0, bytes));
 }
 
-// The next page of the listing is made, and the text begins with the lines of just those pairs that it hands out.
+// Makes the next page of the listing. The text then begins with the lines of just those pairs that
+// it hands out.
 fn make_lines(
     ancestors: &[u32],
     descendants: &[u32],
@@ -81,37 +90,65 @@ fn make_lines(
     }
 }
 
-// The pages of two lists are printed one after the other, each made in the two buffers, or their refusal, and the answer handed back. It stops where
-// standard output can't be written.
-fn print_all(ancestors: &[u32], descendants: &[u32], out: &mut [u32], text: &mut [u8]) -> u32
-    requires { ⌜ (room (now out) ≤ PAGE-PAIRS) × (LINE-BYTES * room (now out) ≤ length (now text)) ⌝ }
-    ensures { λ r. ⌜ r ≡ checkTwo (now (ancestors .entry)) (now (descendants .entry)) .answer ⌝ }
+// Returns the answer of a listing of which not all pairs were printed.
+fn stopped(answer: u32) -> Printed
+    ensures { λ r. ⌜ (r .answer ≡ answer) × (r .whole ≡ false) ⌝ }
+{
+    Printed {
+        answer: answer,
+        count: 0,
+        whole: false,
+    }
+}
+
+// Prints the lines of all pairs of two lists, page by page, each made in the two buffers. Stops at
+// a refusal, and where standard output can't be written. Once all pairs are printed, the count is
+// their number.
+fn print_pairs(ancestors: &[u32], descendants: &[u32], out: &mut [u32], text: &mut [u8]) -> Printed
+    requires { ⌜ (0 < room (now out)) × (LINE-BYTES * room (now out) ≤ length (now text)) ⌝ }
+    ensures { λ r. ⌜ (r .answer ≡ checkTwo (now (ancestors .entry)) (now (descendants .entry)) .answer)
+        × (r .whole ≡ true → r .count ≡ length (listing (asked Inside Descendant) (nodes (now (ancestors .entry))) (nodes (now (descendants .entry))))) ⌝ }
 {
     let mut ticket = fresh(Relation::Inside, Order::Descendant);
     let mut count = 0u64;
-    let mut pages = 0u64;
-    while pages < MOST_PAGES {
+    loop {
         let lines = make_lines(ancestors, descendants, ticket, out, text);
         let page = lines.page;
         let verdict = page.verdict;
         if verdict.answer != TAKEN {
-            return print_refusal(verdict.answer);
+            return stopped(verdict.answer);
         }
         if !write_all(STDOUT_FILENO, part_of(text, 0, lines.bytes)) {
-            return TAKEN;
+            return stopped(TAKEN);
         }
         count += page.count as u64;
         if page.done {
-            print_total(count);
-            return TAKEN;
+            return Printed {
+                answer: TAKEN,
+                count: count,
+                whole: true,
+            };
         }
         ticket = page.ticket;
-        pages += 1;
+    }
+}
+
+// Prints the pairs of two lists and their number, or the refusal, and returns the answer.
+fn print_all(ancestors: &[u32], descendants: &[u32], out: &mut [u32], text: &mut [u8]) -> u32
+    requires { ⌜ (0 < room (now out)) × (LINE-BYTES * room (now out) ≤ length (now text)) ⌝ }
+    ensures { λ r. ⌜ r ≡ checkTwo (now (ancestors .entry)) (now (descendants .entry)) .answer ⌝ }
+{
+    let printed = print_pairs(ancestors, descendants, out, text);
+    if printed.answer != TAKEN {
+        return print_refusal(printed.answer);
+    }
+    if printed.whole {
+        print_total(printed.count);
     }
     TAKEN
 }
 
-// The pairs of two lists are printed, or JOINT or whatever else refuses them, and the answer handed back.
+// Prints the pairs of two lists, or JOINT or whatever else refuses them, and returns the answer.
 pub(crate) fn print_pages(ancestors: &[u32], descendants: &[u32]) -> u32
     ensures { λ r. ⌜ r ≡ checkTwo (now (ancestors .entry)) (now (descendants .entry)) .answer ⌝ }
 {

@@ -1,20 +1,21 @@
 // What is printed of a book.
 use crate::pages::print_pages;
 use crate::pages::print_refusal;
-use books::find::find_list;
-use nodes::answer::LONG;
-use nodes::answer::TAKEN;
+use answers::answer::ABSENT;
+use answers::answer::LONG;
+use answers::answer::TAKEN;
+use books::book::check_book;
+use contents::entry::entry_at;
+use joins::copy::copy_lists;
 use nodes::node::MOST_NODES;
 use nodes::node::NODE_WORDS;
-use numbers::little::NUMBER_BYTES;
-use numbers::part::copy_numbers;
-use numbers::part::part_of;
 ghost use mathlib.Core.Path.{_≡_};
-ghost use Prim.Native.Nat.{_≤_};
-ghost use lib.ListN.{length};
-ghost use Rattle.numbers.specs.Little.{numbers};
+ghost use Prim.Native.Nat.{_<_};
+ghost use Rattle.answers.specs.Answer.{TAKEN};
+ghost use Rattle.contents.specs.Contents.{listsIn};
 ghost use Rattle.lists.specs.Two.{checkTwo};
-ghost use Rattle.printing.specs.Print.{MOST-BYTES, printedAnswer};
+ghost use Rattle.books.specs.Book.{bookVerdict, listAt};
+ghost use Rattle.printing.specs.Print.{printedAnswer};
 
 // The most bytes of the program's input.
 pub const MOST_BYTES: usize = 61440;
@@ -22,38 +23,38 @@ pub const MOST_BYTES: usize = 61440;
 // The words that the longest list has.
 const LIST_WORDS: usize = NODE_WORDS * MOST_NODES;
 
-// The pairs of two lists that lie in bytes are printed, or their refusal, and the answer handed back. The page call takes words, so the two lists
-// are copied, each once.
-fn print_lists(first: &[u8], second: &[u8]) -> u32
-    requires { ⌜ (length (now first) ≤ MOST-BYTES) × (length (now second) ≤ MOST-BYTES) ⌝ }
-    ensures { λ r. ⌜ r ≡ checkTwo (numbers (now (first .entry))) (numbers (now (second .entry))) .answer ⌝ }
+// Prints the pairs of the first two lists of a checked book, or their refusal, and returns the
+// answer. The page call takes words, so the two lists are copied, each once.
+fn print_lists(book: &[u8], lists: u32) -> u32
+    requires { ⌜ (bookVerdict (now book) .answer ≡ TAKEN) × (lists ≡ listsIn (now book)) × (1 < lists) ⌝ }
+    ensures { λ r. ⌜ r ≡ checkTwo (listAt (now (book .entry)) 0) (listAt (now (book .entry)) 1) .answer ⌝ }
 {
-    let mut ancestors = [0u32; LIST_WORDS];
-    let mut descendants = [0u32; LIST_WORDS];
-    copy_numbers(first, &mut ancestors);
-    copy_numbers(second, &mut descendants);
-    print_pages(
-        &ancestors[0..first.len() / NUMBER_BYTES],
-        &descendants[0..second.len() / NUMBER_BYTES],
-    )
+    let mut first = [0u32; LIST_WORDS];
+    let mut second = [0u32; LIST_WORDS];
+    let ancestors = entry_at(book, 0).tag;
+    let descendants = entry_at(book, 1).tag;
+    let lengths = copy_lists(book, lists, ancestors, descendants, &mut first, &mut second);
+    let words = lengths.ancestors;
+    let more = lengths.descendants;
+    print_pages(&first[0..words], &second[0..more])
 }
 
-// The first list of a book is joined with the second, and the pairs printed on standard output, inside and in descendant order, a line each, and
-// then their number; or one line that says why not. The caller gets the answer.
+// Joins the first list of a book with the second and prints the pairs on standard output, inside
+// and in descendant order, a line each, and then their number; or one line that says why not.
+// Returns the answer.
 pub fn print_book(book: &[u8]) -> u32
     ensures { λ r. ⌜ r ≡ printedAnswer (now (book .entry)) ⌝ }
 {
     if MOST_BYTES < book.len() {
         return print_refusal(LONG);
     }
-    let second = find_list(book, 1);
-    let verdict = second.verdict;
+    let opened = check_book(book);
+    let verdict = opened.verdict;
     if verdict.answer != TAKEN {
         return print_refusal(verdict.answer);
     }
-    let first = find_list(book, 0);
-    print_lists(
-        part_of(book, first.from, first.bytes),
-        part_of(book, second.from, second.bytes),
-    )
+    if opened.lists < 2 {
+        return print_refusal(ABSENT);
+    }
+    print_lists(book, opened.lists)
 }

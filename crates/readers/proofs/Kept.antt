@@ -9,36 +9,36 @@ use lib.Dec.{ltb}
 use lib.ListN.{getD, take, List·getD-eq-default}
 use lib.Seq.{getD-take}
 use borrow.Author.Tests.{ltb-true, ltb-false}
-use Rattle.nodes.specs.Answer.{TAKEN}
-use Rattle.nodes.specs.Choose.{firstAt}
-use Rattle.nodes.proofs.Tests.{either}
+use Rattle.answers.specs.Answer.{TAKEN}
+use Rattle.laws.specs.Choose.{firstAt}
+use Rattle.laws.proofs.Tests.{either}
 use Rattle.numbers.specs.Little.{numbers, numberAt}
 use Rattle.numbers.specs.Part.{partOf}
 use Rattle.contents.specs.Contents.{entry, listsIn, entriesIn, contentsOf, entryAt}
 use Rattle.contents.proofs.ContentLaws.{few-entries}
-use Rattle.books.specs.Book.{bodyOf, checkBook}
-use Rattle.books.specs.Find.{tagAt, foundAt, foundTag, tagBody}
+use Rattle.books.specs.Book.{bodyOf, bookVerdict}
+use Rattle.books.specs.Find.{tagAt, foundAt, foundTag, tagEntry, tagBody}
 use Rattle.books.proofs.BookLaws.{refuses, accepts}
-use Rattle.books.proofs.FindLaws.{list-absent, list-found, tag-found}
+use Rattle.books.proofs.FindLaws.{list-absent, list-found, tag-body-at}
 use Rattle.readers.specs.Reader.{keptOf, keptLists, keptBody}
 
-module _ (book : List ℕ) (bad : checkBook book .answer ≡ TAKEN → ⊥) where
+module _ (book : List ℕ) (bad : bookVerdict book .answer ≡ TAKEN → ⊥) where
   pub kept-nothing : keptOf book ≡ []
   unfolding keptOf
-  kept-nothing = rw (refuses (checkBook book) bad)
+  kept-nothing = rw (refuses (bookVerdict book) bad)
 
   pub no-lists : keptLists book ≡ 0
   unfolding keptLists listsIn numberAt numbers
   no-lists = ap listsIn kept-nothing
 
   pub no-body : (tag : ℕ) → keptBody book tag ≡ []
-  unfolding keptBody tagBody bodyOf partOf tagAt firstAt
+  unfolding keptBody tagBody tagEntry bodyOf partOf tagAt firstAt
   no-body tag = rw (kept-nothing, no-lists) refl
 
-module _ (book : List ℕ) (ok : checkBook book .answer ≡ TAKEN) where
+module _ (book : List ℕ) (ok : bookVerdict book .answer ≡ TAKEN) where
   pub kept-whole : keptOf book ≡ book
   unfolding keptOf
-  kept-whole = rw (accepts (checkBook book) ok)
+  kept-whole = rw (accepts (bookVerdict book) ok)
 
   pub all-lists : keptLists book ≡ listsIn book
   unfolding keptLists
@@ -64,12 +64,14 @@ module _ (book : List ℕ) (ok : checkBook book .answer ≡ TAKEN) where
     answered = elim (either (ltb position (listsIn book))) [ inl h ↦ there (ltb-true _ _ h) | inr h ↦ past (ltb-false _ _ h) ]
 
   pub body-found : (tag : ℕ) → keptBody book tag ≡ partOf book (foundTag book tag .from) (foundTag book tag .bytes)
-  unfolding keptBody keptLists tagBody foundTag contentsOf
+  unfolding keptBody keptLists tagBody tagEntry foundTag contentsOf
   body-found tag = rw kept-whole (answered (tagAt tag (contentsOf book)))
+
+  -- a tag's body is that of the book with all its lists
+  pub kept-tag : (tag : ℕ) → keptBody book tag ≡ tagBody book (listsIn book) tag
+  unfolding keptBody
+  kept-tag tag = rw (kept-whole, all-lists) refl
 
   -- so each list's body comes back under its tag
   pub body-at : (position : ℕ) → position < listsIn book → keptBody book (entryAt book position .tag) ≡ bodyOf book (entryAt book position)
-  unfolding bodyOf
-  body-at position h =
-      let q = tag-found book ok position h ∙ list-found book position ok h in
-      body-found (entryAt book position .tag) ∙ λ i. partOf book (q i .from) (q i .bytes)
+  body-at position h = kept-tag (entryAt book position .tag) ∙ tag-body-at book ok position h

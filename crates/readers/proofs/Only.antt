@@ -10,8 +10,8 @@ use prog.Wp.{Heap}
 use ghost.Atoms.{Atoms}
 use contract.Lifetimes.{Lfts}
 use contract.Monad.{Fun, fact, factI, fact-use}
-use denote.Ref.{now}
-use Rattle.nodes.proofs.Only.{only}
+use denote.Ref.{now, ptr}
+use Rattle.laws.proofs.Only.{only}
 use Rattle.readers.proofs.reader.body as body
 use Rattle.readers.proofs.reader.body_in as body-in
 use Rattle.readers.proofs.reader.book as book
@@ -35,8 +35,9 @@ module _ {M : Type 1} (𝓤 : URA M) (H : Heap 𝓤) (A : Atoms 𝓤) (mem : Mem
   book-only a b b′ s s′ = follows (λ p q. only p q)
 
   pub body-only : (a : _) (b b′ : _) (s s′ : _)
-      → ent 𝓤 (sep 𝓤 (body.clauses 𝓤 H A mem run κs a .ensures tt b s) (body.clauses 𝓤 H A mem run κs a .ensures tt b′ s′)) (fact 𝓤 (now b ≡ now b′))
-  body-only a b b′ s s′ = follows (λ p q. only p q)
+      → ent 𝓤 (sep 𝓤 (body.clauses 𝓤 H A mem run κs a .ensures tt b s) (body.clauses 𝓤 H A mem run κs a .ensures tt b′ s′))
+      (fact 𝓤 ((now b ≡ now b′) × (ptr b ≡ ptr b′)))
+  body-only a b b′ s s′ = follows (λ p q. (only (p .0) (q .0), only (p .1) (q .1)))
 
   pub over-only : (a : _) (r r′ : _) (s s′ : _)
       → ent 𝓤 (sep 𝓤 (over.clauses 𝓤 H A mem run κs a .ensures tt r s) (over.clauses 𝓤 H A mem run κs a .ensures tt r′ s′))
@@ -45,10 +46,10 @@ module _ {M : Type 1} (𝓤 : URA M) (H : Heap 𝓤) (A : Atoms 𝓤) (mem : Mem
 
   pub open-only : (a : _) (r r′ : _) (s s′ : _)
       → ent 𝓤 (sep 𝓤 (opening.clauses 𝓤 H A mem run κs a .ensures tt r s) (opening.clauses 𝓤 H A mem run κs a .ensures tt r′ s′))
-      (fact 𝓤 ((now (r .book) ≡ now (r′ .book)) × (r .lists ≡ r′ .lists)))
-  open-only a r r′ s s′ = follows (λ p q. (only (p .0) (q .0), only (p .1) (q .1)))
+      (fact 𝓤 ((now (r .book) ≡ now (r′ .book)) × (ptr (r .book) ≡ ptr (r′ .book)) × (r .lists ≡ r′ .lists)))
+  open-only a r r′ s s′ = follows (λ p q. (only (p .0) (q .0), only (p .1) (q .1), only (p .2) (q .2)))
 
   pub body-in-only : (a : _) (b b′ : _) (s s′ : _)
       → ent 𝓤 (sep 𝓤 (body-in.clauses 𝓤 H A mem run κs a .ensures tt b s) (body-in.clauses 𝓤 H A mem run κs a .ensures tt b′ s′))
-      (fact 𝓤 (now b ≡ now b′))
-  body-in-only a b b′ s s′ = follows (λ p q. only p q)
+      (fact 𝓤 ((now b ≡ now b′) × (ptr b ≡ ptr b′)))
+  body-in-only a b b′ s s′ = follows (λ p q. (only (p .0) (q .0), only (p .1) (q .1)))

@@ -1,58 +1,68 @@
 // A reader over a field book.
-use crate::covered::kept_part;
-use crate::covered::list_count;
+use crate::opening::kept_part;
+use crate::opening::list_count;
 use books::find::tag_body;
 ghost use mathlib.Core.Path.{_≡_};
-ghost use Rattle.books.specs.Find.{tagBody};
-ghost use Rattle.readers.specs.Reader.{keptOf, keptLists, keptBody};
+ghost use denote.Ref.{ptr};
+ghost use Rattle.books.specs.Find.{tagBody, tagPlace};
+ghost use Rattle.readers.specs.Reader.{keptOf, keptLists, keptBody, keptPlace};
 
-// An opened book: the caller's own bytes, and how many lists they have. It copies nothing, and is passed by value.
+// An opened book: the caller's own bytes, and how many lists they have. It copies nothing, and is
+// passed by value.
 pub struct Reader<'a> {
     pub book: &'a [u8],
     pub lists: u32,
 }
 
-// The caller gets the number of the book's lists.
+// Returns the number of the book's lists.
 pub fn lists<'a>(r: Reader<'a>) -> u32
     ensures { λ n. ⌜ n ≡ r .entry .lists ⌝ }
 {
     r.lists
 }
 
-// The caller gets the book's bytes, as the part that the reader holds.
+// Returns the book's bytes, as the part that the reader holds.
 pub fn book<'a>(r: Reader<'a>) -> &'a [u8]
     ensures { λ s. ⌜ s ≡ r .entry .book ⌝ }
 {
     r.book
 }
 
-// The caller gets the body of a tag as a part of the book, empty where there is none. Nothing is checked again.
+// Returns the body of a tag as a part of the book; or the empty part at its beginning where there
+// is none. Nothing is checked again.
 pub fn body<'a>(r: Reader<'a>, tag: u32) -> &'a [u8]
-    ensures { λ s. ⌜ now s ≡ tagBody (now (r .entry .book)) (r .entry .lists) tag ⌝ }
+    ensures { λ s. ⌜ (now s ≡ tagBody (now (r .entry .book)) (r .entry .lists) tag)
+        × (ptr s ≡ tagPlace (ptr (r .entry .book)) (now (r .entry .book)) (r .entry .lists) tag) ⌝ }
 {
     tag_body(r.book, r.lists, tag)
 }
 
-// The caller gets a reader over a book that was opened before and has so many lists. Nothing is checked again.
+// Returns a reader over a book that was opened before and has `lists` lists. Nothing is checked
+// again.
 pub fn over<'a>(book: &'a [u8], lists: u32) -> Reader<'a>
     ensures { λ r. ⌜ (r .book ≡ book .entry) × (r .lists ≡ lists) ⌝ }
 {
     Reader { book, lists }
 }
 
-// The caller gets a reader over the bytes where they are a book, and over an empty part with no lists where they aren't.
+// Returns a reader over the bytes where they are a book, and over the empty part at their
+// beginning, with no lists, where they aren't.
 pub fn open<'a>(bytes: &'a [u8]) -> Reader<'a>
-    ensures { λ r. ⌜ (now (r .book) ≡ keptOf (now (bytes .entry))) × (r .lists ≡ keptLists (now (bytes .entry))) ⌝ }
+    ensures { λ r. ⌜ (now (r .book) ≡ keptOf (now (bytes .entry)))
+        × (ptr (r .book) ≡ ptr (bytes .entry))
+        × (r .lists ≡ keptLists (now (bytes .entry))) ⌝ }
 {
     let part = kept_part(bytes);
     let count = list_count(part);
     over(part, count)
 }
 
-// The caller gets the body of a tag out of bytes that may be any, as a part of them: empty where they are no book or it has no such list.
-// Who calls this needs no walk by hand.
+// Returns the body of a tag out of bytes that may be any, as a part of them; or the empty part at
+// their beginning where they are no book or it has no such list. A caller of it needs no proof by
+// hand.
 pub fn body_in(bytes: &[u8], tag: u32) -> &[u8]
-    ensures { λ s. ⌜ now s ≡ keptBody (now (bytes .entry)) tag ⌝ }
+    ensures { λ s. ⌜ (now s ≡ keptBody (now (bytes .entry)) tag)
+        × (ptr s ≡ keptPlace (ptr (bytes .entry)) (now (bytes .entry)) tag) ⌝ }
 {
     body(open(bytes), tag)
 }

@@ -1,9 +1,11 @@
--- The contract equates the part's words with a definition, and two things that equal a third are equal; so no second answer satisfies it.
--- `Post` is what the function's `ensures` says of its result; a contract that left a word open would fall here.
+-- The contract equates the part's words and its place with definitions, and two things that equal a
+-- third are equal; so no second answer satisfies it. `Post` is what the function's `ensures` says
+-- of its result; a contract that left a word or the place open would fall here.
 use mathlib.Core.Path.{_≡_}
-use denote.Ref.{now}
-use Rattle.nodes.proofs.Only.{only}
+use denote.Ref.{now, ptr}
+use Rattle.laws.proofs.Only.{only}
 use Rattle.repairs.proofs.part.faulty_part.Reads as faulty-part
 
-pub faulty-part-only : (κs : _) (a : _) (r r′ : _) (s s′ : _) → faulty-part.Post κs a r s → faulty-part.Post κs a r′ s′ → now r ≡ now r′
-faulty-part-only κs a r r′ s s′ p q = only p q
+pub faulty-part-only : (κs : _) (a : _) (r r′ : _) (s s′ : _) → faulty-part.Post κs a r s → faulty-part.Post κs a r′ s′
+    → (now r ≡ now r′) × (ptr r ≡ ptr r′)
+faulty-part-only κs a r r′ s s′ p q = (only (p .0) (q .0), only (p .1) (q .1))

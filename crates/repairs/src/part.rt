@@ -1,36 +1,39 @@
 // The part of a list that starts at its faulty node.
+use answers::answer::DEPTH;
+use answers::answer::LEVEL;
+use answers::verdict::DESCENDANTS;
 use lists::two::check_two;
-use lists::verdict::DESCENDANTS;
-use nodes::answer::DEPTH;
-use nodes::answer::LEVEL;
 use nodes::node::NODE_WORDS;
 use nodes::node::node_count;
 ghost use mathlib.Core.Path.{_≡_};
+ghost use denote.Ref.{ptr};
 ghost use Prim.Native.Nat.{_*_};
 ghost use lib.ListN.{drop};
 ghost use Rattle.nodes.specs.Words.{NODE-WORDS};
-ghost use Rattle.repairs.specs.Part.{faultyPart};
+ghost use Rattle.repairs.specs.Part.{faultyPart, placeFrom, faultyPlace};
 
-// The part of a list from the node at an index on; an empty one where the list has ended before.
-fn part_from(words: &[u32], index: usize) -> &[u32]
-    ensures { λ r. ⌜ now r ≡ drop (NODE-WORDS * index) (now (words .entry)) ⌝ }
+// Returns the part of a list from the node at an index on, or an empty one where the list has ended
+// before.
+fn part_from(words: &[u32], index: u32) -> &[u32]
+    ensures { λ r. ⌜ (now r ≡ drop (NODE-WORDS * index) (now (words .entry)))
+        × (ptr r ≡ placeFrom (ptr (words .entry)) (now (words .entry)) index) ⌝ }
 {
-    if node_count(words) < index {
+    if node_count(words) < index as usize {
         return &words[..0];
     }
-    &words[NODE_WORDS * index..]
+    &words[NODE_WORDS * index as usize..]
 }
 
-// The caller gets the part of one of the two lists that starts at the faulty node and goes to that list's end, as a part of the very
-// list that was lent; an empty part where no node is at fault.
+// Returns the part of one of the two lists that starts at the faulty node and goes to that list's
+// end, as a part of the very list that was lent; or the empty part at the beginning of the
+// ancestors where no node is at fault.
 pub fn faulty_part<'a>(ancestors: &'a [u32], descendants: &'a [u32]) -> &'a [u32]
-    ensures { λ r. ⌜ now r ≡ faultyPart (now (ancestors .entry)) (now (descendants .entry)) ⌝ }
+    ensures { λ r. ⌜ (now r ≡ faultyPart (now (ancestors .entry)) (now (descendants .entry)))
+        × (ptr r ≡ faultyPlace (ptr (ancestors .entry)) (ptr (descendants .entry))
+        (now (ancestors .entry)) (now (descendants .entry))) ⌝ }
 {
     let verdict = check_two(ancestors, descendants);
-    if verdict.answer < LEVEL {
-        return &ancestors[..0];
-    }
-    if DEPTH < verdict.answer {
+    if verdict.answer < LEVEL || DEPTH < verdict.answer {
         return &ancestors[..0];
     }
     if verdict.list == DESCENDANTS {

@@ -2,10 +2,10 @@
 -- equal; so no second answer satisfies it. `Post` is what a function's `ensures` says of its result
 -- and of what it was lent; a contract that left a field open would fall here.
 use mathlib.Core.Path.{_≡_}
-use Rattle.nodes.proofs.Only.{only}
-use Rattle.tickets.proofs.row.is_served.Reads as is-served
-use Rattle.tickets.proofs.row.past_from.Reads as past-from
-use Rattle.tickets.proofs.row.served_count.Reads as served-count
+use Rattle.laws.proofs.Only.{only}
+use Rattle.tickets.proofs.leader.is_served.Reads as is-served
+use Rattle.tickets.proofs.leader.past_from.Reads as past-from
+use Rattle.tickets.proofs.leader.served_count.Reads as served-count
 use Rattle.tickets.proofs.ticket.fresh.Reads as fresh
 
 pub fresh-only : (κs : _) (a : _) (r r′ : _) (s s′ : _) → fresh.Post κs a r s → fresh.Post κs a r′ s′ → r ≡ r′

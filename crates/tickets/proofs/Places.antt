@@ -3,7 +3,7 @@
 -- the place before an earlier one, would fall here.
 use Prim.Native.Nat.{ℕ, _+_, _≤_, _<_, zero-le}
 use mathlib.Core.Path.{_≡_, refl, sym, _∙_}
-use mathlib.Core.Bool.{Bool, true, false, _&&_, _||_}
+use mathlib.Core.Bool.{Bool, true, false}
 use mathlib.Core.List.{List, [], _∷_, _++_}
 use mathlib.Core.Logic.{_⊎_, inl, inr}
 use native.Mathlib.Omega.{arith}
@@ -14,26 +14,20 @@ use Rattle.nodes.specs.declared.node.Node.{Node}
 use Rattle.nodes.specs.Node.{afterb}
 use Rattle.nodes.specs.Words.{node}
 use Rattle.nodes.proofs.NodeLaws.{after-read}
-use Rattle.nodes.proofs.Tests.{either, never, not-so, and-read, and-make, or-read, or-left, or-right, or-none}
+use Rattle.laws.proofs.Tests.{either, never, not-so, and-read, and-make, or-read, or-left, or-right, or-none, or-end}
 use Rattle.paging.specs.Key.{aboveb}
 use Rattle.paging.specs.Page.{pastb}
 use Rattle.paging.proofs.KeyLaws.{above-self, above-trans}
 use Rattle.tickets.specs.declared.ticket.Key.{Key}
 use Rattle.tickets.specs.declared.ticket.Place.{Place}
 use Rattle.tickets.specs.declared.ticket.Place.the-variants.{Fresh, After}
-use Rattle.tickets.specs.Row.{pastFrom, servedb}
+use Rattle.tickets.specs.Leaders.{pastFrom, servedb}
 use Rattle.tickets.specs.Ticket.{spotOf}
 
 -- the pair of a leader and a follower lies past a place: its document and two starts do, the
 -- leader's first
 unfoldable pub aheadb : Place → Node → Node → Bool
 aheadb place leader follower = pastb (spotOf place) (leader .document ∷ leader .start ∷ follower .start ∷ [])
-
--- the last number of a key has no number after it
-pub or-end : (a b : Bool) → a ≡ (a || (b && false))
-or-end true b = refl
-or-end false true = refl
-or-end false false = refl
 
 -- a key above another stays so, whatever follows the two
 above-longer : (i j k l : List ℕ) → length i ≡ length j → aboveb i j ≡ true → aboveb (i ++ k) (j ++ l) ≡ true

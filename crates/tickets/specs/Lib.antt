@@ -1,4 +1,7 @@
--- What the contracts of `tickets` cite: `Ticket` and `Listing` follow document 01, `Row` is the listing's part of one leader.
+-- What the contracts of `tickets` cite: `Ticket` and `Listing` follow document 01, `PairWords` says how pairs lie in words, `Leaders` how a
+-- leader's pairs lie to a ticket's place.
+pub mod Leaders
 pub mod Listing
-pub mod Row
+pub mod PairWords
+pub mod Private
 pub mod Ticket

@@ -3,14 +3,14 @@ use Prim.Native.Nat.{ℕ}
 use mathlib.Core.Bool.{Bool}
 use mathlib.Core.List.{List, [], _∷_, _++_, map}
 use Rattle.nodes.specs.declared.node.Node.{Node}
-use Rattle.nodes.specs.Choose.{keep}
+use Rattle.laws.specs.Choose.{keep}
 use Rattle.nodes.specs.Node.{insideb, directlyb}
 use Rattle.tickets.specs.declared.ticket.Key.{Key}
 use Rattle.tickets.specs.declared.ticket.Order.{Order}
 use Rattle.tickets.specs.declared.ticket.Order.the-variants.{Descendant, Ancestor}
 use Rattle.tickets.specs.declared.ticket.Relation.{Relation}
 use Rattle.tickets.specs.declared.ticket.Relation.the-variants.{Inside, Directly}
-use Rattle.tickets.specs.Ticket.{keyWith, numbersOf}
+use Rattle.tickets.specs.Ticket.{Asked, keyWith, numbersOf}
 
 pub record Pair : Type 0 where
   pub ancestor : Node
@@ -49,7 +49,11 @@ unfoldable pub everyPair : Order → List Node → List Node → List Pair
 everyPair order [] ys = []
 everyPair order (x ∷ xs) ys = map (pairOf order x) ys ++ everyPair order xs ys
 
--- every pair of an ancestor and a descendant with the relation asked for
-unfoldable pub listing : Relation → Order → List Node → List Node → List Pair
-listing relation order ancestors descendants =
-    keep (relatedb relation) (everyPair order (leaders order ancestors descendants) (followers order ancestors descendants))
+-- the pair is asked for: it has the relation
+abbrev pub askedb : Asked → Pair → Bool
+askedb ask p = relatedb (ask .relation) p
+
+-- every pair of an ancestor and a descendant that is asked for, in the order asked for
+unfoldable pub listing : Asked → List Node → List Node → List Pair
+listing ask ancestors descendants =
+    keep (askedb ask) (everyPair (ask .order) (leaders (ask .order) ancestors descendants) (followers (ask .order) ancestors descendants))

@@ -9,8 +9,21 @@ use Rattle.tickets.specs.declared.ticket.Place.the-variants.{Fresh, Afte
 use Rattle.tickets.specs.declared.ticket.Relation.{Relation}
 use Rattle.tickets.specs.declared.ticket.Ticket.{Ticket}
 
-abbrev pub ticket : Relation → Order → Place → Ticket
-ticket relation order place = record { relation = relation; order = order; place = place }
+-- what is asked for: which pairs, and in which order
+pub record Asked : Type 0 where
+  pub relation : Relation
+  pub order : Order
+
+abbrev pub asked : Relation → Order → Asked
+asked relation order = record { relation = relation; order = order }
+
+-- what a ticket asks for
+abbrev pub askedBy : Ticket → Asked
+askedBy t = asked (t .relation) (t .order)
+
+-- a ticket that asks for it, at a place
+abbrev pub ticketAt : Asked → Place → Ticket
+ticketAt ask place = record { relation = ask .relation; order = ask .order; place = place }
 
 abbrev pub keyWith : ℕ → ℕ → ℕ → Key
 keyWith document leader follower = record { document = document; leader = leader; follower = follower }
@@ -25,5 +38,5 @@ spotOf Fresh = fresh
 spotOf (After k) = after (numbersOf k)
 
 -- the ticket that starts a listing
-abbrev pub freshTicket : Relation → Order → Ticket
-freshTicket relation order = ticket relation order Fresh
+abbrev pub freshTicket : Asked → Ticket
+freshTicket ask = ticketAt ask Fresh

@@ -1,6 +1,6 @@
 // A ticket: what is listed, in which order, and how far the listing has been handed out.
 ghost use mathlib.Core.Path.{_≡_};
-ghost use Rattle.tickets.specs.Ticket.{freshTicket};
+ghost use Rattle.tickets.specs.Ticket.{freshTicket, asked};
 
 // Which pairs are listed.
 pub enum Relation {
@@ -14,7 +14,8 @@ pub enum Order {
     Ancestor,
 }
 
-// The sort key of a pair: its document, where the node starts that comes first in the order, and where the other one starts.
+// The sort key of a pair: its document, where the node starts that comes first in the order, and
+// where the other one starts.
 pub struct Key {
     pub document: u32,
     pub leader: u32,
@@ -34,9 +35,9 @@ pub struct Ticket {
     pub place: Place,
 }
 
-// The caller gets the ticket that starts a listing.
+// Returns the ticket that starts a listing.
 pub fn fresh(relation: Relation, order: Order) -> Ticket
-    ensures { λ r. ⌜ r ≡ freshTicket relation order ⌝ }
+    ensures { λ r. ⌜ r ≡ freshTicket (asked relation order) ⌝ }
 {
     Ticket {
         relation: relation,

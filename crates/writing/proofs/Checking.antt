@@ -9,18 +9,18 @@ use native.Mathlib.Omega.{arith}
 use lib.Dec.{eqb}
 use lib.ListN.{length}
 use borrow.Author.Tests.{eqb-true, eq-eqb, ne-eqb}
-use Rattle.nodes.specs.Answer.{TAKEN, RAGGED, LONG}
+use Rattle.answers.specs.Answer.{TAKEN, RAGGED, LONG}
 use Rattle.nodes.specs.Words.{NODE-WORDS, nodes}
-use Rattle.nodes.proofs.Tests.{either}
+use Rattle.laws.proofs.Tests.{either}
 use Rattle.contents.specs.Contents.{brokenb}
 use Rattle.lists.specs.Check.{raggedb}
-use Rattle.lists.specs.declared.verdict.Verdict.{Verdict}
-use Rattle.lists.specs.Verdict.{ANCESTORS, verdict, taken}
+use Rattle.answers.specs.declared.verdict.Verdict.{Verdict}
+use Rattle.answers.specs.Verdict.{ANCESTORS, verdict, taken}
 use Rattle.books.specs.Book.{checkParts}
 use Rattle.books.proofs.Answers.{parts-draw, parts-faultless, fault-draws, from-level}
 use Rattle.books.proofs.BookLaws.{parts-taken}
 use Rattle.writing.specs.Wanted.{WANTED-WORDS, wanted, raggedEntries, contentsFor, bodiesFor, sizeFor, wantedFault}
-use Rattle.writing.specs.Written.{checkWanted}
+use Rattle.writing.specs.WriteCall.{checkWanted}
 
 module _ (entries list : List ℕ) where
   -- words that don't make whole entries, or whole nodes

@@ -2,7 +2,7 @@
 -- `Post` is what an `ensures` says of the answer and of what was lent; a contract that left a field or a byte open would fall here.
 use mathlib.Core.Path.{_≡_}
 use denote.Ref.{now}
-use Rattle.nodes.proofs.Only.{only}
+use Rattle.laws.proofs.Only.{only}
 use Rattle.writing.proofs.write.write_book.Reads as write-book
 
 pub write-book-only : (κs : _) (a : _) (r r′ : _) (s s′ : _) → write-book.Post κs a r s → write-book.Post κs a r′ s′

@@ -5,12 +5,12 @@ use mathlib.Core.List.{List}
 use Prim.Native.Nat.{ℕ, _≤_, _<_}
 use native.Mathlib.Omega.{arith}
 use lib.ListN.{length}
-use Rattle.nodes.specs.Answer.{TAKEN, ROOM}
-use Rattle.nodes.specs.Written.{written, answerOf, outputOf}
-use Rattle.nodes.proofs.Writing.{answer-fault, answer-room, answer-taken, if-taken, if-refused}
-use Rattle.lists.specs.declared.verdict.Verdict.{Verdict}
-use Rattle.lists.specs.Verdict.{ANCESTORS, verdict, taken}
-use Rattle.writing.specs.Written.{checkWanted, bytesFor, writtenOf, writtenOutput}
+use Rattle.answers.specs.Answer.{TAKEN, ROOM}
+use Rattle.answers.specs.Output.{written, answerOf, outputOf}
+use Rattle.answers.proofs.OutputLaws.{answer-fault, answer-room, answer-taken, if-taken, if-refused}
+use Rattle.answers.specs.declared.verdict.Verdict.{Verdict}
+use Rattle.answers.specs.Verdict.{ANCESTORS, verdict, taken}
+use Rattle.writing.specs.WriteCall.{checkWanted, bytesFor, writtenOf, writtenOutput}
 use Rattle.writing.proofs.Checking.{taken-all}
 
 -- a call that writes a book

@@ -7,15 +7,15 @@ use native.Mathlib.Omega.{arith}
 use lib.ListN.{length}
 use lib.Seq.{sets, length-sets}
 use borrow.Author.Tests.{lt-ltb}
-use Rattle.nodes.specs.Written.{wordsIn}
+use Rattle.answers.specs.Output.{wordsIn}
 use Rattle.numbers.specs.Little.{NODE-BYTES, bytesOf, numberCount, putNumber}
 use Rattle.numbers.proofs.LittleLaws.{length-bytes}
 use Rattle.contents.specs.declared.entry.Entry.{Entry}
 use Rattle.contents.specs.Contents.{entry, entryNumbers, contentsEnd}
-use Rattle.nodes.proofs.Writing.{sets-more}
+use Rattle.answers.proofs.OutputLaws.{sets-more}
 use Rattle.writing.specs.declared.wanted.Wanted.{Wanted}
 use Rattle.writing.specs.Wanted.{laidOut, contentsFor}
-use Rattle.writing.proofs.Laid.{length-contents}
+use Rattle.writing.proofs.BodyOffsets.{length-contents}
 
 -- a number, and the bytes behind it
 pub put-on : (bs : List ℕ) (i n next : ℕ) (rest : List ℕ) → i < numberCount bs → next ≡ 4 * i + 4

@@ -8,20 +8,20 @@ use native.Mathlib.Omega.{arith}
 use lib.ListN.{length, getD, take, drop, length-append}
 use lib.Seq.{take-at, drop-at}
 use Rattle.nodes.specs.declared.node.Node.{Node}
-use Rattle.nodes.specs.Answer.{TAKEN, CONTENTS}
-use Rattle.nodes.specs.Choose.{All}
+use Rattle.answers.specs.Answer.{TAKEN, CONTENTS}
+use Rattle.laws.specs.Choose.{All}
 use Rattle.nodes.specs.Words.{nodes, wordsOf}
-use Rattle.nodes.specs.Written.{wordsIn}
+use Rattle.answers.specs.Output.{wordsIn}
 use Rattle.nodes.proofs.WordLaws.{nodes-of-words, length-words}
 use Rattle.numbers.specs.Little.{numbers, numberAt}
 use Rattle.numbers.proofs.LittleLaws.{numbers-of-bytes, length-bytes}
 use Rattle.contents.specs.Contents.{entries, entryNumbers, listsIn, entriesIn, contentsOf, contentsEnd, brokenb, contentsFault}
 use Rattle.contents.proofs.ContentLaws.{entries-of}
-use Rattle.books.specs.Book.{nodesOf, checkParts, checkBook}
+use Rattle.books.specs.Book.{nodesOf, checkParts, bookVerdict}
 use Rattle.writing.specs.declared.wanted.Wanted.{Wanted}
 use Rattle.writing.specs.Back.{wantedIn, bodiesIn}
 use Rattle.writing.specs.Wanted.{contentsFor, bodiesFor, sizeFor, wantedFault, bookNumbers, bookBytes}
-use Rattle.writing.proofs.Laid.{wants, wants-laid, length-laid, length-contents, behind, bodies-laid, nodes-laid}
+use Rattle.writing.proofs.BodyOffsets.{wants, wants-laid, length-laid, length-contents, behind, bodies-laid, nodes-laid}
 use Rattle.writing.proofs.Rules.{Rules, Small}
 
 pub record Reads (book : List ℕ) (ws : List Wanted) (ns : List Node) : Type 0 where
@@ -56,8 +56,8 @@ module _ (book : List ℕ) (ws : List Wanted) (ns : List Node) (r : Reads book w
         ∙ nodes-laid book (length ws) 0 (contentsEnd (length ws)) (contentsFor ws) (sizeFor ws ns) (omega arith) (k .laid) (omega arith)
         ∙ r .nodes-behind
 
-    pub same-check : checkBook book ≡ checkParts (wantedFault ws ns) (bodiesFor ws ns)
-    unfolding checkBook bodiesIn
+    pub same-check : bookVerdict book ≡ checkParts (wantedFault ws ns) (bodiesFor ws ns)
+    unfolding bookVerdict bodiesIn
     same-check = λ t. checkParts (same-fault t) (same-bodies t)
 
 -- a book that is written has as many bytes as its lists and nodes take

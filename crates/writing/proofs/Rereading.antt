@@ -7,10 +7,10 @@ use native.Mathlib.Omega.{arith}
 use lib.ListN.{length, getD, take, drop, length-drop, length-map, take-append-drop}
 use lib.Seq.{drop-cons, drop-drop}
 use Rattle.nodes.specs.declared.node.Node.{Node}
-use Rattle.nodes.specs.Answer.{TAKEN}
-use Rattle.nodes.specs.Choose.{All}
-use Rattle.nodes.specs.Words.{nodes, wordsOf}
-use Rattle.nodes.specs.Written.{wordsIn}
+use Rattle.answers.specs.Answer.{TAKEN}
+use Rattle.laws.specs.Choose.{All}
+use Rattle.nodes.specs.Words.{wordsOf}
+use Rattle.answers.specs.Output.{wordsIn}
 use Rattle.nodes.proofs.WordLaws.{length-nodes, words-of-nodes}
 use Rattle.numbers.specs.Little.{NODE-BYTES, bytesOf, numbers, numberAt}
 use Rattle.numbers.proofs.LittleLaws.{length-numbers, bytes-of-numbers}
@@ -19,7 +19,7 @@ use Rattle.contents.proofs.ContentLaws.{count-contents}
 use Rattle.writing.specs.declared.wanted.Wanted.{Wanted}
 use Rattle.writing.specs.Back.{wantedIn}
 use Rattle.writing.specs.Wanted.{laidOut, contentsFor, sizeFor, bookNumbers, bookBytes}
-use Rattle.writing.proofs.Laid.{laid-end, laid-wants, behind}
+use Rattle.writing.proofs.BodyOffsets.{laid-end, laid-wants, behind}
 use Rattle.writing.proofs.Reading.{Reads}
 use Rattle.writing.proofs.Rules.{Rules, rules-read}
 

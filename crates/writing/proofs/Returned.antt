@@ -5,30 +5,20 @@ use mathlib.Core.List.{List, map, flatMap}
 use Prim.Native.Nat.{ℕ, _%_, _≤_, _<_}
 use native.Mathlib.Omega.{arith}
 use lib.ListN.{length}
-use Rattle.nodes.specs.Answer.{TAKEN}
-use Rattle.nodes.specs.Choose.{All}
+use Rattle.answers.specs.Answer.{TAKEN}
+use Rattle.laws.specs.Choose.{All}
 use Rattle.nodes.specs.Words.{NODE-WORDS, nodes, wordsOf}
-use Rattle.nodes.specs.Written.{wordsIn}
+use Rattle.answers.specs.Output.{wordsIn}
 use Rattle.nodes.proofs.WordLaws.{nodes-of-words, length-words, words-of-nodes}
 use Rattle.contents.specs.Contents.{listsIn, contentsOf, contentsEnd, contentsFault}
-use Rattle.lists.specs.Verdict.{taken}
-use Rattle.books.specs.Book.{nodesOf, checkParts, checkBook}
+use Rattle.answers.specs.Verdict.{taken}
+use Rattle.books.specs.Book.{nodesOf, checkParts, bookVerdict}
 use Rattle.books.proofs.Answers.{parts-faultless}
 use Rattle.writing.specs.Back.{wantedIn, bodiesIn, entriesFrom, nodesFrom}
-use Rattle.writing.specs.Wanted.{
-  WANTED-WORDS,
-  wanted,
-  wantedWords,
-  contentsFor,
-  bodiesFor,
-  sizeFor,
-  wantedFault,
-  bookNumbers,
-  bookBytes,
-}
-use Rattle.writing.specs.Written.{checkWanted, bytesFor}
+use Rattle.writing.specs.Wanted.{WANTED-WORDS, wanted, wantedWords, contentsFor, bodiesFor, sizeFor, wantedFault, bookNumbers, bookBytes}
+use Rattle.writing.specs.WriteCall.{checkWanted, bytesFor}
 use Rattle.writing.proofs.Checking.{whole-checked, taken-whole, taken-fault, taken-parts}
-use Rattle.writing.proofs.Laid.{behind}
+use Rattle.writing.proofs.BodyOffsets.{behind}
 use Rattle.writing.proofs.Outcomes.{WritesBook, write-taken}
 use Rattle.writing.proofs.Reading.{Reads, same-wanted, same-fault, same-bodies, same-nodes, same-check, reads-written}
 use Rattle.writing.proofs.Rereading.{reads-read, same-bytes}
@@ -57,7 +47,7 @@ module _ (entries list : List ℕ) (t : checkWanted entries list .answer ≡ TAK
     unfolding bytesFor
     reads = reads-written (wanted entries) (nodes list) numbers-small
 
-    pub written-taken : checkBook (bytesFor entries list) ≡ taken
+    pub written-taken : bookVerdict (bytesFor entries list) ≡ taken
     written-taken = same-check (bytesFor entries list) (wanted entries) (nodes list) reads kept ∙ taken-parts entries list t
 
     pub lists-back : listsIn (bytesFor entries list) ≡ length (wanted entries)
@@ -80,9 +70,9 @@ module _ (entries list : List ℕ) (t : checkWanted entries list .answer ≡ TAK
         ∙ words-of-nodes list (taken-whole entries list t .1)
 
 -- what is read as a book is written back
-module _ (book : List ℕ) (t : checkBook book .answer ≡ TAKEN) where
+module _ (book : List ℕ) (t : bookVerdict book .answer ≡ TAKEN) where
   faultless : contentsFault book ≡ TAKEN
-  unfolding checkBook
+  unfolding bookVerdict
   faultless = parts-faultless (contentsFault book) (map (nodesOf book) (contentsOf book)) t
 
   reads-book : Reads book (wantedIn book) (behind (listsIn book) book)
@@ -110,7 +100,7 @@ module _ (book : List ℕ) (t : checkBook book .answer ≡ TAKEN) where
   unfolding nodesFrom
   whole-nodes = let l = length-words (flatMap (nodesOf book) (contentsOf book)) in omega arith
 
-  pub read-checked : checkWanted (entriesFrom book) (nodesFrom book) ≡ checkBook book
+  pub read-checked : checkWanted (entriesFrom book) (nodesFrom book) ≡ bookVerdict book
   read-checked =
       sym (whole-checked (entriesFrom book) (nodesFrom book) whole-entries whole-nodes)
       ∙ (λ k. checkParts (wantedFault (entries-read k) (nodes-read k)) (bodiesFor (entries-read k) (nodes-read k)))
@@ -128,7 +118,7 @@ module _ (book : List ℕ) (t : checkBook book .answer ≡ TAKEN) where
 pub words-return : (entries list out : List ℕ) → All Small entries → All Small list → checkWanted entries list .answer ≡ TAKEN
     → length (bytesFor entries list) ≤ length out
     → WritesBook entries list out (bytesFor entries list)
-    × (checkBook (bytesFor entries list) ≡ taken)
+    × (bookVerdict (bytesFor entries list) ≡ taken)
     × (entriesFrom (bytesFor entries list) ≡ entries)
     × (nodesFrom (bytesFor entries list) ≡ list)
 words-return entries list out small words t room = (
@@ -139,7 +129,7 @@ words-return entries list out small words t room = (
 )
 
 -- and what was read as a book is written as that book
-pub book-returns : (book out : List ℕ) → All (λ b. b < 256) book → checkBook book .answer ≡ TAKEN → length book ≤ length out
+pub book-returns : (book out : List ℕ) → All (λ b. b < 256) book → bookVerdict book .answer ≡ TAKEN → length book ≤ length out
     → WritesBook (entriesFrom book) (nodesFrom book) out book
 book-returns book out small t room =
     let b = bytes-back book t small in

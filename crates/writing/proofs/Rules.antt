@@ -6,22 +6,21 @@ use mathlib.Core.List.{List, [], _∷_, _++_, flatMap}
 use Prim.Native.Nat.{ℕ, _+_, _*_, _/_, _≤_, _<_}
 use native.Mathlib.Omega.{arith}
 use lib.Dec.{ltb}
-use lib.ListN.{length, drop}
+use lib.ListN.{length}
 use borrow.Author.Tests.{ltb-false}
 use Rattle.nodes.specs.declared.node.Node.{Node}
-use Rattle.nodes.specs.Answer.{TAKEN, CONTENTS}
-use Rattle.nodes.specs.Choose.{All, any}
+use Rattle.answers.specs.Answer.{TAKEN, CONTENTS}
+use Rattle.laws.specs.Choose.{All, any}
 use Rattle.nodes.specs.Words.{MOST-NODES}
-use Rattle.nodes.specs.Written.{wordsIn}
-use Rattle.nodes.proofs.Choices.{all-map, any-none}
-use Rattle.nodes.proofs.Tests.{or-none, not-none}
+use Rattle.answers.specs.Output.{wordsIn}
+use Rattle.laws.proofs.Choices.{all-map, any-none}
+use Rattle.laws.proofs.Tests.{or-none, not-none}
 use Rattle.numbers.specs.Little.{NODE-BYTES}
 use Rattle.contents.specs.declared.entry.Entry.{Entry}
 use Rattle.contents.specs.Contents.{MOST-LISTS, entryNumbers, listsIn, contentsOf, contentsEnd, ascendb, laidb, brokenb, contentsFault}
-use Rattle.contents.proofs.ContentLaws.{few-taken}
 use Rattle.lists.proofs.Faults.{skip}
 use Rattle.writing.specs.declared.wanted.Wanted.{Wanted}
-use Rattle.writing.specs.Wanted.{WANTED-WORDS, wanted, laidOut, contentsFor, bodiesFor, sizeFor, wantedFault}
+use Rattle.writing.specs.Wanted.{WANTED-WORDS, wanted, laidOut, contentsFor, sizeFor, wantedFault}
 use Rattle.writing.proofs.WantedLaws.{length-wanted}
 
 -- the rules that bound numbers
@@ -64,15 +63,6 @@ counts-laid at (w ∷ ws) h = (h .0, counts-laid (at + NODE-BYTES * w .count) ws
 pub wanted-short : (ws : List Wanted) (ns : List Node) → wantedFault ws ns ≡ TAKEN → All (λ w. w .count ≤ MOST-NODES) ws
 unfolding contentsFor
 wanted-short ws ns good = counts-laid (contentsEnd (length ws)) ws (rules-written ws ns good .short)
-
--- and so is each body
-parts-short : (ws : List Wanted) (ns : List Node) → All (λ w. w .count ≤ MOST-NODES) ws → All (λ xs. length xs ≤ MOST-NODES) (bodiesFor ws ns)
-unfolding bodiesFor
-parts-short [] ns h = tt
-parts-short (w ∷ ws) ns h = (omega (arith, few-taken (w .count) ns .0, h .0), parts-short ws (drop (w .count) ns) (h .1))
-
-pub bodies-short : (ws : List Wanted) (ns : List Node) → wantedFault ws ns ≡ TAKEN → All (λ xs. length xs ≤ MOST-NODES) (bodiesFor ws ns)
-bodies-short ws ns good = parts-short ws ns (wanted-short ws ns good)
 
 pub wanted-few : (entries : List ℕ) (ns : List Node) → wantedFault (wanted entries) ns ≡ TAKEN → length entries / WANTED-WORDS ≤ MOST-LISTS
 wanted-few entries ns good = omega (arith, length-wanted entries, rules-written (wanted entries) ns good .few)

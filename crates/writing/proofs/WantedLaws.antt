@@ -8,10 +8,10 @@ use native.Mathlib.Nat.{not-suc-le-zero}
 use native.Mathlib.Numerals.{add-one}
 use lib.ListN.{length, getD, drop}
 use lib.Seq.{drop-cons}
-use Rattle.nodes.specs.Choose.{All}
-use Rattle.nodes.specs.Written.{wordsIn}
-use Rattle.nodes.proofs.Choices.{all-at}
-use Rattle.nodes.proofs.Writing.{length-items}
+use Rattle.laws.specs.Choose.{All}
+use Rattle.answers.specs.Output.{wordsIn}
+use Rattle.laws.proofs.Choices.{all-at}
+use Rattle.answers.proofs.OutputLaws.{length-items}
 use Rattle.writing.specs.declared.wanted.Wanted.{Wanted}
 use Rattle.writing.specs.Wanted.{WANTED-WORDS, want, wanted, wantedWords}
 

@@ -3,7 +3,7 @@ use Prim.Native.Nat.{ℕ}
 use mathlib.Core.List.{List, map, flatMap}
 use Rattle.nodes.specs.declared.node.Node.{Node}
 use Rattle.nodes.specs.Words.{wordsOf}
-use Rattle.nodes.specs.Written.{wordsIn}
+use Rattle.answers.specs.Output.{wordsIn}
 use Rattle.contents.specs.Contents.{contentsOf}
 use Rattle.books.specs.Book.{nodesOf}
 use Rattle.writing.specs.declared.wanted.Wanted.{Wanted}

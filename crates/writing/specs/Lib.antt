@@ -1,4 +1,4 @@
--- What the contract of `writing` cites, document 01's words in `Wanted` and `Written`, and what a book that was read gives for writing it again.
+-- What the contract of `writing` cites, document 01's words in `Wanted` and `WriteCall`, and what a book that was read gives for writing it again.
 pub mod Back
 pub mod Wanted
-pub mod Written
+pub mod WriteCall

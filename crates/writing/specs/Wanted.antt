@@ -5,9 +5,9 @@ use mathlib.Core.List.{List, [], _∷_, _++_}
 use lib.Dec.{eqb}
 use lib.ListN.{length, take, drop}
 use Rattle.nodes.specs.declared.node.Node.{Node}
-use Rattle.nodes.specs.Answer.{TAKEN, CONTENTS}
+use Rattle.answers.specs.Answer.{TAKEN, CONTENTS}
 use Rattle.nodes.specs.Words.{wordsOf}
-use Rattle.nodes.specs.Written.{wordsIn}
+use Rattle.answers.specs.Output.{wordsIn}
 use Rattle.numbers.specs.Little.{NODE-BYTES, bytesOf}
 use Rattle.contents.specs.declared.entry.Entry.{Entry}
 use Rattle.contents.specs.Contents.{entry, entryNumbers, contentsEnd, brokenb}
@@ -43,7 +43,7 @@ laidOut at (w ∷ ws) = entry (w .tag) at (w .count) ∷ laidOut (at + NODE-BYTE
 unfoldable pub contentsFor : List Wanted → List Entry
 contentsFor ws = laidOut (contentsEnd (length ws)) ws
 
--- the bodies: each list has so many of the nodes that the lists before it left
+-- the bodies: each list takes its count of nodes from those that the earlier lists left
 unfoldable pub bodiesFor : List Wanted → List Node → List (List Node)
 bodiesFor [] ns = []
 bodiesFor (w ∷ ws) ns = take (w .count) ns ∷ bodiesFor ws (drop (w .count) ns)

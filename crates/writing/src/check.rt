@@ -2,32 +2,34 @@
 use crate::wanted::WANTED_WORDS;
 use crate::wanted::wanted_at;
 use crate::wanted::wanted_count;
+use answers::answer::CONTENTS;
+use answers::answer::RAGGED;
+use answers::answer::TAKEN;
+use answers::verdict::Verdict;
+use answers::verdict::without_node;
 use contents::entry::Entry;
 use contents::entry::MOST_LISTS;
 use contents::entry::contents_end;
 use contents::step::Step;
 use contents::step::pass_entry;
 use contents::step::start_of;
+use contents::step::step_answer;
 use lists::list::check_list;
-use lists::verdict::Verdict;
-use lists::verdict::without_node;
-use nodes::answer::CONTENTS;
-use nodes::answer::RAGGED;
-use nodes::answer::TAKEN;
 use nodes::node::NODE_WORDS;
 use numbers::little::NUMBER_BYTES;
 ghost use mathlib.Core.Path.{_≡_};
 ghost use Prim.Native.Nat.{_/_, _%_, _≤_};
 ghost use lib.ListN.{length};
-ghost use Rattle.nodes.specs.Answer.{TAKEN};
+ghost use Rattle.answers.specs.Answer.{TAKEN};
 ghost use Rattle.nodes.specs.Words.{NODE-WORDS, nodes};
 ghost use Rattle.contents.specs.Contents.{MOST-LISTS};
-ghost use Rattle.contents.specs.Passing.{startOf, Kept};
+ghost use Rattle.contents.specs.Passing.{startOf};
+ghost use Rattle.contents.specs.Private.Walk.{Kept};
 ghost use Rattle.books.specs.Book.{checkBodies};
 ghost use Rattle.writing.specs.Wanted.{WANTED-WORDS, wanted, contentsFor, bodiesFor, wantedFault};
-ghost use Rattle.writing.specs.Written.{checkWanted};
+ghost use Rattle.writing.specs.WriteCall.{checkWanted};
 
-// The walk along the contents that the book will have: each body starts where the last one ends.
+// Walks along the contents that the book will have: each body starts where the last one ends.
 fn pass_wanted(entries: &[u32]) -> Step
     requires { ⌜ length (now entries) / WANTED-WORDS ≤ MOST-LISTS ⌝ }
     ensures { λ r. ⌜ Kept (startOf (length (now (entries .entry)) / WANTED-WORDS)) (contentsFor (wanted (now (entries .entry)))) r ⌝ }
@@ -54,7 +56,8 @@ fn pass_wanted(entries: &[u32]) -> Step
     Step::Reached(place)
 }
 
-// Whether the contents that the book will have keep the rules, the last body ending where the nodes do: TAKEN, or CONTENTS.
+// Returns whether the contents that the book will have keep the rules, the last body ending where
+// the nodes do: TAKEN, or CONTENTS.
 fn wanted_fault(entries: &[u32], list: &[u32]) -> u32
     requires { ⌜ length (now list) % NODE-WORDS ≡ 0 ⌝ }
     ensures { λ r. ⌜ r ≡ wantedFault (wanted (now (entries .entry))) (nodes (now (list .entry))) ⌝ }
@@ -63,17 +66,12 @@ fn wanted_fault(entries: &[u32], list: &[u32]) -> u32
     if (MOST_LISTS as usize) < lists {
         return CONTENTS;
     }
-    let step = pass_wanted(entries);
-    let Step::Reached(last) = step else {
-        return CONTENTS;
-    };
-    if last.end != contents_end(lists as u32) + NUMBER_BYTES * list.len() {
-        return CONTENTS;
-    }
-    TAKEN
+    let size = contents_end(lists as u32) + NUMBER_BYTES * list.len();
+    step_answer(pass_wanted(entries), size)
 }
 
-// The verdict on the bodies, whose counts add up to the nodes: that on the first one that isn't accepted.
+// Returns the verdict on the bodies, whose counts add up to the nodes: that on the first one that
+// isn't accepted.
 fn check_bodies(entries: &[u32], list: &[u32]) -> Verdict
     requires { ⌜ (length (now list) % NODE-WORDS ≡ 0) × (wantedFault (wanted (now entries)) (nodes (now list)) ≡ TAKEN) ⌝ }
     ensures { λ r. ⌜ r ≡ checkBodies 0 (bodiesFor (wanted (now (entries .entry))) (nodes (now (list .entry)))) ⌝ }
@@ -98,7 +96,7 @@ fn check_bodies(entries: &[u32], list: &[u32]) -> Verdict
     without_node(TAKEN)
 }
 
-// The verdict on what is to be written, apart from the room for it.
+// Returns the verdict on what is to be written, apart from the room for it.
 pub(crate) fn check_wanted(entries: &[u32], list: &[u32]) -> Verdict
     ensures { λ r. ⌜ r ≡ checkWanted (now (entries .entry)) (now (list .entry)) ⌝ }
 {

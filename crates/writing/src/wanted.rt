@@ -13,7 +13,7 @@ pub(crate) struct Wanted {
     pub count: u32,
 }
 
-// The caller gets the number of whole entries.
+// Returns the number of whole entries.
 pub(crate) fn wanted_count(entries: &[u32]) -> usize
     ensures { λ r. ⌜ r ≡ length (now (entries .entry)) / WANTED-WORDS ⌝ }
 {

@@ -1,27 +1,28 @@
--- The page is that of `next_page` for the ticket that the words stand for, its index fits, and it wrote into the very output.
--- A page for another ticket, or with the lists swapped, falls at the return.
+-- The page is that of `next_page` for the ticket that the words stand for, and it wrote into the
+-- very output. A page for another ticket, or with the lists swapped, falls at the return.
 use borrow.Author.Needs.{needs}
-use mathlib.Core.Path.{_≡_, sym, ap, subst, _∙_}
+use mathlib.Core.Path.{_≡_, ap, _∙_}
 use mathlib.Core.List.{List}
 use Prim.Native.Nat.{ℕ}
 use Rattle.tickets.specs.declared.ticket.Ticket.{Ticket}
+use Rattle.tickets.specs.Ticket.{asked}
 use Rattle.pairs.specs.declared.page.Page.{Page}
 use Rattle.pairs.specs.Page.{pageOf, outputAfter}
+use Rattle.ticket_words.specs.declared.words.TicketWords.{TicketWords}
+use Rattle.ticket_words.specs.Words.{ticketOf}
 use Rattle.belfrychest.specs.declared.page.BelfryPage.{BelfryPage}
-use Rattle.belfrychest.specs.declared.page.BelfryTicket.{BelfryTicket}
-use Rattle.belfrychest.specs.Shown.{ticketOf, shownPage}
-use Rattle.belfrychest.proofs.Indices.{Near, near-page}
+use Rattle.belfrychest.specs.Shown.{shownPage}
 use Rattle.belfrychest.proofs.page.belfry_list.Statement.{statement}
 use Rattle.belfrychest.proofs.page.belfry_list.Tie as tie
 
 -- the call for the ticket asked for is the call for the one that the words stand for
-module _ (ancestors descendants out : List ℕ) (t : BelfryTicket) (asked : Ticket) (q : asked ≡ ticketOf t) where
-  answered : (p : Page) (r : BelfryPage) → r ≡ shownPage t p → p ≡ pageOf ancestors descendants asked out
+module _ (ancestors descendants out : List ℕ) (w : TicketWords) (asked : Ticket) (q : asked ≡ ticketOf w) where
+  answered : (p : Page) (r : BelfryPage) → r ≡ shownPage w p → p ≡ pageOf ancestors descendants asked out
       → (last : List ℕ) → last ≡ outputAfter ancestors descendants asked out
-      → (r ≡ shownPage t (pageOf ancestors descendants (ticketOf t) out)) × (last ≡ outputAfter ancestors descendants (ticketOf t) out)
-  answered p r s e last w = (
-    s ∙ ap (shownPage t) (e ∙ ap (λ (u : Ticket). pageOf ancestors descendants u out) q),
-    w ∙ ap (λ (u : Ticket). outputAfter ancestors descendants u out) q,
+      → (r ≡ shownPage w (pageOf ancestors descendants (ticketOf w) out)) × (last ≡ outputAfter ancestors descendants (ticketOf w) out)
+  answered p r s e last l = (
+    s ∙ ap (shownPage w) (e ∙ ap (λ (t : Ticket). pageOf ancestors descendants t out) q),
+    l ∙ ap (λ (t : Ticket). outputAfter ancestors descendants t out) q,
   )
 
 ticket-of-requires : tie.Need-ticket-of-requires
@@ -31,7 +32,7 @@ next-page-requires : tie.Need-next-page-requires
 next-page-requires c κs = search needs
 
 shown-page-requires : tie.Need-shown-page-requires
-shown-page-requires c κs = subst (λ (p : Page). Near (p .verdict)) (sym (c .before .before .next-page .ensures .0)) (near-page _ _ _ _)
+shown-page-requires c κs = search needs
 
 same-length : tie.Need-same-length
 same-length c = search needs

@@ -1,12 +1,21 @@
--- The verdict's numbers, done and the ticket are each what the function of that name makes of the page; the count is the page's.
--- A page that said done too early, or another ticket, falls at the return.
+-- Done and the words are each what the function of that name makes of the page; the verdict and the
+-- count are the page's own. A page that said done too early, or other words, falls at the return.
 use borrow.Author.Needs.{needs}
-use Rattle.belfrychest.specs.Shown.{shownPage, ticketBack}
+use mathlib.Core.Path.{_≡_}
+use mathlib.Core.Bool.{cond}
+use Prim.Native.Nat.{ℕ}
+use Rattle.pairs.specs.declared.page.Page.{Page}
+use Rattle.ticket_words.specs.declared.words.TicketWords.{TicketWords}
+use Rattle.ticket_words.specs.Words.{ticketBack}
+use Rattle.belfrychest.specs.declared.page.BelfryPage.{BelfryPage}
+use Rattle.belfrychest.specs.Shown.{shownPage}
 use Rattle.belfrychest.proofs.page.shown_page.Statement.{statement}
 use Rattle.belfrychest.proofs.page.shown_page.Tie as tie
 
-shown-requires : tie.Need-shown-requires
-shown-requires c κs = search needs
+made : (w : TicketWords) (p : Page) (done : ℕ) (back : TicketWords) → done ≡ cond (p .done) 1 0 → back ≡ ticketBack w (p .count) (p .ticket .place)
+    → _≡_ {A = BelfryPage} (record { verdict = p .verdict; done = done; count = p .count; ticket = back }) (shownPage w p)
+unfolding shownPage
+made w p done back d b = λ k. record { verdict = p .verdict; done = d k; count = p .count; ticket = b k }
 
 one-if-requires : tie.Need-one-if-requires
 one-if-requires c κs = search needs
@@ -15,17 +24,7 @@ ticket-back-requires : tie.Need-ticket-back-requires
 ticket-back-requires c κs = search needs
 
 returns : tie.Need-returns
-unfolding shownPage ticketBack
-returns c =
-    let v = c .before .before .before in
-    λ k. record {
-      answer = v .shown .ensures k .answer;
-      list = v .shown .ensures k .list;
-      index = v .shown .ensures k .index;
-      done = c .before .one-if .ensures k;
-      count = v .before .args .page .count;
-      ticket = c .ticket-back .ensures k;
-    }
+returns c = made _ _ _ _ (c .before .one-if .ensures) (c .ticket-back .ensures)
 
 pub shown-page-spec : {M : Type 1} → statement M
-shown-page-spec = tie.close (tie.spec shown-requires one-if-requires ticket-back-requires returns)
+shown-page-spec = tie.close (tie.spec one-if-requires ticket-back-requires returns)

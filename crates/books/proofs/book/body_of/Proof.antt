@@ -1,19 +1,25 @@
--- The body is the part of the book from the entry's offset on, with sixteen bytes for each of its nodes.
--- A part one byte off, or of as many bytes as there are nodes, falls at the return.
+-- The body is the part of the book from the entry's offset on, with sixteen bytes for each of its
+-- nodes, and lies where that part lies. A part one byte off, or of as many bytes as there are
+-- nodes, falls at the return.
 use borrow.Author.Needs.{needs}
 use mathlib.Core.Path.{_≡_}
 use mathlib.Core.List.{List}
 use Prim.Native.Nat.{ℕ, _*_}
 use Rattle.numbers.specs.Little.{NODE-BYTES}
-use Rattle.numbers.specs.Part.{partOf}
+use lib.ListN.{length}
+use Rattle.numbers.specs.Part.{partOf, placeIn}
 use Rattle.contents.specs.declared.entry.Entry.{Entry}
-use Rattle.books.specs.Book.{bodyOf}
+use Rattle.books.specs.Book.{bodyOf, bodyPlace}
 use Rattle.books.proofs.book.body_of.Statement.{statement}
 use Rattle.books.proofs.book.body_of.Tie as tie
 
 part : (book : List ℕ) (e : Entry) (r : List ℕ) → r ≡ partOf book (e .offset) (NODE-BYTES * e .count) → r ≡ bodyOf book e
 unfolding bodyOf
 part book e r h = h
+
+place : (start : ℕ × ℕ) (book : List ℕ) (e : Entry) (at : ℕ × ℕ) → at ≡ placeIn start (length book) (e .offset) → at ≡ bodyPlace start book e
+unfolding bodyPlace
+place start book e at h = h
 
 cast-part-of : tie.Need-cast-part-of
 cast-part-of c = search needs
@@ -28,7 +34,7 @@ part-of-requires : tie.Need-part-of-requires
 part-of-requires c κs = search needs
 
 returns : tie.Need-returns
-returns c = part _ _ _ (c .part-of .ensures)
+returns c = (part _ _ _ (c .part-of .ensures .0), place _ _ _ _ (c .part-of .ensures .1))
 
 pub body-of-spec : {M : Type 1} → statement M
 body-of-spec = tie.close (tie.spec cast-part-of cast-part-of-2 mul-part-of part-of-requires returns)

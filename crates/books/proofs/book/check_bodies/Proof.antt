@@ -7,15 +7,14 @@ use Prim.Native.Nat.{ℕ, _+_, _-_, _≤_, _<_, zero-le}
 use native.Mathlib.Omega.{arith}
 use lib.ListN.{drop, drop-of-length-le}
 use denote.Ref.{now}
-use Rattle.nodes.specs.Answer.{TAKEN}
+use Rattle.answers.specs.Answer.{TAKEN}
 use Rattle.numbers.specs.Little.{numberAt}
 use Rattle.contents.specs.declared.entry.Entry.{Entry}
 use Rattle.contents.specs.Contents.{listsIn, entryAt, contentsOf, contentsFault}
 use Rattle.contents.proofs.ContentLaws.{count-contents, contents-from}
-use Rattle.lists.specs.declared.verdict.Verdict.{Verdict}
+use Rattle.answers.specs.declared.verdict.Verdict.{Verdict}
 use Rattle.lists.specs.Check.{checkNodes, checkBytes}
-use Rattle.lists.specs.Two.{inList}
-use Rattle.lists.specs.Verdict.{taken}
+use Rattle.answers.specs.Verdict.{inList, taken}
 use Rattle.books.specs.Book.{bodyOf, nodesOf, checkBodies}
 use Rattle.books.proofs.BookLaws.{bodies-on, bodies-stop, bodies-end, whole-body}
 use Rattle.books.proofs.book.check_bodies.Statement.{statement}
@@ -86,7 +85,7 @@ returns c =
     let l = t .before .before .before .before .loop in
     let s = t .before .before .before .before .before .before .before in
     refused (now (s .args .book)) (s .pre) _ (l .list) (t .before .before .before .before .before .number-at .ensures) (l .inv .1) (omega arith)
-    _ (t .before .before .entry-at .ensures) _ (t .before .body-of .ensures) _ (t .check-bytes .ensures)
+    _ (t .before .before .entry-at .ensures) _ (t .before .body-of .ensures .0) _ (t .check-bytes .ensures)
     (c .before .if1 .taken) _ (c .in-list .ensures)
 
 add-list : tie.Need-add-list Inv-loop μ-loop
@@ -102,7 +101,7 @@ loop-again c =
     let s = t .before .before .before .before .before .before .before in (
       omega arith,
       passed (now (s .args .book)) (s .pre) _ (l .list) (t .before .before .before .before .before .number-at .ensures) (l .inv .1) (omega arith)
-          _ (t .before .before .entry-at .ensures) _ (t .before .body-of .ensures) _ (t .check-bytes .ensures) (c .if1 .left),
+          _ (t .before .before .entry-at .ensures) _ (t .before .body-of .ensures .0) _ (t .check-bytes .ensures) (c .if1 .left),
     )
 
 without-node-requires : tie.Need-without-node-requires Inv-loop μ-loop

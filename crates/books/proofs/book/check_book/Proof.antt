@@ -4,22 +4,22 @@ use borrow.Author.Needs.{needs}
 use mathlib.Core.Path.{_≡_, ap}
 use mathlib.Core.List.{List}
 use Prim.Native.Nat.{ℕ}
-use Rattle.nodes.specs.Answer.{TAKEN}
+use Rattle.answers.specs.Answer.{TAKEN}
 use Rattle.numbers.specs.Little.{numberAt}
 use Rattle.contents.specs.Contents.{listsIn}
-use Rattle.lists.specs.declared.verdict.Verdict.{Verdict}
-use Rattle.books.specs.Book.{checkBook, opened, openedOf}
+use Rattle.answers.specs.declared.verdict.Verdict.{Verdict}
+use Rattle.books.specs.Book.{bookVerdict, opened, checkBook}
 use Rattle.books.proofs.BookLaws.{refuses, accepts}
 use Rattle.books.proofs.book.check_book.Statement.{statement}
 use Rattle.books.proofs.book.check_book.Tie as tie
 
-module _ (book : List ℕ) (v : Verdict) (q : v ≡ checkBook book) where
-  refused : (v .answer ≡ TAKEN → ⊥) → opened v 0 ≡ openedOf book
-  unfolding openedOf
+module _ (book : List ℕ) (v : Verdict) (q : v ≡ bookVerdict book) where
+  refused : (v .answer ≡ TAKEN → ⊥) → opened v 0 ≡ checkBook book
+  unfolding checkBook
   refused h = rw (← q, refuses v h)
 
-  taken-with : v .answer ≡ TAKEN → (lists : ℕ) → lists ≡ numberAt book 0 → opened v lists ≡ openedOf book
-  unfolding openedOf listsIn
+  taken-with : v .answer ≡ TAKEN → (lists : ℕ) → lists ≡ numberAt book 0 → opened v lists ≡ checkBook book
+  unfolding checkBook listsIn
   taken-with h lists n = rw (← q, accepts v h) (ap (opened v) n)
 
 verdict-on-requires : tie.Need-verdict-on-requires

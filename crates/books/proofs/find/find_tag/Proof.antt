@@ -8,27 +8,27 @@ use Prim.Native.Nat.{ℕ}
 use lib.Dec.{eqb}
 use lib.ListN.{take}
 use borrow.Author.Tests.{eqb-true, eqb-false}
-use Rattle.nodes.specs.Answer.{TAKEN}
-use Rattle.nodes.proofs.Tests.{either}
+use Rattle.answers.specs.Answer.{TAKEN}
+use Rattle.laws.proofs.Tests.{either}
 use Rattle.contents.specs.Contents.{entriesIn, contentsOf}
 use Rattle.books.specs.declared.book.Opened.{Opened}
 use Rattle.books.specs.declared.find.Found.{Found}
-use Rattle.books.specs.Book.{checkBook, openedOf}
+use Rattle.books.specs.Book.{bookVerdict, checkBook}
 use Rattle.books.specs.Find.{tagAt, foundAt, foundTag}
 use Rattle.books.proofs.BookLaws.{opened-lists}
 use Rattle.books.proofs.FindLaws.{book-refused}
 use Rattle.books.proofs.find.find_tag.Statement.{statement}
 use Rattle.books.proofs.find.find_tag.Tie as tie
 
-sought : (book : List ℕ) (tag : ℕ) → foundAt book (tagAt tag (take (openedOf book .lists) (entriesIn book))) ≡ foundTag book tag
+sought : (book : List ℕ) (tag : ℕ) → foundAt book (tagAt tag (take (checkBook book .lists) (entriesIn book))) ≡ foundTag book tag
 unfolding foundTag contentsOf
 sought book tag =
-    elim (either (eqb (checkBook book .answer) TAKEN)) [
-      | inl h ↦ rw (opened-lists book (eqb-true (checkBook book .answer) TAKEN h))
-      | inr h ↦ let r = eqb-false (checkBook book .answer) TAKEN h in book-refused book _ r ∙ sym (book-refused book _ r)
+    elim (either (eqb (bookVerdict book .answer) TAKEN)) [
+      | inl h ↦ rw (opened-lists book (eqb-true (bookVerdict book .answer) TAKEN h))
+      | inr h ↦ let r = eqb-false (bookVerdict book .answer) TAKEN h in book-refused book _ r ∙ sym (book-refused book _ r)
     ]
 
-by-tag : (book : List ℕ) (tag : ℕ) (o : Opened) → o ≡ openedOf book → (position : ℕ) → position ≡ tagAt tag (take (o .lists) (entriesIn book))
+by-tag : (book : List ℕ) (tag : ℕ) (o : Opened) → o ≡ checkBook book → (position : ℕ) → position ≡ tagAt tag (take (o .lists) (entriesIn book))
     → (r : Found) → r ≡ foundAt book position → r ≡ foundTag book tag
 by-tag book tag o q position p r s =
     s ∙ ap (foundAt book) (p ∙ ap (λ (x : Opened). tagAt tag (take (x .lists) (entriesIn book))) q) ∙ sought book tag

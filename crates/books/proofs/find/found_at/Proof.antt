@@ -6,26 +6,26 @@ use mathlib.Core.List.{List}
 use Prim.Native.Nat.{ℕ, _*_, _≤_, _<_}
 use native.Mathlib.Omega.{arith}
 use denote.Ref.{now}
-use Rattle.nodes.specs.Answer.{TAKEN, ABSENT}
+use Rattle.answers.specs.Answer.{TAKEN, ABSENT}
 use Rattle.numbers.specs.Little.{NODE-BYTES}
 use Rattle.contents.specs.declared.entry.Entry.{Entry}
 use Rattle.contents.specs.Contents.{listsIn, entryAt}
-use Rattle.lists.specs.declared.verdict.Verdict.{Verdict}
-use Rattle.lists.specs.Verdict.{ANCESTORS, verdict}
+use Rattle.answers.specs.declared.verdict.Verdict.{Verdict}
+use Rattle.answers.specs.Verdict.{ANCESTORS, verdict}
 use Rattle.books.specs.declared.book.Opened.{Opened}
 use Rattle.books.specs.declared.find.Found.{Found}
-use Rattle.books.specs.Book.{checkBook, openedOf}
+use Rattle.books.specs.Book.{bookVerdict, checkBook}
 use Rattle.books.specs.Find.{found, foundAt}
 use Rattle.books.proofs.BookLaws.{opened-verdict, opened-lists}
 use Rattle.books.proofs.FindLaws.{book-refused, list-absent, list-found}
 use Rattle.books.proofs.find.found_at.Statement.{statement}
 use Rattle.books.proofs.find.found_at.Tie as tie
 
-module _ (book : List ℕ) (o : Opened) (q : o ≡ openedOf book) (position : ℕ) where
-  the-verdict : o .verdict ≡ checkBook book
+module _ (book : List ℕ) (o : Opened) (q : o ≡ checkBook book) (position : ℕ) where
+  the-verdict : o .verdict ≡ bookVerdict book
   the-verdict = ap (λ (x : Opened). x .verdict) q ∙ opened-verdict book
 
-  the-answer : o .verdict .answer ≡ checkBook book .answer
+  the-answer : o .verdict .answer ≡ bookVerdict book .answer
   the-answer = ap (λ (v : Verdict). v .answer) the-verdict
 
   refused : (o .verdict .answer ≡ TAKEN → ⊥) → (r : Found) → r ≡ found (o .verdict) 0 0 → r ≡ foundAt book position
@@ -42,7 +42,7 @@ module _ (book : List ℕ) (o : Opened) (q : o ≡ openedOf book) (position : �
         → found (o .verdict) (e .offset) (NODE-BYTES * e .count) ≡ foundAt book position
     there h e w =
         ap (λ v. found v (e .offset) (NODE-BYTES * e .count)) the-verdict
-        ∙ ap (λ (d : Entry). found (checkBook book) (d .offset) (NODE-BYTES * d .count)) w
+        ∙ ap (λ (d : Entry). found (bookVerdict book) (d .offset) (NODE-BYTES * d .count)) w
         ∙ sym (list-found book position (sym the-answer ∙ t) (omega (arith, the-lists, h)))
 
 nowhere-requires : tie.Need-nowhere-requires

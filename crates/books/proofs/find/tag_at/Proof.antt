@@ -9,7 +9,7 @@ use native.Mathlib.Omega.{arith}
 use lib.ListN.{take, drop}
 use denote.Ref.{now}
 use borrow.Author.Tests.{eq-eqb, ne-eqb, ltb-true, ltb-false}
-use Rattle.nodes.specs.Choose.{firstAt}
+use Rattle.laws.specs.Choose.{firstAt}
 use Rattle.contents.specs.declared.entry.Entry.{Entry}
 use Rattle.contents.specs.Contents.{entriesIn, entryCount, entryAt}
 use Rattle.contents.proofs.ContentLaws.{entry-from, none-from}

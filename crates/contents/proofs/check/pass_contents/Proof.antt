@@ -8,27 +8,28 @@ use native.Mathlib.Omega.{arith}
 use lib.ListN.{length, take, drop, drop-of-length-le}
 use denote.Ref.{now}
 use Rattle.contents.specs.declared.entry.Entry.{Entry}
-use Rattle.contents.specs.declared.step.Place.{Place}
+use Rattle.contents.specs.declared.step.ContentsPlace.{ContentsPlace}
 use Rattle.contents.specs.declared.step.Step.{Step}
 use Rattle.contents.specs.declared.step.Step.the-variants.{Reached, Refused}
 use Rattle.contents.specs.Contents.{entriesIn, entryAt, contentsEnd}
-use Rattle.contents.specs.Passing.{startOf, stepOf, Kept}
+use Rattle.contents.specs.Passing.{startOf, stepOf}
+use Rattle.contents.specs.Private.Walk.{Kept}
 use Rattle.contents.proofs.ContentLaws.{length-contents, entries-from, Left, kept-on, kept-stop, kept-end}
 use Rattle.contents.proofs.check.pass_contents.Statement.{statement}
 use Rattle.contents.proofs.check.pass_contents.Tie as tie
 
-abbrev Passed : List ℕ → ℕ → ℕ → Place → Type 0
+abbrev Passed : List ℕ → ℕ → ℕ → ContentsPlace → Type 0
 Passed book lists i p = Left p (drop i (take lists (entriesIn book))) (startOf lists) (take lists (entriesIn book))
 
-none-yet : (book : List ℕ) (lists : ℕ) (p : Place) → p ≡ startOf lists → Passed book lists 0 p
+none-yet : (book : List ℕ) (lists : ℕ) (p : ContentsPlace) → p ≡ startOf lists → Passed book lists 0 p
 none-yet book lists p e = rw e (λ size. refl)
 
-module _ (book : List ℕ) (lists : ℕ) (whole : contentsEnd lists ≤ length book) (i : ℕ) (p : Place) (l : Passed book lists i p) where
+module _ (book : List ℕ) (lists : ℕ) (whole : contentsEnd lists ≤ length book) (i : ℕ) (p : ContentsPlace) (l : Passed book lists i p) where
   module _ (h : i < lists) (e : Entry) (q : e ≡ entryAt book i) (r : Step) (s : r ≡ stepOf p e) where
     next : Left p (e ∷ drop (i + 1) (take lists (entriesIn book))) (startOf lists) (take lists (entriesIn book))
     next = rw (q, ← entries-from book lists whole i h) l
 
-    one-more : (reached : Place) → r ≡ Reached reached → Passed book lists (i + 1) reached
+    one-more : (reached : ContentsPlace) → r ≡ Reached reached → Passed book lists (i + 1) reached
     one-more = kept-on (startOf lists) (take lists (entriesIn book)) p e (drop (i + 1) (take lists (entriesIn book))) next r s
 
     stopped : (answer : ℕ) → r ≡ Refused answer → Kept (startOf lists) (take lists (entriesIn book)) r

@@ -8,19 +8,19 @@ use Prim.Native.Nat.{_+_, _*_, _≤_, _<_}
 use native.Mathlib.Omega.{arith}
 use lib.Dec.{ltb}
 use borrow.Author.Tests.{eq-eqb, ne-eqb, lt-ltb, le-ltb, le-leb, lt-leb, leb-true, leb-false}
-use Rattle.nodes.specs.Answer.{CONTENTS}
+use Rattle.answers.specs.Answer.{CONTENTS}
 use Rattle.nodes.specs.Words.{MOST-NODES}
-use Rattle.nodes.proofs.Tests.{or-right}
+use Rattle.laws.proofs.Tests.{or-right}
 use Rattle.numbers.specs.Little.{NODE-BYTES}
 use Rattle.contents.specs.declared.entry.Entry.{Entry}
-use Rattle.contents.specs.declared.step.Place.{Place}
+use Rattle.contents.specs.declared.step.ContentsPlace.{ContentsPlace}
 use Rattle.contents.specs.declared.step.Step.{Step}
 use Rattle.contents.specs.declared.step.Step.the-variants.{Reached, Refused}
-use Rattle.contents.specs.Passing.{place, passesb, placeAfter, stepOf}
+use Rattle.contents.specs.Passing.{contentsPlace, passesb, afterEntry, stepOf}
 use Rattle.contents.proofs.step.pass_entry.Statement.{statement}
 use Rattle.contents.proofs.step.pass_entry.Tie as tie
 
-module _ (p : Place) (e : Entry) where
+module _ (p : ContentsPlace) (e : Entry) where
   elsewhere : (e .offset ≡ p .end → ⊥) → _≡_ {A = Step} (Refused CONTENTS) (stepOf p e)
   unfolding stepOf passesb
   elsewhere h = rw (ne-eqb (e .offset) (p .end) h)
@@ -42,8 +42,8 @@ module _ (p : Place) (e : Entry) where
       not-above b t = rw (eq-eqb (e .offset) (p .end) o, le-leb (e .count) MOST-NODES m, b, le-ltb (p .tag) (e .tag) t)
 
       passed : (not (p .begun) || ltb (p .tag) (e .tag)) ≡ true
-          → _≡_ {A = Step} (Reached (place true (e .tag) (p .end + NODE-BYTES * e .count))) (stepOf p e)
-      unfolding stepOf passesb placeAfter
+          → _≡_ {A = Step} (Reached (contentsPlace true (e .tag) (p .end + NODE-BYTES * e .count))) (stepOf p e)
+      unfolding stepOf passesb afterEntry
       passed h = rw (eq-eqb (e .offset) (p .end) o, le-leb (e .count) MOST-NODES m, h)
 
 cast-if1 : tie.Need-cast-if1

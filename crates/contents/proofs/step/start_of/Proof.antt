@@ -5,13 +5,13 @@ use mathlib.Core.Path.{_≡_, ap}
 use mathlib.Core.Bool.{false}
 use Prim.Native.Nat.{ℕ}
 use Rattle.contents.specs.Contents.{contentsEnd}
-use Rattle.contents.specs.Passing.{place, startOf}
+use Rattle.contents.specs.Passing.{contentsPlace, startOf}
 use Rattle.contents.proofs.step.start_of.Statement.{statement}
 use Rattle.contents.proofs.step.start_of.Tie as tie
 
-starts : (lists end : ℕ) → end ≡ contentsEnd lists → place false 0 end ≡ startOf lists
+starts : (lists end : ℕ) → end ≡ contentsEnd lists → contentsPlace false 0 end ≡ startOf lists
 unfolding startOf
-starts lists end e = ap (place false 0) e
+starts lists end e = ap (contentsPlace false 0) e
 
 contents-end-requires : tie.Need-contents-end-requires
 contents-end-requires c κs = search needs

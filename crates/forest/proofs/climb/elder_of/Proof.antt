@@ -9,11 +9,11 @@ use native.Mathlib.Omega.{arith}
 use lib.ListN.{length}
 use denote.Ref.{now}
 use Rattle.nodes.specs.declared.node.Node.{Node}
-use Rattle.nodes.specs.Answer.{TAKEN}
+use Rattle.answers.specs.Answer.{TAKEN}
 use Rattle.nodes.specs.Words.{nodes, count, nodeAt}
 use Rattle.nodes.proofs.WordLaws.{length-nodes}
 use Rattle.lists.specs.Check.{checkWords}
-use Rattle.forest.specs.Climb.{Ended, Elder}
+use Rattle.forest.specs.Private.Climb.{Ended, Elder}
 use Rattle.forest.specs.Links.{NONE, nodeIn, parentOf}
 use Rattle.forest.proofs.Climbing.{Passed, pass-before, pass-parent, elder-passed}
 use Rattle.forest.proofs.Containing.{AcceptedList, accepted-list, node-in}

@@ -11,7 +11,7 @@ use denote.Ref.{now}
 use borrow.Author.Tests.{eq-eqb, ne-eqb}
 use Rattle.nodes.specs.declared.node.Node.{Node}
 use Rattle.nodes.specs.Words.{nodes, nodeAt}
-use Rattle.forest.specs.Climb.{firstb}
+use Rattle.forest.specs.Private.Climb.{firstb}
 use Rattle.forest.proofs.Containing.{node-in}
 use Rattle.forest.proofs.climb.is_first.Statement.{statement}
 use Rattle.forest.proofs.climb.is_first.Tie as tie

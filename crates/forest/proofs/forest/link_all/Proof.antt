@@ -7,8 +7,8 @@ use native.Mathlib.Omega.{arith}
 use lib.ListN.{length}
 use denote.Ref.{now}
 use Rattle.nodes.specs.Words.{nodes, count}
-use Rattle.nodes.specs.Written.{written}
-use Rattle.forest.specs.Climb.{linksTo}
+use Rattle.answers.specs.Output.{written}
+use Rattle.forest.specs.Private.Climb.{linksTo}
 use Rattle.forest.proofs.LinkLaws.{linking, links-none, links-more, links-all}
 use Rattle.forest.proofs.forest.link_all.Statement.{statement}
 use Rattle.forest.proofs.forest.link_all.Tie as tie

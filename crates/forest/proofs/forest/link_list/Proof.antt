@@ -19,10 +19,15 @@ returns c =
 node-count-requires : tie.Need-node-count-requires
 node-count-requires c κs = search needs
 
+wrote-nothing-requires : tie.Need-wrote-nothing-requires
+wrote-nothing-requires c κs = search needs
+
 returns-2 : tie.Need-returns-2
 returns-2 c =
-    let a = c .before .before .before .before .before .before .before .args in
-    no-room (now (a .list)) (now (a .out)) _ (c .before .before .before .before .check-list .ensures) (c .before .before .if1 .left) (omega arith)
+    let l = c .before in
+    let a = l .before .before .before .before .before .before .before .args in
+    no-room (now (a .list)) (now (a .out)) _ (l .before .before .before .before .check-list .ensures) (l .before .before .if1 .left) _ (omega arith)
+    (c .wrote-nothing .ensures)
 
 link-all-requires : tie.Need-link-all-requires
 link-all-requires c κs =
@@ -32,15 +37,19 @@ link-all-requires c κs =
 node-count-requires-2 : tie.Need-node-count-requires-2
 node-count-requires-2 c κs = search needs
 
+wrote-requires : tie.Need-wrote-requires
+wrote-requires c κs = search needs
+
 same-length : tie.Need-same-length
 same-length c = search needs
 
 returns-3 : tie.Need-returns-3
 returns-3 c =
-    let a = c .before .before .before .before .before .before .before .before .before .before .before .before .args in
-    let v = c .before .before .before .before .before .before .before .before .before .check-list .ensures in
-    let h = c .before .before .before .before .before .before .before .if1 .left in
-    all-linked (now (a .list)) (now (a .out)) _ v h (omega arith) _ (c .node-count2 .ensures) _ (c .before .before .before .link-all .ensures)
+    let n = c .before in
+    let a = n .before .before .before .before .before .before .before .before .before .before .before .before .args in
+    let v = n .before .before .before .before .before .before .before .before .before .check-list .ensures in
+    let h = n .before .before .before .before .before .before .before .if1 .left in
+    all-linked (now (a .list)) (now (a .out)) _ v h (omega arith) _ (n .node-count2 .ensures) _ (c .wrote .ensures) _ (n .before .before .before .link-all .ensures)
 
 pub link-list-spec : {M : Type 1} → statement M
 link-list-spec =
@@ -49,8 +58,10 @@ link-list-spec =
     check-list-requires
     returns
     node-count-requires
+    wrote-nothing-requires
     returns-2
     link-all-requires
     node-count-requires-2
+    wrote-requires
     same-length
     returns-3)

@@ -10,12 +10,12 @@ use lib.ListN.{length, getD, set}
 use lib.Seq.{sets}
 use denote.Ref.{now}
 use Rattle.nodes.specs.declared.node.Node.{Node}
-use Rattle.nodes.specs.Answer.{TAKEN}
+use Rattle.answers.specs.Answer.{TAKEN}
 use Rattle.nodes.specs.Words.{nodes, count, nodeAt}
-use Rattle.nodes.specs.Written.{written}
+use Rattle.answers.specs.Output.{written}
 use Rattle.nodes.proofs.WordLaws.{length-nodes}
 use Rattle.lists.specs.Check.{checkWords}
-use Rattle.forest.specs.Climb.{Linking, Ended, Elder, firstb, link, linksTo}
+use Rattle.forest.specs.Private.Climb.{Linking, Ended, Elder, firstb, link, linksTo}
 use Rattle.forest.specs.Links.{NONE, nodeIn, parentOf, linkWords}
 use Rattle.forest.proofs.Climbing.{not-first, first-parentless, first-alone, before-parent, before-childless}
 use Rattle.forest.proofs.Containing.{AcceptedList, accepted-list, node-in}

@@ -9,7 +9,7 @@ use denote.Ref.{now}
 use lib.ListN.{length}
 use lib.Seq.{sets}
 use Rattle.nodes.specs.declared.node.Node.{Node}
-use Rattle.lines.specs.Line.{BLANK, LINE-FEED, decimal, pairOf, pairLine}
+use Rattle.lines.specs.Line.{BLANK, LINE-FEED, decimal, pairWith, pairLine}
 use Rattle.lines.proofs.Digits.{digits-32}
 use Rattle.lines.proofs.Putting.{put-first, put-told}
 use Rattle.lines.proofs.Fields.{field-32, put-field}
@@ -21,7 +21,7 @@ whole : (before : List ℕ) (at : ℕ) (x y : Node) (one two three : List ℕ) (
     → (to ≡ at + length (decimal (x .document) ++ BLANK ∷ [])) × (one ≡ sets before at (decimal (x .document) ++ BLANK ∷ []))
     → (next ≡ to + length (decimal (x .start) ++ BLANK ∷ [])) × (two ≡ sets one to (decimal (x .start) ++ BLANK ∷ []))
     → (last ≡ next + length (decimal (y .start) ++ LINE-FEED ∷ [])) × (three ≡ sets two next (decimal (y .start) ++ LINE-FEED ∷ []))
-    → (last ≡ at + length (pairLine (pairOf x y))) × (three ≡ sets before at (pairLine (pairOf x y)))
+    → (last ≡ at + length (pairLine (pairWith x y))) × (three ≡ sets before at (pairLine (pairWith x y)))
 unfolding pairLine
 whole before at x y one two three to next last p q r =
     let first = put-first before at (decimal (x .document) ++ BLANK ∷ []) p in

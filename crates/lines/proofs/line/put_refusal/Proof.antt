@@ -8,9 +8,9 @@ use native.Mathlib.Omega.{arith}
 use denote.Ref.{now}
 use lib.ListN.{length}
 use lib.Seq.{sets}
-use Rattle.nodes.specs.Answer.{row, rowOf, letterAt}
-use Rattle.nodes.specs.Choose.{keep}
-use Rattle.nodes.specs.Written.{written}
+use Rattle.answers.specs.Answer.{padded, nameOf, letterAt}
+use Rattle.laws.specs.Choose.{keep}
+use Rattle.answers.specs.Output.{written}
 use Rattle.lines.specs.Line.{BLANK, LINE-FEED, decimal, word, unfilled, refusalLine}
 use Rattle.lines.proofs.Blanks.{unfilled-few}
 use Rattle.lines.proofs.Digits.{digits-32}
@@ -22,13 +22,13 @@ use Rattle.lines.proofs.line.put_refusal.Tie as tie
 
 -- the word's bytes, the field, the name and the line feed make the line
 whole : (before : List ℕ) (n : ℕ) (name one two three four : List ℕ) (to next then last : ℕ) → n < 4294967296 → length before ≡ 32
-    → length name ≡ 8 → name ≡ rowOf n
+    → length name ≡ 8 → name ≡ nameOf n
     → (to ≡ 8) × (one ≡ sets before 0 (114 ∷ 101 ∷ 102 ∷ 117 ∷ 115 ∷ 101 ∷ 100 ∷ 32 ∷ []))
     → (next ≡ to + length (decimal n ++ BLANK ∷ [])) × (two ≡ sets one to (decimal n ++ BLANK ∷ []))
     → (then ≡ next + length (unfilled name)) × (three ≡ sets two next (unfilled name))
     → (last ≡ then + 1) × (four ≡ sets three then (LINE-FEED ∷ []))
     → (last ≡ length (refusalLine n)) × (four ≡ written (refusalLine n) before)
-unfolding refusalLine word unfilled keep row letterAt
+unfolding refusalLine word unfilled keep padded letterAt
 whole before n name one two three four to next then last h l m e p q r t =
     let first = put-first before 0 (word "refused" ++ BLANK ∷ []) p in
     let second = put-field (word "refused") BLANK first n BLANK q in

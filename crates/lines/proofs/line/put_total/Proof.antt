@@ -8,9 +8,9 @@ use native.Mathlib.Omega.{arith}
 use denote.Ref.{now}
 use lib.ListN.{length}
 use lib.Seq.{sets}
-use Rattle.nodes.specs.Answer.{row, letterAt}
-use Rattle.nodes.specs.Choose.{keep}
-use Rattle.nodes.specs.Written.{written}
+use Rattle.answers.specs.Answer.{padded, letterAt}
+use Rattle.laws.specs.Choose.{keep}
+use Rattle.answers.specs.Output.{written}
 use Rattle.lines.specs.Line.{BLANK, LINE-FEED, decimal, word, unfilled, totalLine}
 use Rattle.lines.proofs.Digits.{digits-64}
 use Rattle.lines.proofs.Putting.{put-first, put-written}
@@ -24,7 +24,7 @@ whole : (before : List ℕ) (n : ℕ) (one two : List ℕ) (to last : ℕ) → n
     → (to ≡ 6) × (one ≡ sets before 0 (112 ∷ 97 ∷ 105 ∷ 114 ∷ 115 ∷ 32 ∷ []))
     → (last ≡ to + length (decimal n ++ LINE-FEED ∷ [])) × (two ≡ sets one to (decimal n ++ LINE-FEED ∷ []))
     → (last ≡ length (totalLine n)) × (two ≡ written (totalLine n) before)
-unfolding totalLine word unfilled keep row letterAt
+unfolding totalLine word unfilled keep padded letterAt
 whole before n one two to last h l p q =
     let first = put-first before 0 (word "pairs" ++ BLANK ∷ []) p in
     put-written before (totalLine n) (omega (arith, field-64 n LINE-FEED h)) (put-field (word "pairs") BLANK first n LINE-FEED q)

@@ -9,7 +9,7 @@ use native.Mathlib.Omega.{arith}
 use denote.Ref.{now}
 use lib.ListN.{length, getD, set, take, length-set}
 use lib.Seq.{sets, take-all, take-suc, length-take-le}
-use Rattle.nodes.proofs.Writing.{sets-more}
+use Rattle.answers.proofs.OutputLaws.{sets-more}
 use Rattle.lines.proofs.text.put_bytes.Statement.{statement}
 use Rattle.lines.proofs.text.put_bytes.Tie as tie
 

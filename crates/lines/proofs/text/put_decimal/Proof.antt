@@ -10,7 +10,7 @@ use denote.Ref.{now}
 use lib.ListN.{length}
 use lib.Seq.{sets, length-sets}
 use Rattle.lines.specs.Line.{decimal}
-use Rattle.lines.specs.Table.{twoDigits}
+use Rattle.lines.specs.Private.DigitTable.{twoDigits}
 use Rattle.lines.proofs.Digits.{decimal-one, decimal-two, decimal-more, length-one, length-two, length-more}
 use Rattle.lines.proofs.Putting.{sets-last-first}
 use Rattle.lines.proofs.text.put_decimal.Statement.{statement}

@@ -9,7 +9,7 @@ use native.Mathlib.Omega.{arith}
 use denote.Ref.{now}
 use lib.ListN.{getD, set}
 use lib.Seq.{sets}
-use Rattle.lines.specs.Table.{twoDigits, Tabled}
+use Rattle.lines.specs.Private.DigitTable.{twoDigits, Tabled}
 use Rattle.lines.proofs.text.put_two.Statement.{statement}
 use Rattle.lines.proofs.text.put_two.Tie as tie
 

@@ -8,7 +8,7 @@ use Prim.Native.Nat.{ℕ, _+_, _-_, _≤_, _<_, zero-le}
 use native.Mathlib.Omega.{arith}
 use lib.ListN.{length, getD, set, take, length-set}
 use lib.Seq.{sets, take-all}
-use Rattle.nodes.specs.Choose.{keep}
+use Rattle.laws.specs.Choose.{keep}
 use Rattle.lines.specs.Line.{BLANK, unfilled}
 use Rattle.lines.proofs.Blanks.{unfilled-letter, unfilled-blank}
 use Rattle.lines.proofs.Putting.{Put, put-next}

@@ -12,7 +12,7 @@ use Rattle.nodes.specs.Words.{nodes}
 use Rattle.numbers.specs.Little.{NODE-BYTES, numbers, nodeIn}
 use Rattle.numbers.proofs.LittleLaws.{node-in-from, node-in-behind}
 use Rattle.lists.specs.Check.{checkNodes}
-use Rattle.lists.specs.Walk.{firsts, opened, Fits}
+use Rattle.lists.specs.Private.Walk.{firsts, opened, Fits}
 use Rattle.lists.proofs.Walking.{Walk, walk-as, walk-start, walk-on, walk-stop, walk-end}
 use Rattle.lists.proofs.bytes.pass_bytes.Statement.{statement}
 use Rattle.lists.proofs.bytes.pass_bytes.Tie as tie

@@ -6,11 +6,11 @@ use mathlib.Core.List.{List, []}
 use Prim.Native.Nat.{ℕ, zero-le}
 use denote.Ref.{now}
 use borrow.Author.Tests.{eq-eqb, ne-eqb}
-use Rattle.nodes.specs.Answer.{TAKEN}
+use Rattle.answers.specs.Answer.{TAKEN}
 use Rattle.nodes.specs.Words.{nodes}
 use Rattle.lists.specs.Check.{checkNodes, checkWords, wordFault}
-use Rattle.lists.specs.Merge.{merge}
-use Rattle.lists.specs.Verdict.{ANCESTORS, verdict}
+use Rattle.lists.specs.Private.Merge.{merge}
+use Rattle.answers.specs.Verdict.{ANCESTORS, verdict}
 use Rattle.lists.proofs.MergeSteps.{merge-nil}
 use Rattle.lists.proofs.Taken.{whole-words}
 use Rattle.lists.proofs.list.check_list.Statement.{statement}

@@ -7,7 +7,7 @@ use Prim.Native.Nat.{ℕ, _%_, _≤_, _<_}
 use native.Mathlib.Omega.{arith}
 use lib.ListN.{length}
 use borrow.Author.Tests.{eq-eqb, ne-eqb, lt-ltb, le-ltb}
-use Rattle.nodes.specs.Answer.{TAKEN, RAGGED, LONG}
+use Rattle.answers.specs.Answer.{TAKEN, RAGGED, LONG}
 use Rattle.nodes.specs.Words.{NODE-WORDS, MOST-NODES, count}
 use Rattle.lists.specs.Check.{raggedb, longb, wordFault}
 use Rattle.lists.proofs.list.word_fault.Statement.{statement}

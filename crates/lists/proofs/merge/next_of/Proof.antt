@@ -4,7 +4,7 @@ use borrow.Author.Needs.{needs}
 use mathlib.Core.Path.{ap}
 use native.Mathlib.Omega.{arith}
 use Rattle.nodes.specs.declared.node.Node.{Node}
-use Rattle.lists.proofs.Drawing.{drawn-as, only-first, only-second, earlier-first, earlier-second}
+use Rattle.lists.proofs.MergeNext.{drawn-as, only-first, only-second, earlier-first, earlier-second}
 use Rattle.lists.proofs.merge.next_of.Statement.{statement}
 use Rattle.lists.proofs.merge.next_of.Tie as tie
 

@@ -6,8 +6,8 @@ use native.Mathlib.Omega.{arith}
 use denote.Ref.{now}
 use Rattle.nodes.specs.declared.node.Node.{Node}
 use Rattle.nodes.specs.Node.{sameb}
-use Rattle.lists.specs.Walk.{nodeFrom}
-use Rattle.lists.proofs.Drawing.{drawn-as, starts-first, starts-second, same-both, other-second}
+use Rattle.lists.specs.Private.Walk.{nodeFrom}
+use Rattle.lists.proofs.MergeNext.{drawn-as, starts-first, starts-second, same-both, other-second}
 use Rattle.lists.proofs.merge.next_within.Statement.{statement}
 use Rattle.lists.proofs.merge.next_within.Tie as tie
 

@@ -8,9 +8,9 @@ use lib.ListN.{length, drop}
 use denote.Ref.{now}
 use Rattle.nodes.specs.Words.{nodes}
 use Rattle.lists.specs.Check.{checkNodes}
-use Rattle.lists.specs.Merge.{merge, Cut}
-use Rattle.lists.specs.Walk.{firsts, opened, Fits}
-use Rattle.lists.proofs.Drawing.{none-left}
+use Rattle.lists.specs.Private.Merge.{merge, Cut}
+use Rattle.lists.specs.Private.Walk.{firsts, opened, Fits}
+use Rattle.lists.proofs.MergeNext.{none-left}
 use Rattle.lists.proofs.Walking.{Walk, walk-as, walk-start, walk-on, walk-stop, walk-end}
 use Rattle.lists.proofs.merge.pass_both.Statement.{statement}
 use Rattle.lists.proofs.merge.pass_both.Tie as tie

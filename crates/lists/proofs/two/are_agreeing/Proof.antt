@@ -8,13 +8,14 @@ use Prim.Native.Nat.{ℕ}
 use denote.Ref.{now}
 use lib.Dec.{eqb}
 use borrow.Author.Tests.{eq-eqb, ne-eqb, eqb-true}
-use Rattle.nodes.specs.Answer.{TAKEN}
+use Rattle.answers.specs.Answer.{TAKEN}
 use Rattle.nodes.specs.Words.{nodes}
-use Rattle.nodes.proofs.Tests.{same-test}
-use Rattle.lists.specs.declared.verdict.Verdict.{Verdict}
+use Rattle.laws.proofs.Tests.{same-test}
+use Rattle.answers.specs.declared.verdict.Verdict.{Verdict}
 use Rattle.lists.specs.Check.{checkNodes, wordFault}
-use Rattle.lists.specs.Merge.{merge}
-use Rattle.lists.specs.Two.{checkTwo, refusedb}
+use Rattle.lists.specs.Private.Merge.{merge}
+use Rattle.lists.specs.Two.{checkTwo}
+use Rattle.answers.specs.Verdict.{refusedb}
 use Rattle.lists.proofs.Merging.{joint-iff, merge-taken-iff}
 use Rattle.lists.proofs.Pairing.{two-taken-iff}
 use Rattle.lists.proofs.Taken.{whole-words, words-check}

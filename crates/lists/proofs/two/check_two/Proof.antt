@@ -6,10 +6,9 @@ use mathlib.Core.Bool.{true, false, not}
 use Prim.Native.Nat.{ℕ}
 use denote.Ref.{now}
 use borrow.Author.Tests.{not-true, not-false, eqb-true, eqb-false}
-use Rattle.nodes.specs.Answer.{TAKEN}
-use Rattle.lists.specs.declared.verdict.Verdict.{Verdict}
-use Rattle.lists.specs.Two.{refusedb, inList}
-use Rattle.lists.specs.Verdict.{DESCENDANTS}
+use Rattle.answers.specs.Answer.{TAKEN}
+use Rattle.answers.specs.declared.verdict.Verdict.{Verdict}
+use Rattle.answers.specs.Verdict.{refusedb, inList, DESCENDANTS}
 use Rattle.lists.proofs.Naming.{two-first, two-second, two-joint, two-taken}
 use Rattle.lists.proofs.two.check_two.Statement.{statement}
 use Rattle.lists.proofs.two.check_two.Tie as tie

@@ -1,4 +1,4 @@
--- The last node passed is the head of the row, which lies on top of the stack.
+-- The last node passed is the head of the chain, which lies on top of the stack.
 -- A node compared with another, or the wrong way round, falls at the second return.
 use borrow.Author.Needs.{needs}
 use mathlib.Core.Path.{_≡_, refl}
@@ -10,7 +10,7 @@ use lib.Dec.{ltb}
 use denote.Ref.{now}
 use Rattle.nodes.specs.declared.node.Node.{Node}
 use Rattle.nodes.specs.Words.{nodeAt}
-use Rattle.lists.specs.Walk.{firsts, opened, firstb}
+use Rattle.lists.specs.Private.Walk.{firsts, opened, firstb}
 use Rattle.lists.proofs.WalkLaws.{top-at}
 use Rattle.lists.proofs.walk.is_first.Statement.{statement}
 use Rattle.lists.proofs.walk.is_first.Tie as tie

@@ -1,4 +1,4 @@
--- The node before is the head of the row, which lies on top of the stack.
+-- The node before is the head of the chain, which lies on top of the stack.
 -- A node compared with another, or the wrong way round, falls at the return.
 use borrow.Author.Needs.{needs}
 use mathlib.Core.Path.{_≡_, sym, _∙_}
@@ -11,7 +11,7 @@ use Rattle.nodes.specs.declared.node.Node.{Node}
 use Rattle.nodes.specs.Node.{afterb}
 use Rattle.nodes.specs.Words.{nodeAt}
 use Rattle.lists.specs.Fault.{orderb}
-use Rattle.lists.specs.Walk.{opened}
+use Rattle.lists.specs.Private.Walk.{opened}
 use Rattle.lists.proofs.WalkLaws.{top-at}
 use Rattle.lists.proofs.walk.is_next.Statement.{statement}
 use Rattle.lists.proofs.walk.is_next.Tie as tie

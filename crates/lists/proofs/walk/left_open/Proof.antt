@@ -4,7 +4,7 @@ use mathlib.Core.Path.{_≡_, refl, _∙_}
 use native.Mathlib.Omega.{arith}
 use denote.Ref.{now}
 use borrow.Author.Needs.{needs}
-use Rattle.lists.specs.Walk.{opened, unended, Fits, InDocument}
+use Rattle.lists.specs.Private.Walk.{opened, unended, Fits, InDocument}
 use Rattle.lists.proofs.WalkLaws.{top-reaches, top-ended, under-top, head-none}
 use Rattle.lists.proofs.walk.left_open.Statement.{statement}
 use Rattle.lists.proofs.walk.left_open.Tie as tie

@@ -2,7 +2,7 @@
 -- A word one off falls at the return.
 use borrow.Author.Needs.{needs}
 use mathlib.Core.Path.{refl}
-use Rattle.lists.specs.Walk.{nodeFrom}
+use Rattle.lists.specs.Private.Walk.{nodeFrom}
 use Rattle.lists.proofs.walk.node_from.Statement.{statement}
 use Rattle.lists.proofs.walk.node_from.Tie as tie
 

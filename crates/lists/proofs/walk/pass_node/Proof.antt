@@ -9,7 +9,7 @@ use borrow.Author.Tests.{not-true, not-false}
 use denote.Ref.{now}
 use Rattle.nodes.specs.Words.{nodes}
 use Rattle.lists.specs.Fault.{orderb}
-use Rattle.lists.specs.Walk.{opened, Behind, Chain}
+use Rattle.lists.specs.Private.Walk.{opened, AfterHead, Chain}
 use Rattle.lists.proofs.WalkLaws.{chain-left, chain-after, behind-left, not-first, next-document}
 use Rattle.lists.proofs.Steps.{passed-low, passed-high, passed-span, passed-first, passed-order, passed-rest}
 use Rattle.lists.proofs.walk.pass_node.Statement.{statement}
@@ -102,7 +102,7 @@ put-on-top-requires c κs =
       omega arith,
       omega arith,
       subst Chain (sym (left .1)) (chain-left (start .args .node) _ (start .pre .2)),
-      subst (Behind (start .args .node)) (sym (left .1)) (behind-left (start .args .node) _ (chain-after (start .args .node) _ (start .pre .2) next)),
+      subst (AfterHead (start .args .node)) (sym (left .1)) (behind-left (start .args .node) _ (chain-after (start .args .node) _ (start .pre .2) next)),
     )
 
 returns-6 : tie.Need-returns-6

@@ -3,7 +3,7 @@
 use borrow.Author.Needs.{needs}
 use native.Mathlib.Omega.{arith}
 use lib.ListN.{length-set}
-use Rattle.lists.proofs.WalkLaws.{stores-at}
+use Rattle.nodes.proofs.WordLaws.{four-stores}
 use Rattle.lists.proofs.walk.put_open.Statement.{statement}
 use Rattle.lists.proofs.walk.put_open.Tie as tie
 
@@ -44,7 +44,7 @@ same-length : tie.Need-same-length
 same-length c = simp length-set
 
 returns : tie.Need-returns
-returns c = stores-at _ _ _ _ (omega arith) (omega arith)
+returns c = four-stores _ _ _ _ (omega arith) (omega arith)
 
 pub put-open-spec : {M : Type 1} → statement M
 put-open-spec =

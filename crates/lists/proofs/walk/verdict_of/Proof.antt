@@ -2,7 +2,7 @@
 -- A place given as a refusal falls at the first return.
 use borrow.Author.Needs.{needs}
 use mathlib.Core.Path.{sym, ap, _∙_}
-use Rattle.lists.specs.Verdict.{verdictOf}
+use Rattle.lists.specs.Step.{verdictOf}
 use Rattle.lists.proofs.walk.verdict_of.Statement.{statement}
 use Rattle.lists.proofs.walk.verdict_of.Tie as tie
 

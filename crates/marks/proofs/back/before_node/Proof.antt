@@ -4,15 +4,15 @@ use borrow.Author.Needs.{needs}
 use mathlib.Core.Path.{_≡_, ap, _∙_}
 use Prim.Native.Nat.{ℕ, _-_}
 use borrow.Author.Tests.{ne-eqb}
-use Rattle.marks.specs.declared.mark.Place.{Place}
+use Rattle.marks.specs.declared.mark.MarkPlace.{MarkPlace}
 use Rattle.marks.specs.Mark.{CLOSE}
-use Rattle.marks.specs.Walk.{place, openBefore, placeBefore}
+use Rattle.marks.specs.Private.Walk.{markPlace, openBefore, beforeMark}
 use Rattle.marks.proofs.back.before_node.Statement.{statement}
 use Rattle.marks.proofs.back.before_node.Tie as tie
 
-one-less : (p : Place) (mark depth : ℕ) → (mark ≡ CLOSE → ⊥) → depth ≡ openBefore (p .depth) mark → place depth (p .rows - 1) ≡ placeBefore p mark
-unfolding placeBefore
-one-less p mark depth h e = ap (λ d. place d (p .rows - 1)) e ∙ rw (ne-eqb mark CLOSE h)
+one-less : (p : MarkPlace) (mark depth : ℕ) → (mark ≡ CLOSE → ⊥) → depth ≡ openBefore (p .depth) mark → markPlace depth (p .rows - 1) ≡ beforeMark p mark
+unfolding beforeMark
+one-less p mark depth h e = ap (λ d. markPlace d (p .rows - 1)) e ∙ rw (ne-eqb mark CLOSE h)
 
 open-before-requires : tie.Need-open-before-requires
 open-before-requires c κs = search needs

@@ -2,7 +2,7 @@
 -- A close stored at another place, or a depth that stays, falls at the return.
 use borrow.Author.Needs.{needs}
 use mathlib.Core.Path.{refl}
-use Rattle.marks.specs.Walk.{openBefore, placeBefore, closesBefore}
+use Rattle.marks.specs.Private.Walk.{openBefore, beforeMark, closesBefore}
 use Rattle.marks.proofs.back.keep_close.Statement.{statement}
 use Rattle.marks.proofs.back.keep_close.Tie as tie
 
@@ -16,7 +16,7 @@ add-t5 : tie.Need-add-t5
 add-t5 c = search needs
 
 returns : tie.Need-returns
-unfolding placeBefore openBefore closesBefore
+unfolding beforeMark openBefore closesBefore
 returns c = (refl, refl)
 
 pub keep-close-spec : {M : Type 1} → statement M

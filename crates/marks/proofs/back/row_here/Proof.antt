@@ -10,7 +10,7 @@ use borrow.Author.Tests.{eq-eqb, ne-eqb}
 use Rattle.nodes.specs.Words.{node}
 use Rattle.marks.specs.Mark.{TEXT}
 use Rattle.marks.specs.Table.{row}
-use Rattle.marks.specs.Walk.{openBefore, rowHere}
+use Rattle.marks.specs.Private.Walk.{openBefore, rowHere}
 use Rattle.marks.proofs.Keeping.{before-low}
 use Rattle.marks.proofs.back.row_here.Statement.{statement}
 use Rattle.marks.proofs.back.row_here.Tie as tie
@@ -38,7 +38,7 @@ returns : tie.Need-returns
 returns c = text-row _ _ _ _ _ _ (c .before .open-before .ensures) (c .if1 .taken)
 
 sub-t7 : tie.Need-sub-t7
-sub-t7 c = c .before .before .pre .1 (c .if1 .left)
+sub-t7 c = let deep = c .before .before .pre .1 (c .if1 .left) in omega (arith, deep)
 
 mul-t11 : tie.Need-mul-t11
 mul-t11 c = search needs

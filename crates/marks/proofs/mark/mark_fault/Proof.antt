@@ -6,7 +6,7 @@ use mathlib.Core.Bool.{true, false}
 use Prim.Native.Nat.{ℕ, _+_, _≤_, _<_}
 use native.Mathlib.Omega.{arith}
 use borrow.Author.Tests.{lt-ltb, le-ltb, eq-eqb, ne-eqb}
-use Rattle.nodes.specs.Answer.{TAKEN, MARK, STRAY, DEEP}
+use Rattle.answers.specs.Answer.{TAKEN, MARK, STRAY, DEEP}
 use Rattle.nodes.specs.Node.{MOST-LEVELS}
 use Rattle.marks.specs.Mark.{CLOSE, TEXT, strayb, deepb, markFault}
 use Rattle.marks.proofs.mark.mark_fault.Statement.{statement}

@@ -4,22 +4,22 @@ use borrow.Author.Needs.{needs}
 use mathlib.Core.Path.{_≡_, sym, _∙_}
 use Prim.Native.Nat.{ℕ, _<_}
 use borrow.Author.Tests.{eq-eqb, ne-eqb}
-use Rattle.nodes.specs.Answer.{TAKEN}
-use Rattle.marks.specs.declared.mark.Place.{Place}
+use Rattle.answers.specs.Answer.{TAKEN}
+use Rattle.marks.specs.declared.mark.MarkPlace.{MarkPlace}
 use Rattle.marks.specs.declared.mark.Step.{Step}
 use Rattle.marks.specs.declared.mark.Step.the-variants.{Reached, Refused}
 use Rattle.marks.specs.Mark.{CLOSE, markFault}
-use Rattle.marks.specs.Walk.{placeAfter, passed}
+use Rattle.marks.specs.Private.Walk.{afterMark, passed}
 use Rattle.marks.proofs.MarkLaws.{in-place, closes-some}
 use Rattle.marks.proofs.mark.pass_mark.Statement.{statement}
 use Rattle.marks.proofs.mark.pass_mark.Tie as tie
 
-module _ (position : ℕ) (p : Place) (mark f : ℕ) (e : f ≡ markFault position (p .depth) mark) where
+module _ (position : ℕ) (p : MarkPlace) (mark f : ℕ) (e : f ≡ markFault position (p .depth) mark) where
   refused-with : (f ≡ TAKEN → ⊥) → _≡_ {A = Step} (Refused f) (passed position p mark)
   unfolding passed
   refused-with h = rw (← e, ne-eqb f TAKEN h)
 
-  reaches : (q : Place) → f ≡ TAKEN → q ≡ placeAfter p mark → _≡_ {A = Step} (Reached q) (passed position p mark)
+  reaches : (q : MarkPlace) → f ≡ TAKEN → q ≡ afterMark p mark → _≡_ {A = Step} (Reached q) (passed position p mark)
   unfolding passed
   reaches q h k = rw (← e, eq-eqb f TAKEN h, k)
 

@@ -5,7 +5,7 @@ use native.Mathlib.Omega.{arith}
 use Prim.Native.Nat.{_-_, _≤_}
 use lib.ListN.{length, drop}
 use denote.Ref.{now}
-use Rattle.marks.specs.Walk.{place as at, walked}
+use Rattle.marks.specs.Private.Walk.{markPlace as at, walked}
 use Rattle.marks.proofs.Passing.{Walk, walk-start, walk-on, walk-stop, none-passed, left-open, all-closed}
 use Rattle.marks.proofs.mark.pass_marks.Statement.{statement}
 use Rattle.marks.proofs.mark.pass_marks.Tie as tie

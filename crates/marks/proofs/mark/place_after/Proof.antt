@@ -4,23 +4,23 @@ use borrow.Author.Needs.{needs}
 use mathlib.Core.Path.{_≡_}
 use Prim.Native.Nat.{ℕ, _+_, _-_}
 use borrow.Author.Tests.{eq-eqb, ne-eqb}
-use Rattle.marks.specs.declared.mark.Place.{Place}
+use Rattle.marks.specs.declared.mark.MarkPlace.{MarkPlace}
 use Rattle.marks.specs.Mark.{CLOSE, TEXT, openAfter}
-use Rattle.marks.specs.Walk.{place, placeAfter}
+use Rattle.marks.specs.Private.Walk.{markPlace, afterMark}
 use Rattle.marks.proofs.mark.place_after.Statement.{statement}
 use Rattle.marks.proofs.mark.place_after.Tie as tie
 
-module _ (p : Place) (mark : ℕ) where
-  a-close : mark ≡ CLOSE → place (p .depth - 1) (p .rows) ≡ placeAfter p mark
-  unfolding placeAfter openAfter
+module _ (p : MarkPlace) (mark : ℕ) where
+  a-close : mark ≡ CLOSE → markPlace (p .depth - 1) (p .rows) ≡ afterMark p mark
+  unfolding afterMark openAfter
   a-close h = rw (eq-eqb mark CLOSE h)
 
-  a-text : mark ≡ TEXT → place (p .depth) (p .rows + 1) ≡ placeAfter p mark
-  unfolding placeAfter openAfter
+  a-text : mark ≡ TEXT → markPlace (p .depth) (p .rows + 1) ≡ afterMark p mark
+  unfolding afterMark openAfter
   a-text h = rw h
 
-  an-opening : (mark ≡ CLOSE → ⊥) → (mark ≡ TEXT → ⊥) → place (p .depth + 1) (p .rows + 1) ≡ placeAfter p mark
-  unfolding placeAfter openAfter
+  an-opening : (mark ≡ CLOSE → ⊥) → (mark ≡ TEXT → ⊥) → markPlace (p .depth + 1) (p .rows + 1) ≡ afterMark p mark
+  unfolding afterMark openAfter
   an-opening h k = rw (ne-eqb mark CLOSE h, ne-eqb mark TEXT k)
 
 sub-t4 : tie.Need-sub-t4

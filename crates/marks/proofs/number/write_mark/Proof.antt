@@ -7,23 +7,23 @@ use Prim.Native.Nat.{ℕ, _-_, _*_}
 use native.Mathlib.Omega.{arith}
 use lib.Seq.{sets}
 use borrow.Author.Tests.{ne-eqb}
-use Rattle.marks.specs.declared.mark.Place.{Place}
+use Rattle.marks.specs.declared.mark.MarkPlace.{MarkPlace}
 use Rattle.marks.specs.declared.row.Row.{Row}
 use Rattle.marks.specs.Mark.{CLOSE}
 use Rattle.marks.specs.Table.{ROW-WORDS, rowWords}
-use Rattle.marks.specs.Walk.{placeBefore, closesBefore, rowHere, outputBefore}
+use Rattle.marks.specs.Private.Walk.{beforeMark, closesBefore, rowHere, outputBefore}
 use Rattle.marks.proofs.number.write_mark.Statement.{statement}
 use Rattle.marks.proofs.number.write_mark.Tie as tie
 
-module _ (document position mark : ℕ) (kept : List ℕ) (p : Place) (out : List ℕ) (q : Place) where
-  closing : (kept′ : List ℕ) → mark ≡ CLOSE → (q ≡ placeBefore p CLOSE) × (kept′ ≡ closesBefore kept position (p .depth) CLOSE)
-      → (q ≡ placeBefore p mark) × (kept′ ≡ closesBefore kept position (p .depth) mark) × (out ≡ outputBefore document position kept p mark out)
+module _ (document position mark : ℕ) (kept : List ℕ) (p : MarkPlace) (out : List ℕ) (q : MarkPlace) where
+  closing : (kept′ : List ℕ) → mark ≡ CLOSE → (q ≡ beforeMark p CLOSE) × (kept′ ≡ closesBefore kept position (p .depth) CLOSE)
+      → (q ≡ beforeMark p mark) × (kept′ ≡ closesBefore kept position (p .depth) mark) × (out ≡ outputBefore document position kept p mark out)
   unfolding outputBefore
   closing kept′ h e = rw h (e .0, e .1, refl)
 
-  beginning : (r : Row) (out′ : List ℕ) → (mark ≡ CLOSE → ⊥) → q ≡ placeBefore p mark → r ≡ rowHere document position kept (p .depth) mark
+  beginning : (r : Row) (out′ : List ℕ) → (mark ≡ CLOSE → ⊥) → q ≡ beforeMark p mark → r ≡ rowHere document position kept (p .depth) mark
       → out′ ≡ sets out (ROW-WORDS * (p .rows - 1)) (rowWords r)
-      → (q ≡ placeBefore p mark) × (kept ≡ closesBefore kept position (p .depth) mark) × (out′ ≡ outputBefore document position kept p mark out)
+      → (q ≡ beforeMark p mark) × (kept ≡ closesBefore kept position (p .depth) mark) × (out′ ≡ outputBefore document position kept p mark out)
   unfolding closesBefore outputBefore
   beginning r out′ h e f g = rw (ne-eqb mark CLOSE h, g, f) (e, refl, refl)
 

@@ -9,7 +9,7 @@ use native.Mathlib.Omega.{arith}
 use denote.Ref.{now}
 use lib.ListN.{length, length-append}
 use Rattle.nodes.specs.Words.{wordsOf, count, putNode}
-use Rattle.nodes.specs.Written.{wordsIn, written}
+use Rattle.answers.specs.Output.{wordsIn, written}
 use Rattle.marks.specs.declared.row.Row.{Row}
 use Rattle.marks.specs.Outcome.{nodesWith, pickedWords}
 use Rattle.marks.specs.Table.{ROW-WORDS, rows, rowIn}

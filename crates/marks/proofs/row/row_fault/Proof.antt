@@ -7,7 +7,7 @@ use Prim.Native.Nat.{ℕ, _%_, _/_, _≤_, _<_}
 use native.Mathlib.Omega.{arith}
 use lib.ListN.{length}
 use borrow.Author.Tests.{eq-eqb, ne-eqb, lt-ltb, le-ltb}
-use Rattle.nodes.specs.Answer.{TAKEN, RAGGED, LONG}
+use Rattle.answers.specs.Answer.{TAKEN, RAGGED, LONG}
 use Rattle.nodes.specs.Words.{MOST-NODES}
 use Rattle.marks.specs.Table.{ROW-WORDS, rowFault}
 use Rattle.marks.proofs.row.row_fault.Statement.{statement}

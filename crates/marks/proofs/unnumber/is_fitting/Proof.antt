@@ -8,21 +8,21 @@ use mathlib.Core.List.{List}
 use Prim.Native.Nat.{ℕ, _-_, _<_}
 use lib.Dec.{ltb}
 use borrow.Author.Tests.{not-true, not-false, ltb-true, eqb-true, eq-eqb, ne-eqb}
-use Rattle.nodes.specs.Answer.{TAKEN}
-use Rattle.nodes.proofs.Tests.{or-read}
-use Rattle.marks.specs.declared.mark.Place.{Place}
+use Rattle.answers.specs.Answer.{TAKEN}
+use Rattle.laws.proofs.Tests.{or-read}
+use Rattle.marks.specs.declared.mark.MarkPlace.{MarkPlace}
 use Rattle.marks.specs.declared.row.Row.{Row}
 use Rattle.marks.specs.Back.{sameRowb}
 use Rattle.marks.specs.Mark.{CLOSE, TEXT, textb, markFault}
 use Rattle.marks.specs.Table.{rowIn}
-use Rattle.marks.specs.Walk.{openBefore, rowHere, fitsb}
+use Rattle.marks.specs.Private.Walk.{openBefore, rowHere, fitsb}
 use Rattle.marks.proofs.unnumber.is_fitting.Statement.{statement}
 use Rattle.marks.proofs.unnumber.is_fitting.Tie as tie
 
 opened : (depth mark : ℕ) (b : Bool) → b ≡ (textb mark || ltb 0 depth) → b ≡ true → (mark ≡ TEXT → ⊥) → 0 < depth
 opened depth mark b e h t = elim (or-read (textb mark) (sym e ∙ h)) [ inl k ↦ absurd (t (eqb-true _ _ k)) | inr k ↦ ltb-true _ _ k ]
 
-module _ (rs : List Row) (document position : ℕ) (kept : List ℕ) (q : Place) (mark : ℕ) (n : mark ≡ CLOSE → ⊥) (b : Bool)
+module _ (rs : List Row) (document position : ℕ) (kept : List ℕ) (q : MarkPlace) (mark : ℕ) (n : mark ≡ CLOSE → ⊥) (b : Bool)
     (e : b ≡ (textb mark || ltb 0 (q .depth))) where
   unopened : b ≡ false → false ≡ fitsb rs document position kept q mark
   unfolding fitsb

@@ -8,11 +8,11 @@ use Prim.Native.Nat.{ℕ, _/_, _≤_, _<_}
 use native.Mathlib.Omega.{arith}
 use lib.ListN.{length}
 use Rattle.nodes.specs.Words.{MOST-NODES}
-use Rattle.nodes.proofs.Tests.{not-so}
+use Rattle.laws.proofs.Tests.{not-so}
 use Rattle.marks.specs.declared.row.Row.{Row}
 use Rattle.marks.specs.Back.{documentOf, numberedb}
 use Rattle.marks.specs.Table.{ROW-WORDS, rows, rowIn}
-use Rattle.marks.specs.Walk.{allReadBack}
+use Rattle.marks.specs.Private.Walk.{allReadBack}
 use Rattle.marks.proofs.ReadBack.{table-tells, reads-back}
 use Rattle.marks.proofs.RowLaws.{length-rows}
 use Rattle.marks.proofs.unnumber.is_numbered.Statement.{statement}

@@ -8,7 +8,7 @@ use native.Mathlib.Omega.{arith}
 use Rattle.marks.specs.declared.row.Row.{Row}
 use Rattle.marks.specs.Mark.{CLOSE}
 use Rattle.marks.specs.Table.{rowIn}
-use Rattle.marks.specs.Walk.{markHere}
+use Rattle.marks.specs.Private.Walk.{markHere}
 use Rattle.marks.proofs.ReadBack.{told-close, told-tag}
 use Rattle.marks.proofs.unnumber.mark_here.Statement.{statement}
 use Rattle.marks.proofs.unnumber.mark_here.Tie as tie

@@ -6,7 +6,7 @@ use Prim.Native.Nat.{_-_, _≤_, zero-le}
 use native.Mathlib.Omega.{arith}
 use lib.ListN.{length, set, replicate, length-set}
 use denote.Ref.{now}
-use Rattle.nodes.specs.Written.{written}
+use Rattle.answers.specs.Output.{written}
 use Rattle.marks.specs.Mark.{CLOSE}
 use Rattle.marks.proofs.Tagging.{close-more}
 use Rattle.marks.proofs.unnumber.put_closes.Statement.{statement}

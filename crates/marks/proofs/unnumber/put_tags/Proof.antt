@@ -6,7 +6,7 @@ use mathlib.Core.List.{List}
 use Prim.Native.Nat.{ℕ, _+_, _-_, _/_, _≤_, _<_, zero-le}
 use native.Mathlib.Omega.{arith}
 use lib.ListN.{length, drop, set, length-set}
-use Rattle.nodes.specs.Choose.{All}
+use Rattle.laws.specs.Choose.{All}
 use Rattle.marks.specs.declared.row.Row.{Row}
 use Rattle.marks.specs.Back.{tagged}
 use Rattle.marks.specs.Table.{ROW-WORDS, rows, rowIn}

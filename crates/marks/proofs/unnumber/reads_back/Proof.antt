@@ -14,14 +14,14 @@ use lib.ListN.{length, replicate}
 use borrow.Author.Tests.{eqb-true, eqb-false, eq-eqb, ne-eqb}
 use denote.Ref.{now}
 use Rattle.nodes.specs.Node.{MOST-LEVELS}
-use Rattle.nodes.proofs.Tests.{either}
-use Rattle.marks.specs.declared.mark.Place.{Place}
+use Rattle.laws.proofs.Tests.{either}
+use Rattle.marks.specs.declared.mark.MarkPlace.{MarkPlace}
 use Rattle.marks.specs.declared.mark.Step.{Step}
 use Rattle.marks.specs.declared.mark.Step.the-variants.{Reached, Refused}
 use Rattle.marks.specs.declared.row.Row.{Row}
 use Rattle.marks.specs.Mark.{CLOSE, closeb}
 use Rattle.marks.specs.Table.{ROW-WORDS, rows}
-use Rattle.marks.specs.Walk.{place, placeBefore, markHere, fitsb, SteppedBack, readsBack, allReadBack}
+use Rattle.marks.specs.Private.Walk.{markPlace, beforeMark, markHere, fitsb, SteppedBack, readsBack, allReadBack}
 use Rattle.marks.proofs.Keeping.{before-closes, before-low}
 use Rattle.marks.proofs.ReadBack.{fits-read}
 use Rattle.marks.proofs.RowLaws.{length-rows}
@@ -29,9 +29,9 @@ use Rattle.marks.proofs.unnumber.reads_back.Statement.{statement}
 use Rattle.marks.proofs.unnumber.reads_back.Tie as tie
 
 -- the place before a mark that fits
-module _ (rs : List Row) (document position : ℕ) (kept : List ℕ) (q : Place) (mark : ℕ) where
-  still-low : fitsb rs document position kept q mark ≡ true → q .depth ≤ MOST-LEVELS → placeBefore q mark .depth ≤ MOST-LEVELS
-  unfolding placeBefore
+module _ (rs : List Row) (document position : ℕ) (kept : List ℕ) (q : MarkPlace) (mark : ℕ) where
+  still-low : fitsb rs document position kept q mark ≡ true → q .depth ≤ MOST-LEVELS → beforeMark q mark .depth ≤ MOST-LEVELS
+  unfolding beforeMark
   still-low f l =
       elim (either (closeb mark)) [
         | inl c ↦ let e : mark ≡ CLOSE = eqb-true _ _ c in
@@ -39,13 +39,13 @@ module _ (rs : List Row) (document position : ℕ) (kept : List ℕ) (q : Place)
         | inr c ↦ omega (arith, before-low (q .depth) mark (eqb-false _ _ c))
       ]
 
-  fewer-rows : placeBefore q mark .rows ≤ q .rows
-  unfolding placeBefore
+  fewer-rows : beforeMark q mark .rows ≤ q .rows
+  unfolding beforeMark
   fewer-rows = elim (either (closeb mark)) [ inl c ↦ rw c (omega arith) | inr c ↦ rw c (omega arith) ]
 
 -- what is left to read, step by step
-module _ (rs : List Row) (document : ℕ) (kept : List ℕ) (q : Place) where
-  read-on : (position : ℕ) → 0 < position → (p : Place) (after : List ℕ) → SteppedBack rs document position kept q (Reached p) after
+module _ (rs : List Row) (document : ℕ) (kept : List ℕ) (q : MarkPlace) where
+  read-on : (position : ℕ) → 0 < position → (p : MarkPlace) (after : List ℕ) → SteppedBack rs document position kept q (Reached p) after
       → readsBack rs document (position - 1) after p ≡ readsBack rs document position kept q
   unfolding readsBack
   read-on zero h p after s = absurd (not-suc-le-zero h)
@@ -68,7 +68,7 @@ module _ (rs : List Row) (document : ℕ) (kept : List ℕ) (q : Place) where
   read-all (suc before) h d = absurd (not-suc-le-zero h)
 
 -- a walk back that has reached a place, with so many rows in all
-record Reads (rs : List Row) (document last : ℕ) (kept : List ℕ) (q : Place) (position : ℕ) : Type 0 where
+record Reads (rs : List Row) (document last : ℕ) (kept : List ℕ) (q : MarkPlace) (position : ℕ) : Type 0 where
   low : q .depth ≤ MOST-LEVELS
   few : q .rows ≤ length rs
   same : readsBack rs document position kept q ≡ allReadBack rs document last
@@ -80,15 +80,15 @@ abbrev μ-loop : tie.MeasureT-loop
 μ-loop table document last closes₀ place₀ position₀ closes place position = position
 
 reads-start : (ws : List ℕ) (document last count : ℕ) → count ≡ length ws / ROW-WORDS
-    → Reads (rows ws) document last (replicate MOST-LEVELS 0) (place 0 count) last
+    → Reads (rows ws) document last (replicate MOST-LEVELS 0) (markPlace 0 count) last
 unfolding allReadBack
 reads-start ws document last count e =
     let l : count ≡ length (rows ws) = e ∙ sym (length-rows ws) in
-    record { low = zero-le; few = omega arith; same = ap (λ n. readsBack (rows ws) document last (replicate MOST-LEVELS 0) (place 0 n)) l }
+    record { low = zero-le; few = omega arith; same = ap (λ n. readsBack (rows ws) document last (replicate MOST-LEVELS 0) (markPlace 0 n)) l }
 
-module _ {rs : List Row} {document last : ℕ} {kept : List ℕ} {q : Place} {position : ℕ} (r : Reads rs document last kept q position)
+module _ {rs : List Row} {document last : ℕ} {kept : List ℕ} {q : MarkPlace} {position : ℕ} (r : Reads rs document last kept q position)
     (h : 0 < position) (step : Step) (after : List ℕ) (s : SteppedBack rs document position kept q step after) where
-  reads-on : (p : Place) → step ≡ Reached p → Reads rs document last after p (position - 1)
+  reads-on : (p : MarkPlace) → step ≡ Reached p → Reads rs document last after p (position - 1)
   reads-on p e =
       let t = subst (λ (z : Step). SteppedBack rs document position kept q z after) e s in
       let mark = markHere rs (q .rows) position in

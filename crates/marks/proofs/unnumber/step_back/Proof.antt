@@ -8,21 +8,21 @@ use Prim.Native.Nat.{ℕ, _<_}
 use native.Mathlib.Omega.{arith}
 use borrow.Author.Tests.{not-true, not-false, lt-ltb, le-ltb, ne-eqb}
 use Rattle.nodes.specs.Node.{MOST-LEVELS}
-use Rattle.marks.specs.declared.mark.Place.{Place}
+use Rattle.marks.specs.declared.mark.MarkPlace.{MarkPlace}
 use Rattle.marks.specs.declared.mark.Step.the-variants.{Reached}
 use Rattle.marks.specs.declared.row.Row.{Row}
 use Rattle.marks.specs.Mark.{CLOSE, TEXT}
-use Rattle.marks.specs.Walk.{placeBefore, closesBefore, markHere, fitsb, SteppedBack}
+use Rattle.marks.specs.Private.Walk.{beforeMark, closesBefore, markHere, fitsb, SteppedBack}
 use Rattle.marks.proofs.ReadBack.{told-some, fits-read}
 use Rattle.marks.proofs.unnumber.step_back.Statement.{statement}
 use Rattle.marks.proofs.unnumber.step_back.Tie as tie
 
-module _ (rs : List Row) (document position : ℕ) (kept : List ℕ) (q : Place) (mark : ℕ) (m : mark ≡ markHere rs (q .rows) position) where
+module _ (rs : List Row) (document position : ℕ) (kept : List ℕ) (q : MarkPlace) (mark : ℕ) (m : mark ≡ markHere rs (q .rows) position) where
   full : mark ≡ CLOSE → q .depth ≡ MOST-LEVELS → fitsb rs document position kept q (markHere rs (q .rows) position) ≡ false
   unfolding fitsb
   full h d = rw (sym m ∙ h) (le-ltb (q .depth) MOST-LEVELS (omega arith))
 
-  closed : mark ≡ CLOSE → q .depth < MOST-LEVELS → (p : Place) → p ≡ placeBefore q CLOSE → (after : List ℕ)
+  closed : mark ≡ CLOSE → q .depth < MOST-LEVELS → (p : MarkPlace) → p ≡ beforeMark q CLOSE → (after : List ℕ)
       → after ≡ closesBefore kept position (q .depth) CLOSE → SteppedBack rs document position kept q (Reached p) after
   unfolding fitsb
   closed h d p ep after ea = rw (sym m ∙ h) (lt-ltb (q .depth) MOST-LEVELS d, ep, ea)
@@ -31,14 +31,14 @@ module _ (rs : List Row) (document position : ℕ) (kept : List ℕ) (q : Place)
     unfit : b ≡ false → fitsb rs document position kept q (markHere rs (q .rows) position) ≡ false
     unfit h = rw (← m) (sym e ∙ h)
 
-    fit : b ≡ true → (mark ≡ CLOSE → ⊥) → (p : Place) → p ≡ placeBefore q mark → SteppedBack rs document position kept q (Reached p) kept
+    fit : b ≡ true → (mark ≡ CLOSE → ⊥) → (p : MarkPlace) → p ≡ beforeMark q mark → SteppedBack rs document position kept q (Reached p) kept
     unfolding closesBefore
     fit h n p ep = rw (← m, ne-eqb mark CLOSE n) (sym e ∙ h, ep, refl)
 
 some-left : (rs : List Row) (count position mark : ℕ) → mark ≡ markHere rs count position → (mark ≡ CLOSE → ⊥) → 0 < count
 some-left rs count position mark m n = told-some rs count position (λ h. n (m ∙ h))
 
-some-open : (rs : List Row) (document position : ℕ) (kept : List ℕ) (q : Place) (mark : ℕ) (b : Bool)
+some-open : (rs : List Row) (document position : ℕ) (kept : List ℕ) (q : MarkPlace) (mark : ℕ) (b : Bool)
     → b ≡ fitsb rs document position kept q mark → b ≡ true → (mark ≡ CLOSE → ⊥) → (mark ≡ TEXT → ⊥) → 0 < q .depth
 some-open rs document position kept q mark b e h = fits-read rs document position kept q mark (sym e ∙ h) .inner
 

@@ -9,17 +9,17 @@ use native.Mathlib.Omega.{arith}
 use lib.ListN.{length, replicate, length-replicate}
 use borrow.Author.Tests.{not-true, not-false, ne-eqb}
 use denote.Ref.{now}
-use Rattle.nodes.specs.Answer.{TAKEN, ROOM, TABLE}
-use Rattle.nodes.specs.Choose.{All}
-use Rattle.nodes.specs.Written.{written, answerOf, ifTaken, outputOf}
-use Rattle.nodes.proofs.Choices.{all-map}
+use Rattle.answers.specs.Answer.{TAKEN, ROOM, TABLE}
+use Rattle.laws.specs.Choose.{All}
+use Rattle.answers.specs.Output.{written, answerOf, ifTaken, outputOf}
+use Rattle.laws.proofs.Choices.{all-map}
 use Rattle.marks.specs.declared.row.Row.{Row}
 use Rattle.marks.specs.declared.unnumber.Unnumbered.{Unnumbered}
 use Rattle.marks.specs.Back.{tagged, marksOf, documentOf, numberedb, checkTable}
 use Rattle.marks.specs.Mark.{CLOSE}
 use Rattle.marks.specs.Outcome.{unnumbered, tableMarks, unnumberOutcome, unnumberOutput}
 use Rattle.marks.specs.Table.{ROW-WORDS, rows, rowIn, rowFault}
-use Rattle.nodes.proofs.Writing.{answer-fault, answer-room, answer-taken}
+use Rattle.answers.proofs.OutputLaws.{answer-fault, answer-room, answer-taken}
 use Rattle.marks.proofs.ReadBack.{table-tells}
 use Rattle.marks.proofs.RowLaws.{length-rows}
 use Rattle.marks.proofs.Tagging.{Within, length-tagged, table-within, puts-marks}

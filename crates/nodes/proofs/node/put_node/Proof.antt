@@ -3,7 +3,7 @@
 use Prim.Native.Nat.{ℕ, _≤_}
 use native.Mathlib.Omega.{arith}
 use lib.ListN.{length-set}
-use mathlib.Core.Path.{_≡_}
+use mathlib.Core.Path.{_≡_, refl}
 use mathlib.Core.List.{List}
 use borrow.Author.Tests.{le-ltb}
 use borrow.Author.Needs.{needs}
@@ -66,7 +66,7 @@ same-length-2 : tie.Need-same-length-2
 same-length-2 c = simp length-set
 
 returns-2 : tie.Need-returns-2
-returns-2 c = four-stores _ _ _ (omega arith)
+returns-2 c = four-stores _ _ _ _ refl (omega arith)
 
 pub put-node-spec : {M : Type 1} → statement M
 put-node-spec =

@@ -10,8 +10,8 @@ use lib.ListN.{length, take, set, length-set}
 use lib.Seq.{take-all, take-suc, length-take-le}
 use denote.Ref.{now}
 use borrow.Author.Tests.{ltb-true, ltb-false}
-use Rattle.nodes.specs.Written.{written}
-use Rattle.nodes.proofs.Writing.{written-more}
+use Rattle.answers.specs.Output.{written}
+use Rattle.answers.proofs.OutputLaws.{written-more}
 use Rattle.numbers.specs.Little.{numbers, numberCount, numberAt}
 use Rattle.numbers.specs.Part.{copied}
 use Rattle.numbers.proofs.LittleLaws.{length-numbers}

@@ -1,5 +1,7 @@
--- A start behind the end leaves nothing, a count that reaches beyond it leaves all from the start on, and else the part is the definition's own.
--- A part one byte off, or one byte short, falls at its return.
+-- A start after the end leaves nothing, a count that reaches beyond it leaves all from the start
+-- on, and else the part is the definition's own; each is cut from the bytes at the place that its
+-- bound names. A part one byte off, or one byte short, or an empty one at another place falls at
+-- its return.
 use borrow.Author.Needs.{needs}
 use mathlib.Core.Path.{_≡_, sym, ap, _∙_}
 use mathlib.Core.List.{List, []}
@@ -8,6 +10,7 @@ use native.Mathlib.Omega.{arith}
 use lib.ListN.{length, take, drop, length-drop, drop-of-length-le}
 use lib.Seq.{take-all, take-nil}
 use Rattle.numbers.specs.Part.{partOf}
+use Rattle.numbers.proofs.Places.{before-the-end, at-the-beginning}
 use Rattle.numbers.proofs.part.part_of.Statement.{statement}
 use Rattle.numbers.proofs.part.part_of.Tie as tie
 
@@ -32,7 +35,7 @@ slice-aggregate-result : tie.Need-slice-aggregate-result
 slice-aggregate-result c = search needs
 
 returns : tie.Need-returns
-returns c = behind _ _ _ (omega arith)
+returns c = (behind _ _ _ (omega arith), at-the-beginning _ _ _ (omega arith))
 
 sub-if2 : tie.Need-sub-if2
 sub-if2 c = search needs
@@ -47,7 +50,7 @@ part-result-end : tie.Need-part-result-end
 part-result-end c = search needs
 
 returns-2 : tie.Need-returns-2
-returns-2 c = to-the-end _ _ _ (omega arith)
+returns-2 c = (to-the-end _ _ _ (omega arith), before-the-end _ _ _ _ (omega arith) (omega arith))
 
 add-result : tie.Need-add-result
 add-result c = search needs
@@ -62,7 +65,7 @@ part-result-end-2 : tie.Need-part-result-end-2
 part-result-end-2 c = search needs
 
 returns-3 : tie.Need-returns-3
-returns-3 c = within _ _ _
+returns-3 c = (within _ _ _, before-the-end _ _ _ _ (omega arith) (omega arith))
 
 pub part-of-spec : {M : Type 1} → statement M
 part-of-spec =

@@ -7,11 +7,11 @@ use mathlib.Core.Path.{_≡_, sym, subst, _∙_}
 use native.Mathlib.Omega.{arith}
 use lib.ListN.{length, drop}
 use denote.Ref.{now}
-use Rattle.nodes.specs.Choose.{firstAt}
+use Rattle.laws.specs.Choose.{firstAt}
 use Rattle.nodes.specs.Node.{afterb}
 use Rattle.nodes.specs.Words.{nodes}
-use Rattle.tickets.proofs.First.{Searched, search-from, search-found, search-on, search-end}
-use Rattle.pairs.specs.Sweep.{Placed}
+use Rattle.tickets.proofs.Search.{Searched, search-from, search-found, search-on, search-end}
+use Rattle.pairs.specs.Private.Sweep.{Placed}
 use Rattle.pairs.proofs.ancestors.first_after.Statement.{statement}
 use Rattle.pairs.proofs.ancestors.first_after.Tie as tie
 

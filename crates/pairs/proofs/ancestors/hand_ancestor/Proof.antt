@@ -3,14 +3,14 @@
 -- falls at a return.
 use borrow.Author.Needs.{needs}
 use Prim.Native.Nat.{_/_}
-use mathlib.Core.Path.{sym, subst, ap, _∙_}
+use mathlib.Core.Path.{sym, subst, _∙_}
 use denote.Ref.{now}
 use Rattle.nodes.specs.Words.{nodeAt}
-use Rattle.nodes.proofs.Tests.{not-read, not-none}
+use Rattle.laws.proofs.Tests.{not-read, not-none}
 use Rattle.tickets.specs.declared.ticket.Order.the-variants.{Ancestor}
-use Rattle.pairs.specs.Sweep.{Running, servedRow}
+use Rattle.pairs.specs.Private.Sweep.{Running}
 use Rattle.pairs.proofs.Stretches.{all-fit}
-use Rattle.pairs.proofs.Zones.{run-none, end-placed, ahead-placed, ahead-row}
+use Rattle.pairs.proofs.Zones.{run-none, end-placed, ahead-placed, serve-run}
 use Rattle.pairs.proofs.ancestors.hand_ancestor.Statement.{statement}
 use Rattle.pairs.proofs.ancestors.hand_ancestor.Tie as tie
 
@@ -65,8 +65,9 @@ returns-2 c =
     let p = c .before .before .before .before .before .before .before .before .before .before .before .before .pre in
     let e = c .before .before .before .before .before .run-end .ensures in
     let f = c .before .before .before .before .first-from .ensures in
-    let s = ahead-row (now (a .descendants)) (nodeAt (now (a .ancestors)) (a .i / 4)) (a .from) _ _ (a .past) _ (p .3) (p .5) (c .before .before .before .before .before .before .before .before .node-from .ensures) (e .0) (e .1) (a .relation) (f .0) (f .1) in
-    (e .0, c .before .before .hand-run .ensures ∙ ap (servedRow Ancestor (now (a .out)) (a .written) (nodeAt (now (a .ancestors)) (a .i / 4))) s)
+    let s = serve-run (now (a .descendants)) (nodeAt (now (a .ancestors)) (a .i / 4)) (a .from) _ _ (a .past) _ (p .3) (p .5) (c .before .before .before .before .before .before .before .before .node-from .ensures) (e .0) (e .1) (a .relation) (f .0) (f .1)
+    (now (a .out)) (a .written) (c .before .before .hand-run .ensures) in
+    (e .0, s)
 
 pub hand-ancestor-spec : {M : Type 1} → statement M
 hand-ancestor-spec =

@@ -11,30 +11,32 @@ use lib.ListN.{length, drop}
 use denote.Ref.{now}
 use Rattle.nodes.specs.declared.node.Node.{Node}
 use Rattle.nodes.specs.Words.{nodes, nodeAt}
-use Rattle.nodes.proofs.Tests.{not-read, not-none}
-use Rattle.paging.proofs.Serving.{left-on, left-stop, left-end}
+use Rattle.laws.proofs.Tests.{not-read, not-none}
+use Rattle.paging.proofs.Serving.{left-end}
 use Rattle.tickets.specs.declared.ticket.Order.the-variants.{Ancestor}
 use Rattle.tickets.specs.declared.ticket.Relation.the-variants.{Directly}
-use Rattle.tickets.specs.Row.{PAIR-WORDS, pairWords, row, matches}
-use Rattle.pairs.specs.Sweep.{Placed, servedRow}
-use Rattle.pairs.proofs.Children.{child-row, inner-passed, level-fits}
+use Rattle.tickets.specs.PairWords.{PAIR-WORDS, pairWords}
+use Rattle.tickets.specs.Private.Group.{group, matches}
+use Rattle.tickets.specs.Ticket.{asked}
+use Rattle.pairs.specs.Private.Sweep.{Placed, servedGroup}
+use Rattle.pairs.proofs.Children.{child-on, child-stop, inner-passed, level-fits}
 use Rattle.pairs.proofs.Running.{none-match}
 use Rattle.pairs.proofs.ancestors.hand_children.Statement.{statement}
 use Rattle.pairs.proofs.ancestors.hand_children.Tie as tie
 
--- nothing makes no row
-row-none : (a : Node) {ns : List Node} → ns ≡ [] → row Ancestor a ns ≡ []
-unfolding row
-row-none a q = rw q refl
+-- nothing makes no group
+group-none : (a : Node) {ns : List Node} → ns ≡ [] → group Ancestor a ns ≡ []
+unfolding group
+group-none a q = rw q refl
 
 abbrev Inv-loop : tie.InvT-loop
 Inv-loop out₀ written ancestors i descendants from to handed₀ level zone₀ k₀ out handed zone k =
     (length out ≡ length out₀) × (level ≡ nodeAt ancestors (i / 4) .level + 1) × Placed ancestors zone × (i < zone) × (k % 4 ≡ 0) × (from ≤ k)
     × (handed .done ≡ true)
-    × (servedRow Ancestor out (handed .count) (nodeAt ancestors (i / 4))
-    (matches Directly Ancestor (nodeAt ancestors (i / 4)) (drop (k / 4) (nodes descendants)))
-    ≡ servedRow Ancestor out₀ written (nodeAt ancestors (i / 4))
-    (matches Directly Ancestor (nodeAt ancestors (i / 4)) (drop (from / 4) (nodes descendants))))
+    × (servedGroup Ancestor out (handed .count) (nodeAt ancestors (i / 4))
+    (matches (asked Directly Ancestor) (nodeAt ancestors (i / 4)) (drop (k / 4) (nodes descendants)))
+    ≡ servedGroup Ancestor out₀ written (nodeAt ancestors (i / 4))
+    (matches (asked Directly Ancestor) (nodeAt ancestors (i / 4)) (drop (from / 4) (nodes descendants))))
 
 abbrev μ-loop : tie.MeasureT-loop
 μ-loop out₀ written ancestors i descendants from to handed₀ level zone₀ k₀ out handed zone k = to - k
@@ -89,9 +91,9 @@ returns c =
     let l = c .before .before .before .before .before .before .before .before .before .before .loop in
     let i = l .inv in
     let t = c .before .before .before .before .before .before .before .before .before .loop-test .taken in
-    let row = child-row (now (a .descendants)) (nodeAt (now (a .ancestors)) (a .i / 4)) (a .from) (l .k) _ _ (p .3 .0, i .4, omega (arith, p .4)) (omega (arith, p .4))
-    (p .5) (i .5) (omega (arith, p .6, i .4, p .4)) (c .before .before .before .before .before .before .before .before .node-from2 .ensures) (c .before .before .before .before .before .before .if1 .taken) (i .1) in
-    left-stop pairWords PAIR-WORDS _ _ _ _ (c .before .before .before .before .pair-with-descendants .ensures) (not-read _ (c .if2 .taken)) row (i .7)
+    child-stop (now (a .descendants)) (nodeAt (now (a .ancestors)) (a .i / 4)) (a .from) (l .k) _ _ (p .3 .0, i .4, omega (arith, p .4)) (omega (arith, p .4))
+    (p .5) (i .5) (omega (arith, p .6, i .4, p .4)) (c .before .before .before .before .before .before .before .before .node-from2 .ensures) (c .before .before .before .before .before .before .if1 .taken) (i .1)
+    _ _ (c .before .before .before .before .pair-with-descendants .ensures) (not-read _ (c .if2 .taken)) (i .7)
 
 add-k : tie.Need-add-k Inv-loop μ-loop
 add-k c =
@@ -111,8 +113,9 @@ loop-again c =
     let i = l .inv in
     let t = c .before .before .before .before .before .before .before .before .before .loop-test .taken in
     let done : c .before .before .before .before .pair-with-descendants .result .done ≡ true = not-none _ (c .if2 .left) in
-    let row = child-row (now (a .descendants)) (nodeAt (now (a .ancestors)) (a .i / 4)) (a .from) (l .k) _ _ (p .3 .0, i .4, omega (arith, p .4)) (omega (arith, p .4))
-    (p .5) (i .5) (omega (arith, p .6, i .4, p .4)) (c .before .before .before .before .before .before .before .before .node-from2 .ensures) (c .before .before .before .before .before .before .if1 .taken) (i .1) in (
+    let left = child-on (now (a .descendants)) (nodeAt (now (a .ancestors)) (a .i / 4)) (a .from) (l .k) _ _ (p .3 .0, i .4, omega (arith, p .4)) (omega (arith, p .4))
+    (p .5) (i .5) (omega (arith, p .6, i .4, p .4)) (c .before .before .before .before .before .before .before .before .node-from2 .ensures) (c .before .before .before .before .before .before .if1 .taken) (i .1)
+    _ _ (c .before .before .before .before .pair-with-descendants .ensures) done (i .7) in (
       omega arith,
       i .1,
       i .2,
@@ -120,7 +123,7 @@ loop-again c =
       omega (arith, i .4),
       omega (arith, i .5),
       done,
-      left-on pairWords PAIR-WORDS _ _ _ _ (c .before .before .before .before .pair-with-descendants .ensures) done row (i .7),
+      left,
     )
 
 past-inner-requires : tie.Need-past-inner-requires Inv-loop μ-loop
@@ -152,7 +155,7 @@ loop-again-2 c =
       e .2 .1,
       omega (arith, i .5, e .3),
       i .6,
-      ap (servedRow Ancestor (l .out) (l .handed .count) (nodeAt (now (a .ancestors)) (a .i / 4))) (sym s) ∙ i .7,
+      ap (servedGroup Ancestor (l .out) (l .handed .count) (nodeAt (now (a .ancestors)) (a .i / 4))) (sym s) ∙ i .7,
     )
 
 same-length-2 : tie.Need-same-length-2 Inv-loop μ-loop
@@ -166,7 +169,7 @@ returns-2 c =
     let i = l .inv in
     let t = c .loop-test .left in
     let none = none-match (now (a .descendants)) (nodeAt (now (a .ancestors)) (a .i / 4)) Directly (a .from / 4) (l .k / 4) (p .5) (omega (arith, p .6)) in
-    left-end pairWords PAIR-WORDS _ _ (i .6) (row-none _ none) (i .7)
+    left-end pairWords PAIR-WORDS _ _ (i .6) (group-none _ none) (i .7)
 
 pub hand-children-spec : {M : Type 1} → statement M
 hand-children-spec =

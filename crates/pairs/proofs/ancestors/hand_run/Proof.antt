@@ -2,12 +2,11 @@
 -- children in it. The relations exchanged, or a run cut short, fall at a return.
 use borrow.Author.Needs.{needs}
 use Prim.Native.Nat.{_/_}
-use mathlib.Core.Path.{ap, _∙_}
 use denote.Ref.{now}
 use Rattle.nodes.specs.Words.{nodeAt}
 use Rattle.tickets.specs.declared.ticket.Order.the-variants.{Ancestor}
-use Rattle.pairs.specs.Sweep.{servedRow}
 use Rattle.pairs.proofs.Running.{run-stretch}
+use Rattle.pairs.proofs.Stretches.{served-as}
 use Rattle.pairs.proofs.ancestors.hand_run.Statement.{statement}
 use Rattle.pairs.proofs.ancestors.hand_run.Tie as tie
 
@@ -31,8 +30,7 @@ returns c =
     let a = c .before .before .before .before .before .before .before .before .before .args in
     let p = c .before .before .before .before .before .before .before .before .before .pre in
     rw (c .before .before .before .before .enum-told .given .1)
-    (c .before .before .pair-with-descendants .ensures
-    ∙ ap (servedRow Ancestor (now (a .out)) (a .written) (nodeAt (now (a .ancestors)) (a .i / 4)))
+    (served-as Ancestor (now (a .out)) (a .written) (nodeAt (now (a .ancestors)) (a .i / 4)) (c .before .before .pair-with-descendants .ensures)
     (run-stretch (now (a .descendants)) (nodeAt (now (a .ancestors)) (a .i / 4)) (a .from) (a .to) (p .5) (p .6)))
 
 same-length-2 : tie.Need-same-length-2

@@ -8,8 +8,8 @@ use mathlib.Core.Bool.{true}
 use native.Mathlib.Omega.{arith}
 use denote.Ref.{now}
 use Rattle.nodes.specs.Node.{afterb}
-use Rattle.nodes.proofs.Tests.{not-none}
-use Rattle.pairs.specs.Sweep.{Further}
+use Rattle.laws.proofs.Tests.{not-none}
+use Rattle.pairs.specs.Private.Sweep.{Further}
 use Rattle.pairs.proofs.Children.{held-running, held}
 use Rattle.pairs.proofs.Running.{further-next, further-trans}
 use Rattle.pairs.proofs.ancestors.past_inner.Statement.{statement}

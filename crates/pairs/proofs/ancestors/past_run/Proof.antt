@@ -6,7 +6,7 @@ use mathlib.Core.Path.{sym, _∙_}
 use native.Mathlib.Omega.{arith}
 use lib.ListN.{length}
 use denote.Ref.{now}
-use Rattle.pairs.specs.Sweep.{Further}
+use Rattle.pairs.specs.Private.Sweep.{Further}
 use Rattle.pairs.proofs.Running.{further-none, further-next, further-trans, further-stops}
 use Rattle.pairs.proofs.ancestors.past_run.Statement.{statement}
 use Rattle.pairs.proofs.ancestors.past_run.Tie as tie

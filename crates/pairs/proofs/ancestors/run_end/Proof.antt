@@ -6,8 +6,8 @@ use Prim.Native.Nat.{_+_}
 use mathlib.Core.Path.{sym, _∙_}
 use native.Mathlib.Omega.{arith}
 use denote.Ref.{now}
-use Rattle.nodes.proofs.Tests.{not-read, not-none}
-use Rattle.pairs.specs.Sweep.{Further}
+use Rattle.laws.proofs.Tests.{not-read, not-none}
+use Rattle.pairs.specs.Private.Sweep.{Further}
 use Rattle.pairs.proofs.Running.{further-next, further-trans, further-stops}
 use Rattle.pairs.proofs.ancestors.run_end.Statement.{statement}
 use Rattle.pairs.proofs.ancestors.run_end.Tie as tie

@@ -1,6 +1,6 @@
--- The invariant: handing out the rows of the ancestors from i on gives what handing out all that
+-- The invariant: handing out the groups of the ancestors from i on gives what handing out all that
 -- remains gives, for each place for which the sweep starts as it did, as the loop doesn't read the
--- place, and no descendant before the run's beginning stands after the ancestor. A row lost, served
+-- place, and no descendant before the run's beginning stands after the ancestor. A group lost, served
 -- twice or served after the room has run out falls at a return or at the next turn.
 use borrow.Author.Needs.{needs}
 use mathlib.Core.Path.{_≡_, refl, ap, _∙_}
@@ -10,18 +10,19 @@ use native.Mathlib.Omega.{arith}
 use lib.ListN.{length, drop}
 use denote.Ref.{now}
 use Rattle.nodes.specs.Words.{nodes}
-use Rattle.nodes.proofs.Tests.{not-read, not-none}
-use Rattle.paging.specs.Serve.{serve}
-use Rattle.paging.proofs.Serving.{left-on, left-stop, left-end}
+use Rattle.laws.proofs.Tests.{not-read, not-none}
+use Rattle.paging.specs.Private.Serve.{serve}
+use Rattle.paging.proofs.Serving.{left-end}
 use Rattle.tickets.specs.declared.ticket.Order.the-variants.{Ancestor}
 use Rattle.tickets.specs.declared.ticket.Place.{Place}
 use Rattle.tickets.specs.Listing.{leaders, followers}
-use Rattle.tickets.specs.Row.{PAIR-WORDS, pairWords}
-use Rattle.tickets.proofs.Rows.{rest-of}
-use Rattle.pairs.specs.Sweep.{Placed, servedAll}
-use Rattle.pairs.proofs.Rowing.{sweep-start, sweep-end}
-use Rattle.pairs.proofs.Telling.{Started, Tells, served-in, started, tells-first, tells-next}
-use Rattle.pairs.proofs.Zones.{Reached, first-taken, sweep-running, sweep-next, sweep-row}
+use Rattle.tickets.specs.PairWords.{PAIR-WORDS, pairWords}
+use Rattle.tickets.proofs.Groups.{rest-of}
+use Rattle.tickets.specs.Ticket.{asked}
+use Rattle.pairs.specs.Private.Sweep.{Placed, servedAll}
+use Rattle.pairs.proofs.ListingGroups.{sweep-start, sweep-end}
+use Rattle.pairs.proofs.SweepStart.{Started, Tells, served-in, started, tells-first, tells-next}
+use Rattle.pairs.proofs.Zones.{Reached, first-taken, sweep-running, sweep-next, sweep-on, sweep-stop}
 use Rattle.pairs.proofs.ancestors.sweep_ancestors.Statement.{statement}
 use Rattle.pairs.proofs.ancestors.sweep_ancestors.Tie as tie
 
@@ -31,7 +32,7 @@ Inv-loop ancestors descendants relation out₀ first past₀ handed₀ from₀ g
     × (handed .done ≡ true)
     × ((place : Place) → Started place ancestors first past₀ → Tells place ancestors past i
     × (serve pairWords PAIR-WORDS out (handed .count) (rest-of relation Ancestor place (drop (i / 4) (nodes ancestors)) (nodes descendants))
-    ≡ servedAll relation Ancestor place out₀ ancestors descendants))
+    ≡ servedAll (asked relation Ancestor) place out₀ ancestors descendants))
 
 abbrev μ-loop : tie.MeasureT-loop
 μ-loop ancestors descendants relation out₀ first past₀ handed₀ from₀ guess₀ i₀ out past handed from guess i = length ancestors - i
@@ -102,9 +103,9 @@ returns c =
     let s = started (a .place) (now (a .ancestors)) _ _ _ (past .before .before .served-count .ensures) (past .before .node-at .ensures)
     (past .past-from .ensures) in
     let left = i .6 (a .place) s in
-    let row = sweep-row (now (a .ancestors)) (now (a .descendants)) (given .pre) (l .i / 4) (l .from / 4) _ _ (omega (arith, i .1)) (here .before .before .before .node-from .ensures)
-    (i .4) (here .before .before .first-after .ensures .1) (a .relation) (a .place) _ ((l .i + 4) / 4) (left .0 t) (omega arith) in
-    left-stop pairWords PAIR-WORDS _ _ _ _ (here .hand-ancestor .ensures .1) (not-read _ (c .if1 .taken)) row (left .1)
+    sweep-stop (now (a .ancestors)) (now (a .descendants)) (given .pre) (l .i / 4) (l .from / 4) _ _ (omega (arith, i .1)) (here .before .before .before .node-from .ensures)
+    (i .4) (here .before .before .first-after .ensures .1) (a .relation) (a .place) _ ((l .i + 4) / 4) (left .0 t) (omega arith)
+    _ _ (here .hand-ancestor .ensures .1) (not-read _ (c .if1 .taken)) (left .1)
 
 add-i : tie.Need-add-i Inv-loop μ-loop
 add-i c =
@@ -135,11 +136,10 @@ loop-again c =
       sweep-next (now (a .ancestors)) (now (a .descendants)) (given .pre) (l .i / 4) (l .from / 4) _ _ (omega (arith, i .1)) n (i .4) (f .1) ((l .i + 4) / 4) (omega arith),
       done,
       λ place s.
-          let left = i .6 place s in
-          let row = sweep-row (now (a .ancestors)) (now (a .descendants)) (given .pre) (l .i / 4) (l .from / 4) _ _ (omega (arith, i .1)) n
-          (i .4) (f .1) (a .relation) place _ ((l .i + 4) / 4) (left .0 t) (omega arith) in (
+          let left = i .6 place s in (
             tells-next place (now (a .ancestors)) (first-taken (now (a .ancestors)) (now (a .descendants)) (given .pre) .0) _ (l .i) (left .0),
-            left-on pairWords PAIR-WORDS _ _ _ _ (here .hand-ancestor .ensures .1) done row (left .1),
+            sweep-on (now (a .ancestors)) (now (a .descendants)) (given .pre) (l .i / 4) (l .from / 4) _ _ (omega (arith, i .1)) n
+                (i .4) (f .1) (a .relation) place _ ((l .i + 4) / 4) (left .0 t) (omega arith) _ _ (here .hand-ancestor .ensures .1) done (left .1),
           ),
     )
 

@@ -5,7 +5,7 @@ use borrow.Author.Needs.{needs}
 use mathlib.Core.Path.{sym, _∙_}
 use native.Mathlib.Omega.{arith}
 use denote.Ref.{now}
-use Rattle.pairs.proofs.Tops.{match-none, match-all, match-top, match-past}
+use Rattle.pairs.proofs.StackMatches.{match-none, match-all, match-top, match-past}
 use Rattle.pairs.proofs.descendants.first_match.Statement.{statement}
 use Rattle.pairs.proofs.descendants.first_match.Tie as tie
 

@@ -2,16 +2,14 @@
 -- left of it from a start on. A stretch that leaves out the innermost ancestor, or takes in one
 -- that doesn't match, falls at the return.
 use borrow.Author.Needs.{needs}
-use mathlib.Core.Path.{ap, sym, subst, _∙_}
+use mathlib.Core.Path.{sym, subst}
 use Prim.Native.Nat.{_/_}
 use native.Mathlib.Omega.{arith}
 use denote.Ref.{now}
 use Rattle.nodes.specs.Words.{nodeAt}
-use Rattle.lists.specs.Walk.{opened, Upon}
-use Rattle.tickets.specs.declared.ticket.Order.the-variants.{Descendant}
-use Rattle.pairs.specs.Sweep.{servedRow}
+use Rattle.lists.specs.Private.Walk.{opened, Upon}
 use Rattle.pairs.proofs.Stretches.{ahead-in}
-use Rattle.pairs.proofs.Tops.{match-ahead}
+use Rattle.pairs.proofs.StackMatches.{serve-ahead}
 use Rattle.pairs.proofs.descendants.hand_descendant.Statement.{statement}
 use Rattle.pairs.proofs.descendants.hand_descendant.Tie as tie
 
@@ -49,9 +47,8 @@ returns c =
     let m = c .before .before .before .before .before .before .before .first-match .ensures in
     let f = c .before .before .before .before .before .first-from .ensures in
     let n = c .before .before .before .before .before .before .before .before .node-from .ensures in
-    c .before .before .pair-with-ancestors .ensures
-    ∙ ap (servedRow Descendant (now (a .out)) (a .written) (nodeAt (now (a .descendants)) (a .at / 4)))
-    (match-ahead (now (a .stack)) _ (a .used) _ (a .past) (f .1) (a .relation) _ _ n (m .2))
+    serve-ahead (now (a .stack)) _ (a .used) _ (a .past) (f .1) (a .relation) (nodeAt (now (a .descendants)) (a .at / 4)) _ n (m .2) (now (a .out))
+    (a .written) (c .before .before .pair-with-ancestors .ensures)
 
 pub hand-descendant-spec : {M : Type 1} → statement M
 hand-descendant-spec =

@@ -1,6 +1,6 @@
--- The invariant: handing out the rows of the descendants from j on gives what handing out all that
+-- The invariant: handing out the groups of the descendants from j on gives what handing out all that
 -- remains gives, for each place for which the sweep starts as it did, as the loop doesn't read the
--- place, and the stack stands for the ancestors passed. A row lost, served twice or served after
+-- place, and the stack stands for the ancestors passed. A group lost, served twice or served after
 -- the room has run out falls at a return or at the next turn.
 use borrow.Author.Needs.{needs}
 use mathlib.Core.Path.{_≡_, refl, ap, _∙_}
@@ -10,18 +10,19 @@ use native.Mathlib.Omega.{arith}
 use lib.ListN.{length, drop}
 use denote.Ref.{now}
 use Rattle.nodes.specs.Words.{nodes}
-use Rattle.paging.specs.Serve.{serve}
+use Rattle.paging.specs.Private.Serve.{serve}
 use Rattle.tickets.specs.declared.ticket.Order.the-variants.{Descendant}
 use Rattle.tickets.specs.declared.ticket.Place.{Place}
 use Rattle.tickets.specs.Listing.{leaders, followers}
-use Rattle.tickets.specs.Row.{PAIR-WORDS, pairWords}
-use Rattle.nodes.proofs.Tests.{not-read, not-none}
-use Rattle.paging.proofs.Serving.{left-on, left-stop, left-end}
-use Rattle.tickets.proofs.Rows.{rest-of}
-use Rattle.pairs.specs.Sweep.{servedAll}
-use Rattle.pairs.proofs.Descending.{Ready, ready-start, ready-next, taken-as, taken-ds, left-at, at-descendant, descend-row}
-use Rattle.pairs.proofs.Rowing.{sweep-start, sweep-end}
-use Rattle.pairs.proofs.Telling.{Started, Tells, served-in, started, tells-first, tells-next}
+use Rattle.tickets.specs.PairWords.{PAIR-WORDS, pairWords}
+use Rattle.laws.proofs.Tests.{not-read, not-none}
+use Rattle.paging.proofs.Serving.{left-end}
+use Rattle.tickets.proofs.Groups.{rest-of}
+use Rattle.tickets.specs.Ticket.{asked}
+use Rattle.pairs.specs.Private.Sweep.{servedAll}
+use Rattle.pairs.proofs.Descending.{Ready, ready-start, ready-next, taken-as, taken-ds, left-at, at-descendant, descend-on, descend-stop}
+use Rattle.pairs.proofs.ListingGroups.{sweep-start, sweep-end}
+use Rattle.pairs.proofs.SweepStart.{Started, Tells, served-in, started, tells-first, tells-next}
 use Rattle.pairs.proofs.descendants.sweep_descendants.Statement.{statement}
 use Rattle.pairs.proofs.descendants.sweep_descendants.Tie as tie
 
@@ -30,7 +31,7 @@ Inv-loop ancestors descendants relation out₀ stack₀ used₀ passed₀ handed
     (length out ≡ length out₀) × Ready ancestors descendants j used passed stack × (handed .done ≡ true)
     × ((place : Place) → Started place descendants first past₀ → Tells place descendants past j
     × (serve pairWords PAIR-WORDS out (handed .count) (rest-of relation Descendant place (drop (j / 4) (nodes descendants)) (nodes ancestors))
-    ≡ servedAll relation Descendant place out₀ ancestors descendants))
+    ≡ servedAll (asked relation Descendant) place out₀ ancestors descendants))
 
 abbrev μ-loop : tie.MeasureT-loop
 μ-loop ancestors descendants relation out₀ stack₀ used₀ passed₀ handed₀ first past₀ j₀ out stack used passed handed past j = length descendants - j
@@ -90,7 +91,7 @@ hand-descendant-requires c κs =
     let test = c .before .before .before .before .before .before .before .loop-test .taken in
     let t = at-descendant (now (a .ancestors)) (now (a .descendants)) (given .pre) (l .j) test _
     (c .before .before .before .before .before .before .node-from .ensures) _ _ _ (o .0) (o .1) (o .2) in
-    (l .inv .1 .at, test, t .opening .used-in, t .opening .row .stands .chain, t .upon)
+    (l .inv .1 .at, test, t .opening .used-in, t .opening .held .stands .chain, t .upon)
 
 same-length : tie.Need-same-length Inv-loop μ-loop
 same-length c = search needs
@@ -109,8 +110,8 @@ returns c =
     let s = started (a .place) (now (a .descendants)) _ _ _ (past .before .before .served-count .ensures) (past .before .node-at .ensures)
     (past .past-from .ensures) in
     let left = l .inv .3 (a .place) s in
-    let row = descend-row (now (a .ancestors)) (now (a .descendants)) (given .pre) (l .j) test _ _ _ t (a .relation) (a .place) _ (left .0) in
-    left-stop pairWords PAIR-WORDS _ _ _ _ (c .before .before .before .before .hand-descendant .ensures) (not-read _ (c .if1 .taken)) row (left .1)
+    descend-stop (now (a .ancestors)) (now (a .descendants)) (given .pre) (l .j) test _ _ _ t (a .relation) (a .place) _ (left .0) _ _
+    (c .before .before .before .before .hand-descendant .ensures) (not-read _ (c .if1 .taken)) (left .1)
 
 add-j : tie.Need-add-j Inv-loop μ-loop
 add-j c =
@@ -137,10 +138,10 @@ loop-again c =
       ready-next (now (a .ancestors)) (now (a .descendants)) (given .pre) (l .j) test _ _ _ t (l .inv .1 .at),
       done,
       λ place s.
-          let left = l .inv .3 place s in
-          let row = descend-row (now (a .ancestors)) (now (a .descendants)) (given .pre) (l .j) test _ _ _ t (a .relation) place _ (left .0) in (
+          let left = l .inv .3 place s in (
             tells-next place (now (a .descendants)) (taken-ds (now (a .ancestors)) (now (a .descendants)) (given .pre)) _ (l .j) (left .0),
-            left-on pairWords PAIR-WORDS _ _ _ _ (c .before .before .before .before .hand-descendant .ensures) done row (left .1),
+            descend-on (now (a .ancestors)) (now (a .descendants)) (given .pre) (l .j) test _ _ _ t (a .relation) place _ (left .0) _ _
+                (c .before .before .before .before .hand-descendant .ensures) done (left .1),
           ),
     )
 

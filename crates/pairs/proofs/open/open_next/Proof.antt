@@ -1,18 +1,20 @@
--- The row that comes to be is a chain no longer than its head is deep, so there is a place for the
+-- What comes to lie on the stack is a chain no longer than its head is deep, so there is a place for the
 -- head on the stack. An ancestor stored one place off, or one put on the stack although it has
 -- ended, falls at the return.
 use borrow.Author.Needs.{needs}
 use mathlib.Core.Path.{_≡_, sym, _∙_}
 use mathlib.Core.Bool.{true, false, cond}
 use mathlib.Core.List.{List, _∷_}
-use Prim.Native.Nat.{ℕ, _+_, _/_, _≤_, _<_}
+use Prim.Native.Nat.{ℕ, _+_, _*_, _/_, _≤_, _<_}
+use lib.Seq.{sets}
 use native.Mathlib.Omega.{arith}
 use denote.Ref.{now}
 use borrow.Author.Tests.{not-true, not-false}
 use Rattle.nodes.specs.declared.node.Node.{Node}
 use Rattle.nodes.specs.Node.{openb, MOST-LEVELS}
-use Rattle.nodes.specs.Words.{nodes, count, putNode}
-use Rattle.lists.specs.Walk.{opened, Chain, Fits}
+use Rattle.nodes.specs.Words.{nodes, count, wordsOf}
+use Rattle.nodes.proofs.WordLaws.{words-put}
+use Rattle.lists.specs.Private.Walk.{opened, Chain, Fits}
 use Rattle.lists.proofs.WalkLaws.{length-firsts, top-put, chain-length}
 use Rattle.pairs.proofs.open.open_next.Statement.{statement}
 use Rattle.pairs.proofs.open.open_next.Tie as tie
@@ -27,9 +29,9 @@ module _ (ws : List ℕ) (used : ℕ) (d a : Node) where
   opened-shut : openb d a ≡ false → opened used ws ≡ cond (openb d a) (a ∷ opened used ws) (opened used ws)
   opened-shut o = rw o
 
-  opened-on : (us : List ℕ) → used / 4 < count ws → us ≡ putNode ws (used / 4) a → openb d a ≡ true
+  opened-on : (us : List ℕ) → used ≡ 4 * (used / 4) → used / 4 < count ws → us ≡ sets ws used (wordsOf a) → openb d a ≡ true
       → opened (used + 4) us ≡ cond (openb d a) (a ∷ opened used ws) (opened used ws)
-  opened-on us h e o = rw o (top-put ws us used a h e)
+  opened-on us m h e o = rw o (top-put ws us used a h (e ∙ words-put ws used (used / 4) a m h))
 
 is-open-requires : tie.Need-is-open-requires
 is-open-requires c κs = search needs
@@ -43,14 +45,14 @@ returns c =
           (sym (c .before .is-open .ensures) ∙ not-true _ (c .if1 .taken)),
     )
 
-put-open-requires : tie.Need-put-open-requires
-put-open-requires c κs =
+put-words-requires : tie.Need-put-words-requires
+put-words-requires c κs =
     let start = c .before .before .before in
     let a = start .args in
     let p = start .pre in
     let o = sym (c .before .before .is-open .ensures) ∙ not-false _ (c .before .if1 .left) in
     let r = room-on (now (a .stack)) (a .used) (a .descendant) (a .ancestor) (p .0) (p .1) (p .2) o in
-    let g = c .put-open-arg .given in
+    let g = c .put-words-arg .given in
     search needs
 
 add-result : tie.Need-add-result
@@ -63,8 +65,8 @@ returns-2 c =
     let p = start .pre in
     let o = sym (c .before .before .before .is-open .ensures) ∙ not-false _ (c .before .before .if1 .left) in
     let r = room-on (now (a .stack)) (a .used) (a .descendant) (a .ancestor) (p .0) (p .1) (p .2) o in
-    (r, opened-on (now (a .stack)) (a .used) (a .descendant) (a .ancestor) _ (omega (arith, c .before .put-open-arg .given)) (c .put-open .ensures) o)
+    (r, opened-on (now (a .stack)) (a .used) (a .descendant) (a .ancestor) _ (omega arith) (omega (arith, c .before .put-words-arg .given)) (c .put-words .ensures) o)
 
 pub open-next-spec : {M : Type 1} → statement M
 open-next-spec =
-    tie.close (tie.spec is-open-requires returns put-open-requires add-result returns-2)
+    tie.close (tie.spec is-open-requires returns put-words-requires add-result returns-2)

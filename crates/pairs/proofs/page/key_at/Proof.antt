@@ -11,7 +11,7 @@ use Rattle.tickets.specs.declared.ticket.Order.{Order}
 use Rattle.tickets.specs.declared.ticket.Order.the-variants.{Descendant, Ancestor}
 use Rattle.tickets.specs.Listing.{keyOf}
 use Rattle.tickets.specs.Ticket.{keyWith}
-use Rattle.pairs.specs.Sweep.{keyIn}
+use Rattle.pairs.specs.Private.Sweep.{keyIn}
 use Rattle.pairs.proofs.page.key_at.Statement.{statement}
 use Rattle.pairs.proofs.page.key_at.Tie as tie
 

@@ -1,9 +1,13 @@
--- A refused call returns before anything is written; an accepted one serves what remains, and what was served is the page.
--- A call that is done when its room is full, moves no place, or touches a refused output falls at a return.
+-- A refused call returns before anything is written; an accepted one serves what remains, and what was
+-- served is the page. A call that is done when its room is full, moves no place, or touches a refused
+-- output falls at a return.
 use borrow.Author.Needs.{needs}
-use mathlib.Core.Path.{ap, sym, _∙_}
+use mathlib.Core.Path.{_≡_, ap, sym, _∙_}
 use native.Mathlib.Omega.{arith}
 use denote.Ref.{now}
+use Rattle.answers.specs.Answer.{TAKEN}
+use Rattle.lists.specs.Two.{checkTwo}
+use Rattle.lists.proofs.Naming.{two-taken}
 use Rattle.pairs.proofs.Paged.{page-refused, written-in, page-made}
 use Rattle.pairs.proofs.page.next_page.Statement.{statement}
 use Rattle.pairs.proofs.page.next_page.Tie as tie
@@ -19,20 +23,27 @@ returns c =
 sweep-requires : tie.Need-sweep-requires
 sweep-requires c κs = sym (ap (λ v. v .answer) (c .before .before .before .check-two .ensures)) ∙ omega arith
 
+without-node-requires : tie.Need-without-node-requires
+without-node-requires c κs = search needs
+
 ticket-after-requires : tie.Need-ticket-after-requires
 ticket-after-requires c κs =
-    let a = c .before .before .before .before .before .before .before .before .before .before .before .args in
-    written-in (now (a .ancestors)) (now (a .descendants)) (a .ticket) (now (a .out)) _ _ _ (c .before .before .before .sweep .ensures)
+    let s = c .before in
+    let a = s .before .before .before .before .before .before .before .before .before .before .before .args in
+    let few = written-in (now (a .ancestors)) (now (a .descendants)) (a .ticket) (now (a .out)) _ _ _ (s .before .before .before .sweep .ensures) in
+    omega (arith, few)
 
 same-length : tie.Need-same-length
 same-length c = search needs
 
 returns-2 : tie.Need-returns-2
 returns-2 c =
-    let a = c .before .before .before .before .before .before .before .before .before .before .before .before .args in
-    let v = c .before .before .before .before .before .before .before .before .check-two .ensures in
-    page-made (now (a .ancestors)) (now (a .descendants)) (a .ticket) (now (a .out)) _ _ _ (c .before .before .before .before .sweep .ensures)
-    (sym (ap (λ w. w .answer) v) ∙ omega arith) _ _ v (c .ticket-after .ensures)
+    let s = c .before in
+    let a = s .before .before .before .before .before .before .before .before .before .before .before .before .args in
+    let v = s .before .before .before .before .before .before .before .before .check-two .ensures in
+    let t : checkTwo (now (a .ancestors)) (now (a .descendants)) .answer ≡ TAKEN = sym (ap (λ w. w .answer) v) ∙ omega arith in
+    page-made (now (a .ancestors)) (now (a .descendants)) (a .ticket) (now (a .out)) _ _ _ (s .before .before .before .before .sweep .ensures)
+    t _ _ (c .before .before .without-node .ensures ∙ two-taken (now (a .ancestors)) (now (a .descendants)) t) (c .ticket-after .ensures)
 
 pub next-page-spec : {M : Type 1} → statement M
 next-page-spec =
@@ -41,6 +52,7 @@ next-page-spec =
     check-two-requires
     returns
     sweep-requires
+    without-node-requires
     ticket-after-requires
     same-length
     returns-2)

@@ -12,20 +12,20 @@ use Rattle.nodes.specs.Words.{nodes}
 use Rattle.tickets.specs.declared.ticket.Key.{Key}
 use Rattle.tickets.specs.declared.ticket.Place.the-variants.{After}
 use Rattle.tickets.specs.declared.ticket.Ticket.{Ticket}
-use Rattle.tickets.specs.Ticket.{ticket}
-use Rattle.pairs.specs.Sweep.{keyIn, placeIn}
+use Rattle.tickets.specs.Ticket.{askedBy, ticketAt}
+use Rattle.pairs.specs.Private.Sweep.{keyIn, placeReached}
 use Rattle.pairs.proofs.page.ticket_after.Statement.{statement}
 use Rattle.pairs.proofs.page.ticket_after.Tie as tie
 
 stays : (old : Ticket) (ns : List Node) (count : ℕ) → count ≡ 0
-    → old ≡ ticket (old .relation) (old .order) (placeIn (old .order) (old .place) ns count)
-unfolding placeIn
+    → old ≡ ticketAt (askedBy old) (placeReached (old .order) (old .place) ns count)
+unfolding placeReached
 stays old ns count q = rw (eq-eqb count 0 q) refl
 
 moves : (old : Ticket) (ns : List Node) (count : ℕ) (k : Key) → (count ≡ 0 → ⊥) → k ≡ keyIn (old .order) ns (count - 1)
-    → ticket (old .relation) (old .order) (After k) ≡ ticket (old .relation) (old .order) (placeIn (old .order) (old .place) ns count)
-unfolding placeIn
-moves old ns count k h q = rw (ne-eqb count 0 h) (ap (λ j. ticket (old .relation) (old .order) (After j)) q)
+    → ticketAt (askedBy old) (After k) ≡ ticketAt (askedBy old) (placeReached (old .order) (old .place) ns count)
+unfolding placeReached
+moves old ns count k h q = rw (ne-eqb count 0 h) (ap (λ j. ticketAt (askedBy old) (After j)) q)
 
 returns : tie.Need-returns
 returns c =

@@ -1,13 +1,11 @@
 -- The page hands out no more pairs than there is room for, so the part of the output is there, and the lines made of it are those of its pairs.
 -- A part other than what the page wrote, or lines of other words, falls at the return.
 use borrow.Author.Needs.{needs}
-use mathlib.Core.Path.{ap}
 use Prim.Native.Nat.{_*_, _-_}
 use native.Mathlib.Omega.{arith}
-use lib.ListN.{take}
 use denote.Ref.{now}
-use Rattle.tickets.specs.Row.{PAIR-WORDS}
-use Rattle.printing.proofs.Given.{page-few, lines-made}
+use Rattle.tickets.specs.PairWords.{PAIR-WORDS}
+use Rattle.printing.proofs.PageLines.{page-few, lines-made}
 use Rattle.printing.proofs.pages.make_lines.Statement.{statement}
 use Rattle.printing.proofs.pages.make_lines.Tie as tie
 
@@ -46,9 +44,8 @@ returns c =
     let called = c .before .before .before .before .before .before .before .before .before in
     let a = called .before .before .before .before .before .before .args in
     let made = called .next-page .ensures in
-    lines-made (now (a .ancestors)) (now (a .descendants)) (a .ticket) (now (a .out)) _ (made .0) _
-    (PAIR-WORDS * called .next-page .result .count - 0) (omega arith) (ap (take (PAIR-WORDS * called .next-page .result .count - 0)) (made .1)) (now (a .text)) _ _
-    (omega arith) (c .before .before .put-lines .ensures .0) (c .before .before .put-lines .ensures .1)
+    lines-made (now (a .ancestors)) (now (a .descendants)) (a .ticket) (now (a .out)) _ (made .0) _ (made .1)
+    (PAIR-WORDS * called .next-page .result .count - 0) (omega arith) (now (a .text)) _ _ (omega arith) (c .before .before .put-lines .ensures .0) (c .before .before .put-lines .ensures .1)
 
 pub make-lines-spec : {M : Type 1} → statement M
 make-lines-spec =

@@ -1,12 +1,12 @@
 -- The output has room for the pairs of a page, and the text for as many of the longest lines.
--- A text too short for its page, or a page of more pairs, falls at the call.
+-- A text too short for its page, or a page without room, falls at the call.
 use borrow.Author.Needs.{needs}
 use mathlib.Core.Path.{_≡_, refl}
 use mathlib.Core.List.{List}
-use Prim.Native.Nat.{ℕ, _*_, _≤_}
+use Prim.Native.Nat.{ℕ, _*_, _≤_, _<_}
 use native.Mathlib.Omega.{arith}
 use lib.ListN.{length, replicate, length-replicate}
-use Rattle.tickets.specs.Row.{PAIR-WORDS, room}
+use Rattle.tickets.specs.PairWords.{PAIR-WORDS, room}
 use Rattle.lines.specs.Line.{LINE-BYTES}
 use Rattle.printing.specs.Print.{PAGE-PAIRS}
 use Rattle.printing.proofs.pages.print_pages.Statement.{statement}
@@ -16,7 +16,7 @@ abbrev zeros : ℕ → List ℕ
 zeros n = replicate n 0
 
 fitting : (words bytes : ℕ) → words ≡ PAIR-WORDS * PAGE-PAIRS → bytes ≡ LINE-BYTES * PAGE-PAIRS
-    → (room (zeros words) ≤ PAGE-PAIRS) × (LINE-BYTES * room (zeros words) ≤ length (zeros bytes))
+    → (0 < room (zeros words)) × (LINE-BYTES * room (zeros words) ≤ length (zeros bytes))
 fitting words bytes p q =
     let l = length-replicate {A = ℕ} words 0 in
     let m = length-replicate {A = ℕ} bytes 0 in

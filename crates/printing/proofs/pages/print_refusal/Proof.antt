@@ -6,7 +6,7 @@ use mathlib.Core.List.{List}
 use Prim.Native.Nat.{ℕ, _≤_}
 use lib.ListN.{length}
 use Rattle.lines.specs.Line.{refusalLine}
-use Rattle.printing.proofs.Given.{no-shorter}
+use Rattle.answers.proofs.OutputLaws.{no-shorter}
 use Rattle.printing.proofs.pages.print_refusal.Statement.{statement}
 use Rattle.printing.proofs.pages.print_refusal.Tie as tie
 

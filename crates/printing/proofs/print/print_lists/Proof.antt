@@ -1,28 +1,30 @@
--- The words copied from each list are its numbers, all of them, since a list of the longest input has room.
--- A list whose end was left out of the words, or one joined with itself, falls at the return.
+-- The two lists are copied whole, since the words lent have room for the longest; so the pages are
+-- those of the book's first list and second. A list whose end was left out of the words, or one
+-- joined with itself, falls at the return.
 use borrow.Author.Needs.{needs}
-use mathlib.Core.Path.{ap, _∙_}
-use Prim.Native.Nat.{_-_, _/_}
+use mathlib.Core.Path.{_∙_}
+use Prim.Native.Nat.{_-_}
 use native.Mathlib.Omega.{arith}
-use lib.ListN.{length, take}
 use denote.Ref.{now}
-use Rattle.numbers.specs.Little.{NUMBER-BYTES}
 use Rattle.lists.specs.Two.{checkTwo}
-use Rattle.printing.proofs.Answering.{copied-back}
+use Rattle.printing.proofs.Answering.{lengths-fit, own-lists}
 use Rattle.printing.proofs.print.print_lists.Statement.{statement}
 use Rattle.printing.proofs.print.print_lists.Tie as tie
 
-slice-aggregate-copy-numbers : tie.Need-slice-aggregate-copy-numbers
-slice-aggregate-copy-numbers c = search needs
+entry-at-requires : tie.Need-entry-at-requires
+entry-at-requires c κs = search needs
 
-copy-numbers-requires : tie.Need-copy-numbers-requires
-copy-numbers-requires c κs = search needs
+entry-at-requires-2 : tie.Need-entry-at-requires-2
+entry-at-requires-2 c κs = search needs
 
-slice-aggregate-copy-numbers-2 : tie.Need-slice-aggregate-copy-numbers-2
-slice-aggregate-copy-numbers-2 c = search needs
+slice-aggregate-copy-lists : tie.Need-slice-aggregate-copy-lists
+slice-aggregate-copy-lists c = search needs
 
-copy-numbers-requires-2 : tie.Need-copy-numbers-requires-2
-copy-numbers-requires-2 c κs = search needs
+slice-aggregate-copy-lists-2 : tie.Need-slice-aggregate-copy-lists-2
+slice-aggregate-copy-lists-2 c = search needs
+
+copy-lists-requires : tie.Need-copy-lists-requires
+copy-lists-requires c κs = search needs
 
 sub-print-pages : tie.Need-sub-print-pages
 sub-print-pages c = search needs
@@ -31,7 +33,13 @@ part-print-pages-start : tie.Need-part-print-pages-start
 part-print-pages-start c = search needs
 
 part-print-pages-end : tie.Need-part-print-pages-end
-part-print-pages-end c = search needs
+part-print-pages-end c =
+    let t = c .before .before .before in
+    let e = t .before .before .before in
+    let a = e .before .before .before in
+    let f = lengths-fit (now (a .args .book)) (a .args .lists) (a .pre) _ _ (e .before .entry-at .ensures) (e .entry-at2 .ensures)
+    _ _ (omega arith) (omega arith) _ (t .copy-lists .ensures .0) in
+    omega (arith, f .0)
 
 sub-print-pages-2 : tie.Need-sub-print-pages-2
 sub-print-pages-2 c = search needs
@@ -40,30 +48,36 @@ part-print-pages-start-2 : tie.Need-part-print-pages-start-2
 part-print-pages-start-2 c = search needs
 
 part-print-pages-end-2 : tie.Need-part-print-pages-end-2
-part-print-pages-end-2 c = search needs
+part-print-pages-end-2 c =
+    let t = c .before .before .before .before .before in
+    let e = t .before .before .before in
+    let a = e .before .before .before in
+    let f = lengths-fit (now (a .args .book)) (a .args .lists) (a .pre) _ _ (e .before .entry-at .ensures) (e .entry-at2 .ensures)
+    _ _ (omega arith) (omega arith) _ (t .copy-lists .ensures .0) in
+    omega (arith, f .1)
 
 print-pages-requires : tie.Need-print-pages-requires
 print-pages-requires c κs = search needs
 
 returns : tie.Need-returns
 returns c =
-    let a = c .before .before .before .before .before .before .before .before .before .before .before .before .before .args in
-    let n = length (now (a .first)) / NUMBER-BYTES - 0 in
-    let m = length (now (a .second)) / NUMBER-BYTES - 0 in
-    let one = ap (take n) (c .before .before .before .before .before .before .before .before .before .copy-numbers .ensures)
-    ∙ copied-back (now (a .first)) _ n (omega arith) (omega arith) in
-    let two = ap (take m) (c .before .before .before .before .before .before .copy-numbers2 .ensures)
-    ∙ copied-back (now (a .second)) _ m (omega arith) (omega arith) in
-    c .print-pages .ensures ∙ λ i. checkTwo (one i) (two i) .answer
+    let t = c .before .before .before .before .before .before .before in
+    let e = t .before .before .before in
+    let a = e .before .before .before in
+    let own = own-lists (now (a .args .book)) (a .args .lists) (a .pre) _ _ (e .before .entry-at .ensures) (e .entry-at2 .ensures)
+    _ _ (omega arith) (omega arith) _ (t .copy-lists .ensures .0) _ _ (t .copy-lists .ensures .1) (t .copy-lists .ensures .2)
+    (t .copy-lists .result .ancestors - 0) (t .copy-lists .result .descendants - 0) (omega arith) (omega arith) in
+    c .print-pages .ensures ∙ λ i. checkTwo (own .0 i) (own .1 i) .answer
 
 pub print-lists-spec : {M : Type 1} → statement M
 print-lists-spec =
     tie.close
     (tie.spec
-    slice-aggregate-copy-numbers
-    copy-numbers-requires
-    slice-aggregate-copy-numbers-2
-    copy-numbers-requires-2
+    entry-at-requires
+    entry-at-requires-2
+    slice-aggregate-copy-lists
+    slice-aggregate-copy-lists-2
+    copy-lists-requires
     sub-print-pages
     part-print-pages-start
     part-print-pages-end

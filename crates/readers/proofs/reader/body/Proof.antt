@@ -26,7 +26,7 @@ use denote.RattleType.{RattleType, owns}
 use denote.Laws.{Is, shows}
 use denote.Plain.{uint-makes, uint-vals, uint-tells}
 use denote.Builtin.{u8, u32}
-use denote.Ref.{RefT, now}
+use denote.Ref.{RefT, now, ptr}
 use denote.Signature.{namedLft}
 use denote.Slice.{sliceVal, ShrSlice, shr-slice-lawful}
 use denote.Steps.{owned, peeks, heard, nothing}
@@ -41,14 +41,14 @@ use denote.Triple.Table.{entered, cited}
 use denote.Triple.Walked.{says, Stays, stay-none, walkOf, goes-none, Walks, ends-at, walked, walk-meets}
 use denote.Exit.{yes}
 use denote.Triple.Clauses.{ensured, lasts}
-use Rattle.books.specs.Find.{tagBody}
+use Rattle.books.specs.Find.{tagBody, tagPlace}
 use Rattle.books.proofs.find.tag_body as callee
 use Rattle.books.proofs.find.tag_body.Symbol as callee-def
 use Rattle.books.proofs.find.tag_body.Symbol.{name as #books·find·tag-body}
 use Rattle.books.proofs.find.tag_body.Met as callee-thm
 use Rattle.readers.specs.declared.reader.Reader.{Reader}
 use Rattle.readers.proofs.reader.Reader.Laws as T′
-use Rattle.readers.proofs.Held.{B, D, L}
+use Rattle.readers.proofs.ReaderType.{B, D, L}
 use Rattle.readers.proofs.reader.body.Key.{name as #readers·reader·body}
 use Rattle.readers.proofs.reader.body as body
 use Rattle.readers.proofs.reader.body.Statement as stated
@@ -74,8 +74,9 @@ module _ {M : Type 1} (𝓤 : URA M) (H : Heap 𝓤) (A : Atoms 𝓤) (W : Given
   abbrev at : Vals body.signature (κ, tt)
   at = (mach ∷ [], (vint w32 n ∷ [], tt))
 
-  abbrev wanted : List ℕ
-  wanted = tagBody (now (d .book)) (d .lists) n
+  -- what is said of the part handed back: its bytes, and where they lie
+  abbrev Wanted : RefT (List ℕ) → Type 0
+  Wanted s = (now s ≡ tagBody (now (d .book)) (d .lists) n) × (ptr s ≡ tagPlace (ptr (d .book)) (now (d .book)) (d .lists) n)
 
   abbrev Post : Val → SProp 𝓤
   Post = walkOf 𝓤 H A body.ended stayed (body.clauses 𝓤 H A mem run) .post (((κ, tt), (q, tt), tt, (d, (n, tt)), at), tt)
@@ -120,10 +121,10 @@ module _ {M : Type 1} (𝓤 : URA M) (H : Heap 𝓤) (A : Atoms 𝓤) (W : Given
 
   -- of the callee's `ensured`, the clause alone: it has no `&mut`, so what is said of last values is dropped
   said : (s : RefT (List ℕ))
-      → ent 𝓤 (ensured 𝓤 H A callee.ended (callee.clauses 𝓤 H A mem run) (κ, tt) (d .book, (d .lists, (n, tt))) tt s) (fact 𝓤 (now s ≡ wanted))
-  said s = exE 𝓤 _ (λ ws. snd∗ 𝓤 (sem 𝓤 H A (lasts callee.ended (κ, tt) (d .book, (d .lists, (n, tt))) ws)) (fact 𝓤 (now s ≡ wanted)))
+      → ent 𝓤 (ensured 𝓤 H A callee.ended (callee.clauses 𝓤 H A mem run) (κ, tt) (d .book, (d .lists, (n, tt))) tt s) (fact 𝓤 (Wanted s))
+  said s = exE 𝓤 _ (λ ws. snd∗ 𝓤 (sem 𝓤 H A (lasts callee.ended (κ, tt) (d .book, (d .lists, (n, tt))) ws)) (fact 𝓤 (Wanted s)))
 
-  exits : (s : RefT (List ℕ)) (u : Val) → now s ≡ wanted
+  exits : (s : RefT (List ℕ)) (u : Val) → Wanted s
       → ent 𝓤 (⋆ 𝓤 H A (‵ (Slice .own s (u ∷ [])) ∷ (‵ (flft κ q) ⊛ ‵ ftrue) ∷ ‵ Own ∷ [])) (Post u)
   exits s u e =
       qed W (‵ (Slice .own s (u ∷ [])) ∷ (‵ (flft κ q) ⊛ ‵ ftrue) ∷ ‵ Own ∷ []) ∵
@@ -154,7 +155,7 @@ module _ {M : Type 1} (𝓤 : URA M) (H : Heap 𝓤) (A : Atoms 𝓤) (W : Given
         use1 W (later (some (λ (s : RefT (List ℕ)). ((‵ (flft κ q) ⊛ ‵ ftrue) ⊛ ‵ (Slice .own s (u ∷ [])))
         ⊛ raw (ensured 𝓤 H A callee.ended (callee.clauses 𝓤 H A mem run) (κ, tt) (d .book, (d .lists, (n, tt))) tt s)))) (id⊢ 𝓤 _) $
         await ! tt $ pick ! (λ s.
-        split ! $ move ! (1 ∷ []) $ use1 W (raw (fact 𝓤 (now s ≡ wanted))) (said s) $ heard ! (now s ≡ wanted) (λ e. split ! $ move ! (1 ∷ []) $
+        split ! $ move ! (1 ∷ []) $ use1 W (raw (fact 𝓤 (Wanted s))) (said s) $ heard ! (Wanted s) (λ e. split ! $ move ! (1 ∷ []) $
         -- [the result; the token; what the struct owns; _4; …; _3; …; _2; …; _1; …; room for _0; …]
         peeks ! Slice (Is Slice) (shows 𝓤 H A Slice) s (u ∷ []) (λ is.
         land ! (from ! (stop !)) (init ! 11 refl (shr-slice-lawful 𝓤 H A W (named 0) κ u8 .typed s (u ∷ []) is .0)) $

@@ -1,6 +1,6 @@
 -- `open` gives a reader over what is kept of the bytes, and `body` the tag's body of that reader; only the contracts of the two are used.
 -- Another reader than the one that `open` returns, or another tag than the caller's, would fall at the fact that the exit says.
-use mathlib.Core.Path.{_≡_, refl, ap, _∙_}
+use mathlib.Core.Path.{_≡_, refl, _∙_}
 use Prim.Native.Nat.{ℕ, _<_, _^_}
 use mathlib.Core.List.{List, [], _∷_}
 use lib.ListN.{length}
@@ -24,7 +24,7 @@ use denote.RattleType.{RattleType, owns}
 use denote.Laws.{Is, shows}
 use denote.Plain.{uint-makes, uint-vals, uint-tells}
 use denote.Builtin.{u8, u32}
-use denote.Ref.{RefT, NamedLft, now}
+use denote.Ref.{RefT, NamedLft, now, ptr}
 use denote.Signature.{plain}
 use denote.Slice.{sliceVal, ShrSlice, slice-vals, shr-slice-tells, shr-slice-lawful, shr-slice-copy}
 use denote.Steps.{owned, peeks, heard, nothing}
@@ -37,12 +37,12 @@ use denote.Triple.Table.{entered, cited}
 use denote.Triple.Walked.{says, Stays, stay-none, stay-none-slice, walkOf, goes-none, goes-none-slice, Walks, ends-at, walked, walk-meets}
 use denote.Exit.{yes}
 use denote.Triple.Clauses.{ensured, lasts}
-use Rattle.books.specs.Find.{tagBody}
-use Rattle.readers.specs.Reader.{keptOf, keptLists, keptBody}
+use Rattle.books.specs.Find.{tagBody, tagPlace}
+use Rattle.readers.specs.Reader.{keptOf, keptLists, keptBody, keptPlace}
 use Rattle.readers.specs.declared.reader.Reader.{Reader}
 use Rattle.readers.proofs.reader.Reader as T
 use Rattle.readers.proofs.reader.Reader.Laws as T′
-use Rattle.readers.proofs.Held.{B}
+use Rattle.readers.proofs.ReaderType.{B}
 use Rattle.readers.proofs.reader.open as opening
 use Rattle.readers.proofs.reader.open.Symbol as opening-def
 use Rattle.readers.proofs.reader.open.Symbol.{name as #readers·reader·open}
@@ -59,10 +59,15 @@ use Rattle.readers.proofs.reader.body_in.Code as code
 abbrev stayed : Stays (body-in.ended .signature .params) (body-in.ended .kept)
 stayed = (stay-none-slice (0 ∷ []) tt (plain (λ _. u8)) yes, (stay-none (λ _. u32) yes, tt))
 
--- the body in what is kept is the body that is kept
-body-kept : (part bytes : List ℕ) (lists tag : ℕ) → (part ≡ keptOf bytes) × (lists ≡ keptLists bytes) → tagBody part lists tag ≡ keptBody bytes tag
-unfolding keptBody
-body-kept part bytes lists tag e = ap (λ p. tagBody p lists tag) (e .0) ∙ ap (λ n. tagBody (keptOf bytes) n tag) (e .1)
+-- the body in what is kept is the body that is kept, and lies where that lies
+module _ (part bytes : List ℕ) (lists tag : ℕ) (p : part ≡ keptOf bytes) (l : lists ≡ keptLists bytes) where
+  body-kept : tagBody part lists tag ≡ keptBody bytes tag
+  unfolding keptBody
+  body-kept = rw (p, l) refl
+
+  place-kept : (at start : ℕ × ℕ) → at ≡ start → tagPlace at part lists tag ≡ keptPlace start bytes tag
+  unfolding keptPlace
+  place-kept at start e = rw (p, l, e) refl
 
 module _ {M : Type 1} (𝓤 : URA M) (H : Heap 𝓤) (A : Atoms 𝓤) (mem : Memory → SProp 𝓤) (run : Routine → Fun 𝓤) where
   -- the contracts that the proof cites
@@ -107,7 +112,7 @@ module _ {M : Type 1} (𝓤 : URA M) (H : Heap 𝓤) (A : Atoms 𝓤) (W : Given
       (qed W ((‵ (flft κ q) ⊛ ‵ ftrue) ∷ ‵ (owns (Slice ∷ []) (bytes, tt) (v ∷ [], tt)) ∷ []) ∵ join ! $ frame ! $ done !) $ frame ! $ done !
 
   abbrev Opened : Reader → Type 0
-  Opened r = (now (r .book) ≡ keptOf (now bytes)) × (r .lists ≡ keptLists (now bytes))
+  Opened r = (now (r .book) ≡ keptOf (now bytes)) × (ptr (r .book) ≡ ptr bytes) × (r .lists ≡ keptLists (now bytes))
 
   opened : (r : Reader) → ent 𝓤 (ensured 𝓤 H A opening.ended (opening.clauses 𝓤 H A mem run) (κ, tt) (bytes, tt) tt r) (fact 𝓤 (Opened r))
   opened r = exE 𝓤 _ (λ ws. snd∗ 𝓤 (sem 𝓤 H A (lasts opening.ended (κ, tt) (bytes, tt) ws)) (fact 𝓤 (Opened r)))
@@ -124,13 +129,13 @@ module _ {M : Type 1} (𝓤 : URA M) (H : Heap 𝓤) (A : Atoms 𝓤) (W : Given
       move ! (1 ∷ 0 ∷ []) $ join ! $ frame ! $ done !
 
   abbrev Read : Reader → RefT (List ℕ) → Type 0
-  Read r t = now t ≡ tagBody (now (r .book)) (r .lists) n
+  Read r t = (now t ≡ tagBody (now (r .book)) (r .lists) n) × (ptr t ≡ tagPlace (ptr (r .book)) (now (r .book)) (r .lists) n)
 
   body-said : (r : Reader) (t : RefT (List ℕ))
       → ent 𝓤 (ensured 𝓤 H A body.ended (body.clauses 𝓤 H A mem run) (κ, tt) (r, (n, tt)) tt t) (fact 𝓤 (Read r t))
   body-said r t = exE 𝓤 _ (λ ws. snd∗ 𝓤 (sem 𝓤 H A (lasts body.ended (κ, tt) (r, (n, tt)) ws)) (fact 𝓤 (Read r t)))
 
-  exits : (t : RefT (List ℕ)) (u : Val) → now t ≡ keptBody (now bytes) n
+  exits : (t : RefT (List ℕ)) (u : Val) → (now t ≡ keptBody (now bytes) n) × (ptr t ≡ keptPlace (ptr bytes) (now bytes) n)
       → ent 𝓤 (⋆ 𝓤 H A (‵ (Slice .own t (u ∷ [])) ∷ (‵ (flft κ q) ⊛ ‵ ftrue) ∷ ‵ Own ∷ [])) (Post u)
   exits t u e =
       qed W (‵ (Slice .own t (u ∷ [])) ∷ (‵ (flft κ q) ⊛ ‵ ftrue) ∷ ‵ Own ∷ []) ∵
@@ -173,7 +178,10 @@ module _ {M : Type 1} (𝓤 : URA M) (H : Heap 𝓤) (A : Atoms 𝓤) (W : Given
         land ! (from ! (stop !)) (init ! 9 refl (shr-slice-lawful 𝓤 H A W (named 0) κ u8 .typed t (u′ ∷ []) is′ .0)) $
         returns ! (look ! 9 refl) $ forget ! 3 refl $ forget ! 5 refl $ forget ! 7 refl $ forget ! 9 refl $
         move ! (9 ∷ 10 ∷ []) $ free1 ! $ move ! (7 ∷ 8 ∷ []) $ free1 ! $ move ! (5 ∷ 6 ∷ []) $ free1 ! $ move ! (3 ∷ 4 ∷ []) $ free1 ! $ free0 ! $
-        by ! (exits t u′ (e′ ∙ body-kept (now (r .book)) (now bytes) (r .lists) n e))))))))))))))
+        by ! (exits t u′ (
+          e′ .0 ∙ body-kept (now (r .book)) (now bytes) (r .lists) n (e .0) (e .2),
+          e′ .1 ∙ place-kept (now (r .book)) (now bytes) (r .lists) n (e .0) (e .2) (ptr (r .book)) (ptr bytes) (e .1),
+        ))))))))))))))
 
 module _ {M : Type 1} (𝓤 : URA M) (H : Heap 𝓤) (A : Atoms 𝓤) (W : Given 𝓤 H A) (mem : Memory → SProp 𝓤) (run : Routine → Fun 𝓤) where
   body-in-walks : (C : Calls 𝓤 H) (Λ : Loops 𝓤 H) → FmC 𝓤 H (W .laws) C → Triple 𝓤 (C #readers·reader·open) (Opening 𝓤 H A mem run)

@@ -33,7 +33,7 @@ use denote.Triple.Walked.{says, Stays, stay-none, walkOf, goes-none, Walks, ends
 use denote.Exit.{yes}
 use Rattle.readers.specs.declared.reader.Reader.{Reader}
 use Rattle.readers.proofs.reader.Reader.Laws as T′
-use Rattle.readers.proofs.Held.{B, D, L}
+use Rattle.readers.proofs.ReaderType.{B, D, L}
 use Rattle.readers.proofs.reader.book.Key.{name as #readers·reader·book}
 use Rattle.readers.proofs.reader.book as book
 use Rattle.readers.proofs.reader.book.Statement as stated

@@ -32,7 +32,7 @@ use denote.Triple.Walked.{says, Stays, stay-none, walkOf, goes-none, Walks, ends
 use denote.Exit.{yes}
 use Rattle.readers.specs.declared.reader.Reader.{Reader}
 use Rattle.readers.proofs.reader.Reader.Laws as T′
-use Rattle.readers.proofs.Held.{B, D, L}
+use Rattle.readers.proofs.ReaderType.{B, D, L}
 use Rattle.readers.proofs.reader.lists.Key.{name as #readers·reader·lists}
 use Rattle.readers.proofs.reader.lists as lists
 use Rattle.readers.proofs.reader.lists.Statement as stated

@@ -24,7 +24,7 @@ use denote.RattleType.{RattleType, owns}
 use denote.Laws.{Is, shows}
 use denote.Plain.{uint-lawful}
 use denote.Builtin.{u8, u32}
-use denote.Ref.{RefT, now}
+use denote.Ref.{RefT, now, ptr}
 use denote.Signature.{plain}
 use denote.Slice.{sliceVal, ShrSlice, slice-vals, shr-slice-tells, shr-slice-lawful, shr-slice-copy}
 use denote.Steps.{peeks, heard, nothing}
@@ -40,15 +40,15 @@ use denote.Triple.Clauses.{ensured, lasts}
 use Rattle.contents.specs.Contents.{listsIn}
 use Rattle.readers.specs.Reader.{keptOf, keptLists}
 use Rattle.readers.specs.declared.reader.Reader.{Reader}
-use Rattle.readers.proofs.Held.{B, D, L}
-use Rattle.readers.proofs.covered.kept_part as keeping
-use Rattle.readers.proofs.covered.kept_part.Symbol as keeping-def
-use Rattle.readers.proofs.covered.kept_part.Symbol.{name as #readers·covered·kept-part}
-use Rattle.readers.proofs.covered.kept_part.Met as keeping-thm
-use Rattle.readers.proofs.covered.list_count as counting
-use Rattle.readers.proofs.covered.list_count.Symbol as counting-def
-use Rattle.readers.proofs.covered.list_count.Symbol.{name as #readers·covered·list-count}
-use Rattle.readers.proofs.covered.list_count.Met as counting-thm
+use Rattle.readers.proofs.ReaderType.{B, D, L}
+use Rattle.readers.proofs.opening.kept_part as keeping
+use Rattle.readers.proofs.opening.kept_part.Symbol as keeping-def
+use Rattle.readers.proofs.opening.kept_part.Symbol.{name as #readers·opening·kept-part}
+use Rattle.readers.proofs.opening.kept_part.Met as keeping-thm
+use Rattle.readers.proofs.opening.list_count as counting
+use Rattle.readers.proofs.opening.list_count.Symbol as counting-def
+use Rattle.readers.proofs.opening.list_count.Symbol.{name as #readers·opening·list-count}
+use Rattle.readers.proofs.opening.list_count.Met as counting-thm
 use Rattle.readers.proofs.reader.over as over
 use Rattle.readers.proofs.reader.over.Symbol as over-def
 use Rattle.readers.proofs.reader.over.Symbol.{name as #readers·reader·over}
@@ -105,7 +105,7 @@ module _ {M : Type 1} (𝓤 : URA M) (H : Heap 𝓤) (A : Atoms 𝓤) (W : Given
       (qed W ((‵ (flft κ q) ⊛ ‵ ftrue) ∷ ‵ (owns (Slice ∷ []) (bytes, tt) (v ∷ [], tt)) ∷ []) ∵ join ! $ frame ! $ done !) $ frame ! $ done !
 
   abbrev Kept : RefT (List ℕ) → Type 0
-  Kept s = now s ≡ keptOf (now bytes)
+  Kept s = (now s ≡ keptOf (now bytes)) × (ptr s ≡ ptr bytes)
 
   kept : (s : RefT (List ℕ)) → ent 𝓤 (ensured 𝓤 H A keeping.ended (keeping.clauses 𝓤 H A mem run) (κ, tt) (bytes, tt) tt s) (fact 𝓤 (Kept s))
   kept s = exE 𝓤 _ (λ ws. snd∗ 𝓤 (sem 𝓤 H A (lasts keeping.ended (κ, tt) (bytes, tt) ws)) (fact 𝓤 (Kept s)))
@@ -148,17 +148,17 @@ module _ {M : Type 1} (𝓤 : URA M) (H : Heap 𝓤) (A : Atoms 𝓤) (W : Given
       → ent 𝓤 (ensured 𝓤 H A over.ended (over.clauses 𝓤 H A mem run) (κ, tt) (s, (n, tt)) tt r) (fact 𝓤 (Made s n r))
   made s n r = exE 𝓤 _ (λ ws. snd∗ 𝓤 (sem 𝓤 H A (lasts over.ended (κ, tt) (s, (n, tt)) ws)) (fact 𝓤 (Made s n r)))
 
-  exits : (r : Reader) (u : Val) → now (r .book) ≡ keptOf (now bytes) → r .lists ≡ keptLists (now bytes)
+  exits : (r : Reader) (u : Val) → now (r .book) ≡ keptOf (now bytes) → ptr (r .book) ≡ ptr bytes → r .lists ≡ keptLists (now bytes)
       → ent 𝓤 (⋆ 𝓤 H A (‵ (B (κ, tt) .own r (u ∷ [])) ∷ (‵ (flft κ q) ⊛ ‵ ftrue) ∷ ‵ Own ∷ [])) (Post u)
-  exits r u e e′ =
+  exits r u e at e′ =
       qed W (‵ (B (κ, tt) .own r (u ∷ [])) ∷ (‵ (flft κ q) ⊛ ‵ ftrue) ∷ ‵ Own ∷ []) ∵
       suffices ! _ (ends-at 𝓤 H A opening.ended stayed (opening.clauses 𝓤 H A mem run) W
       (((κ, tt), (q, tt), tt, (bytes, tt), (v ∷ [], tt)), tt) u r (tt, tt) (tt, tt)) $
-      says ! (e, e′) $ move ! (1 ∷ []) $ frame ! $ nothing ! $ move ! (2 ∷ 0 ∷ []) $ fjoin ! $ frame ! $ done !
+      says ! (e, at, e′) $ move ! (1 ∷ []) $ frame ! $ nothing ! $ move ! (2 ∷ 0 ∷ []) $ fjoin ! $ frame ! $ done !
 
   module _ (C : Calls 𝓤 H) (Λ : Loops 𝓤 H) (fm : FmC 𝓤 H (W .laws) C)
-      (known-keep : Triple 𝓤 (C #readers·covered·kept-part) (Keeping 𝓤 H A mem run))
-      (known-count : Triple 𝓤 (C #readers·covered·list-count) (Counting 𝓤 H A mem run))
+      (known-keep : Triple 𝓤 (C #readers·opening·kept-part) (Keeping 𝓤 H A mem run))
+      (known-count : Triple 𝓤 (C #readers·opening·list-count) (Counting 𝓤 H A mem run))
       (known-over : Triple 𝓤 (C #readers·reader·over) (Over 𝓤 H A mem run)) where
     walk : Is Slice bytes (v ∷ [])
         → ent 𝓤 (onEntry 𝓤 H A opening.signature (κ, tt) (q, tt) (bytes, tt) (v ∷ [], tt)) (WpFn 𝓤 H C Λ code.function (v ∷ []) Post)
@@ -197,11 +197,11 @@ module _ {M : Type 1} (𝓤 : URA M) (H : Heap 𝓤) (A : Atoms 𝓤) (W : Given
         land ! (from ! (stop !)) (init ! 9 refl (LL.lawful (D (κ, tt)) (L (κ, tt)) 𝓤 H A W .typed r _ is″ .0)) $
         returns ! (look ! 9 refl) $ forget ! 3 refl $ forget ! 5 refl $ forget ! 7 refl $ forget ! 9 refl $
         move ! (9 ∷ 10 ∷ []) $ free1 ! $ move ! (7 ∷ 8 ∷ []) $ free1 ! $ move ! (5 ∷ 6 ∷ []) $ free1 ! $ move ! (3 ∷ 4 ∷ []) $ free1 ! $ free0 ! $
-        by ! (exits r u′ (ap now (m .0) ∙ e) (m .1 ∙ lists-kept (now s) (now bytes) n e e′))))))))))))))))))
+        by ! (exits r u′ (ap now (m .0) ∙ e .0) (ap ptr (m .0) ∙ e .1) (m .1 ∙ lists-kept (now s) (now bytes) n (e .0) e′))))))))))))))))))
 
 module _ {M : Type 1} (𝓤 : URA M) (H : Heap 𝓤) (A : Atoms 𝓤) (W : Given 𝓤 H A) (mem : Memory → SProp 𝓤) (run : Routine → Fun 𝓤) where
-  open-walks : (C : Calls 𝓤 H) (Λ : Loops 𝓤 H) → FmC 𝓤 H (W .laws) C → Triple 𝓤 (C #readers·covered·kept-part) (Keeping 𝓤 H A mem run)
-      → Triple 𝓤 (C #readers·covered·list-count) (Counting 𝓤 H A mem run) → Triple 𝓤 (C #readers·reader·over) (Over 𝓤 H A mem run)
+  open-walks : (C : Calls 𝓤 H) (Λ : Loops 𝓤 H) → FmC 𝓤 H (W .laws) C → Triple 𝓤 (C #readers·opening·kept-part) (Keeping 𝓤 H A mem run)
+      → Triple 𝓤 (C #readers·opening·list-count) (Counting 𝓤 H A mem run) → Triple 𝓤 (C #readers·reader·over) (Over 𝓤 H A mem run)
       → Walks 𝓤 H A opening.ended stayed (WpFn 𝓤 H C Λ code.function) (opening.clauses 𝓤 H A mem run)
   open-walks C Λ fm known-keep known-count known-over =
       walked 𝓤 H A opening.ended stayed (opening.clauses 𝓤 H A mem run) (WpFn 𝓤 H C Λ code.function)
@@ -210,7 +210,7 @@ module _ {M : Type 1} (𝓤 : URA M) (H : Heap 𝓤) (A : Atoms 𝓤) (W : Given
       (walk 𝓤 H A W mem run (κs .0) (qs .0) (a .0) C Λ fm known-keep known-count known-over (are .0)))
 
 open-meets : {M : Type 1} (𝓤 : URA M) (H : Heap 𝓤) (A : Atoms 𝓤) (W : Given 𝓤 H A) (mem : Memory → SProp 𝓤) (run : Routine → Fun 𝓤) (𝓣 : Tables 𝓤 H)
-    → Triple 𝓤 (𝓣 .C #readers·covered·kept-part) (Keeping 𝓤 H A mem run) → Triple 𝓤 (𝓣 .C #readers·covered·list-count) (Counting 𝓤 H A mem run)
+    → Triple 𝓤 (𝓣 .C #readers·opening·kept-part) (Keeping 𝓤 H A mem run) → Triple 𝓤 (𝓣 .C #readers·opening·list-count) (Counting 𝓤 H A mem run)
     → Triple 𝓤 (𝓣 .C #readers·reader·over) (Over 𝓤 H A mem run)
     → Meets 𝓤 H A opening.signature (WpFn 𝓤 H (𝓣 .C) (𝓣 .Λ) code.function) (opening.spec 𝓤 H A mem run)
 open-meets 𝓤 H A W mem run 𝓣 known-keep known-count known-over =
@@ -224,9 +224,9 @@ open-spec 𝓤 H 𝓜 𝓖 𝓡 =
     entered 𝓤 H (tripleOf 𝓤 H (𝓖 .A) opening.signature (opening.spec 𝓤 H (𝓖 .A) (𝓜 .mem) (𝓡 .run)))
     (tables 𝓤 H 𝓜 𝓡 code.env .C) (tables 𝓤 H 𝓜 𝓡 code.env .Λ) #readers·reader·open code.function (code.unfolded 𝓤 H 𝓜 𝓡)
     (open-meets 𝓤 H (𝓖 .A) (givenOf 𝓤 H 𝓜 𝓖) (𝓜 .mem) (𝓡 .run) (tablesOf 𝓤 H 𝓜 (tables 𝓤 H 𝓜 𝓡 code.env))
-    (cited 𝓤 H (Keeping 𝓤 H (𝓖 .A) (𝓜 .mem) (𝓡 .run)) 𝓜 𝓡 code.env #readers·covered·kept-part keeping-def.routine
-    code.calls-readers·covered·kept-part (keeping-thm.met 𝓤 H 𝓜 𝓖 𝓡))
-    (cited 𝓤 H (Counting 𝓤 H (𝓖 .A) (𝓜 .mem) (𝓡 .run)) 𝓜 𝓡 code.env #readers·covered·list-count counting-def.routine
-    code.calls-readers·covered·list-count (counting-thm.met 𝓤 H 𝓜 𝓖 𝓡))
+    (cited 𝓤 H (Keeping 𝓤 H (𝓖 .A) (𝓜 .mem) (𝓡 .run)) 𝓜 𝓡 code.env #readers·opening·kept-part keeping-def.routine
+    code.calls-readers·opening·kept-part (keeping-thm.met 𝓤 H 𝓜 𝓖 𝓡))
+    (cited 𝓤 H (Counting 𝓤 H (𝓖 .A) (𝓜 .mem) (𝓡 .run)) 𝓜 𝓡 code.env #readers·opening·list-count counting-def.routine
+    code.calls-readers·opening·list-count (counting-thm.met 𝓤 H 𝓜 𝓖 𝓡))
     (cited 𝓤 H (Over 𝓤 H (𝓖 .A) (𝓜 .mem) (𝓡 .run)) 𝓜 𝓡 code.env #readers·reader·over over-def.routine code.calls-readers·reader·over
     (over-thm.met 𝓤 H 𝓜 𝓖 𝓡)))

@@ -36,7 +36,7 @@ use denote.Triple.Walked.{says, Stays, stay-none, stay-none-slice, walkOf, goes-
 use denote.Exit.{yes}
 use Rattle.readers.specs.declared.reader.Reader.{Reader}
 use Rattle.readers.proofs.reader.Reader.Laws as T′
-use Rattle.readers.proofs.Held.{D, L}
+use Rattle.readers.proofs.ReaderType.{D, L}
 use Rattle.readers.proofs.reader.over.Key.{name as #readers·reader·over}
 use Rattle.readers.proofs.reader.over as over
 use Rattle.readers.proofs.reader.over.Statement as stated

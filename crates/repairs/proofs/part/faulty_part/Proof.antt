@@ -1,44 +1,48 @@
--- The verdict is `checkTwo`'s, so the tests of its number and list pick the case of `partAt`.
--- A part of the other list, or one shown for another answer, falls at its return.
+-- The verdict is `checkTwo`'s, so the tests of its number and list pick the case of `partAt` and of
+-- `placeAt`. A part of the other list, an empty one too, or one shown for another answer, falls at
+-- its return.
 use borrow.Author.Needs.{needs}
 use mathlib.Core.Path.{_≡_, refl, ap, _∙_}
+use mathlib.Core.Logic.{_⊎_, inl, inr}
 use mathlib.Core.List.{List, []}
 use Prim.Native.Nat.{ℕ, _*_, _≤_, _<_}
 use native.Mathlib.Omega.{arith}
 use denote.Ref.{now}
 use lib.ListN.{drop}
-use borrow.Author.Tests.{eq-eqb, ne-eqb, le-leb, lt-leb}
-use Rattle.nodes.specs.Answer.{LEVEL, DEPTH}
+use borrow.Author.Tests.{eq-eqb, ne-eqb, le-leb, lt-leb, ltb-true, ltb-false}
+use Rattle.answers.specs.Answer.{LEVEL, DEPTH}
 use Rattle.nodes.specs.Words.{NODE-WORDS}
-use Rattle.lists.specs.declared.verdict.Verdict.{Verdict}
-use Rattle.repairs.specs.Part.{showsb, partAt, faultyPart}
+use Rattle.answers.specs.declared.verdict.Verdict.{Verdict}
+use Rattle.repairs.specs.Part.{showsb, partAt, faultyPart, placeFrom, placeAt, faultyPlace}
 use Rattle.lists.specs.Two.{checkTwo}
-use Rattle.lists.specs.Verdict.{DESCENDANTS}
+use Rattle.answers.specs.Verdict.{DESCENDANTS}
 use Rattle.repairs.proofs.part.faulty_part.Statement.{statement}
 use Rattle.repairs.proofs.part.faulty_part.Tie as tie
 
-module _ (xs ys : List ℕ) (v : Verdict) (q : v ≡ checkTwo xs ys) where
-  shown : partAt v xs ys ≡ faultyPart xs ys
-  unfolding faultyPart
-  shown = ap (λ (w : Verdict). partAt w xs ys) q
+module _ (xs ys : List ℕ) (v : Verdict) (q : v ≡ checkTwo xs ys) (a d : ℕ × ℕ) where
+  shown : (partAt v xs ys ≡ faultyPart xs ys) × (placeAt v a d xs ys ≡ faultyPlace a d xs ys)
+  unfolding faultyPart faultyPlace
+  shown = (ap (λ (w : Verdict). partAt w xs ys) q, ap (λ (w : Verdict). placeAt w a d xs ys) q)
 
-  below : v .answer < LEVEL → [] ≡ faultyPart xs ys
-  unfolding showsb partAt
-  below h = rw (← shown, lt-leb LEVEL (v .answer) h) refl
+  -- what is returned is the part at fault, and lies where that lies
+  abbrev Right : List ℕ → ℕ × ℕ → Type 0
+  Right words place = (words ≡ faultyPart xs ys) × (place ≡ faultyPlace a d xs ys)
 
-  module _ (low : LEVEL ≤ v .answer) where
-    above : DEPTH < v .answer → [] ≡ faultyPart xs ys
-    unfolding showsb partAt
-    above h = rw (← shown, le-leb LEVEL (v .answer) low, lt-leb (v .answer) DEPTH h) refl
+  outside : (v .answer < LEVEL) ⊎ ((LEVEL ≤ v .answer) × (DEPTH < v .answer)) → Right [] a
+  unfolding showsb partAt placeAt
+  outside (inl h) = rw (← shown .0, ← shown .1, lt-leb LEVEL (v .answer) h) (refl, refl)
+  outside (inr (l, h)) = rw (← shown .0, ← shown .1, le-leb LEVEL (v .answer) l, lt-leb (v .answer) DEPTH h) (refl, refl)
 
-    module _ (high : v .answer ≤ DEPTH) where
-      in-second : v .list ≡ DESCENDANTS → drop (NODE-WORDS * v .index) ys ≡ faultyPart xs ys
-      unfolding showsb partAt
-      in-second h = rw (← shown, le-leb LEVEL (v .answer) low, le-leb (v .answer) DEPTH high, eq-eqb (v .list) DESCENDANTS h) refl
+  module _ (low : LEVEL ≤ v .answer) (high : v .answer ≤ DEPTH) where
+    in-second : v .list ≡ DESCENDANTS → Right (drop (NODE-WORDS * v .index) ys) (placeFrom d ys (v .index))
+    unfolding showsb partAt placeAt
+    in-second h =
+        rw (← shown .0, ← shown .1, le-leb LEVEL (v .answer) low, le-leb (v .answer) DEPTH high, eq-eqb (v .list) DESCENDANTS h) (refl, refl)
 
-      in-first : (v .list ≡ DESCENDANTS → ⊥) → drop (NODE-WORDS * v .index) xs ≡ faultyPart xs ys
-      unfolding showsb partAt
-      in-first h = rw (← shown, le-leb LEVEL (v .answer) low, le-leb (v .answer) DEPTH high, ne-eqb (v .list) DESCENDANTS h) refl
+    in-first : (v .list ≡ DESCENDANTS → ⊥) → Right (drop (NODE-WORDS * v .index) xs) (placeFrom a xs (v .index))
+    unfolding showsb partAt placeAt
+    in-first h =
+        rw (← shown .0, ← shown .1, le-leb LEVEL (v .answer) low, le-leb (v .answer) DEPTH high, ne-eqb (v .list) DESCENDANTS h) (refl, refl)
 
 check-two-requires : tie.Need-check-two-requires
 check-two-requires c κs = search needs
@@ -48,47 +52,37 @@ slice-aggregate-result c = search needs
 
 returns : tie.Need-returns
 returns c =
-    let a = c .before .before .before .before .before .before .args in
-    below (now (a .ancestors)) (now (a .descendants)) _ (c .before .before .before .check-two .ensures) (omega arith)
-
-slice-aggregate-result-2 : tie.Need-slice-aggregate-result-2
-slice-aggregate-result-2 c = search needs
-
-returns-2 : tie.Need-returns-2
-returns-2 c =
-    let a = c .before .before .before .before .before .before .before .before .args in
-    above (now (a .ancestors)) (now (a .descendants)) _ (c .before .before .before .before .before .check-two .ensures) (omega arith) (omega arith)
+    let checked = c .before .before .before in
+    let a = checked .before .before .before .args in
+    let right = outside (now (a .ancestors)) (now (a .descendants)) _ (checked .check-two .ensures) (a .ancestors .ptr) (a .descendants .ptr) in
+    elim (c .before .if1 .came) [
+      | inl low ↦ right (inl (low .taken))
+      | inr high ↦ right (inr (omega (arith, high .0 .left), ltb-true DEPTH _ (high .2 .taken)))
+    ]
 
 part-from-requires : tie.Need-part-from-requires
 part-from-requires c κs = search needs
+
+returns-2 : tie.Need-returns-2
+returns-2 c =
+    let checked = c .before .before .before .before .before .before .before in
+    let a = checked .before .before .before .args in
+    let e = in-second (now (a .ancestors)) (now (a .descendants)) _ (checked .check-two .ensures) (a .ancestors .ptr) (a .descendants .ptr)
+    (omega arith) (ltb-false DEPTH _ (c .before .before .before .if2 .left)) (omega arith) in
+    (c .part-from .ensures .0 ∙ e .0, c .part-from .ensures .1 ∙ e .1)
+
+part-from-requires-2 : tie.Need-part-from-requires-2
+part-from-requires-2 c κs = search needs
 
 returns-3 : tie.Need-returns-3
 returns-3 c =
     let checked = c .before .before .before .before .before .before .before in
     let a = checked .before .before .before .args in
-    c .part-from .ensures
-    ∙ in-second (now (a .ancestors)) (now (a .descendants)) _ (checked .check-two .ensures) (omega arith) (omega arith) (omega arith)
-
-part-from-requires-2 : tie.Need-part-from-requires-2
-part-from-requires-2 c κs = search needs
-
-returns-4 : tie.Need-returns-4
-returns-4 c =
-    let checked = c .before .before .before .before .before .before .before in
-    let a = checked .before .before .before .args in
-    c .part-from2 .ensures
-    ∙ in-first (now (a .ancestors)) (now (a .descendants)) _ (checked .check-two .ensures) (omega arith) (omega arith) (omega arith)
+    let e = in-first (now (a .ancestors)) (now (a .descendants)) _ (checked .check-two .ensures) (a .ancestors .ptr) (a .descendants .ptr)
+    (omega arith) (ltb-false DEPTH _ (c .before .before .before .if2 .left)) (omega arith) in
+    (c .part-from2 .ensures .0 ∙ e .0, c .part-from2 .ensures .1 ∙ e .1)
 
 pub faulty-part-spec : {M : Type 1} → statement M
 faulty-part-spec =
     tie.close
-    (tie.spec
-    check-two-requires
-    slice-aggregate-result
-    returns
-    slice-aggregate-result-2
-    returns-2
-    part-from-requires
-    returns-3
-    part-from-requires-2
-    returns-4)
+    (tie.spec check-two-requires slice-aggregate-result returns part-from-requires returns-2 part-from-requires-2 returns-3)

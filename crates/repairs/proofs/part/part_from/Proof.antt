@@ -1,14 +1,18 @@
--- Up to the number of nodes the part is what is left behind the index's words, and from there on nothing is left.
--- A part that starts one word off falls at the second return.
+-- Up to the number of nodes the part is what is left after the index's words, and from there on
+-- nothing is left; it lies as many bytes further on as these words take. A part that starts one
+-- word off falls at the second return.
 use borrow.Author.Needs.{needs}
 use mathlib.Core.Path.{_≡_, sym}
 use mathlib.Core.List.{List, []}
-use Prim.Native.Nat.{ℕ, _*_, _-_, _<_}
+use Prim.Native.Nat.{ℕ, _+_, _*_, _-_, _≤_, _<_}
 use native.Mathlib.Omega.{arith}
 use denote.Ref.{now}
 use lib.ListN.{length, take, drop, length-drop, drop-of-length-le}
 use lib.Seq.{take-all}
 use Rattle.nodes.specs.Words.{NODE-WORDS, count}
+use Rattle.numbers.specs.Little.{NODE-BYTES}
+use Rattle.numbers.proofs.Places.{before-the-end, at-the-beginning}
+use Rattle.repairs.specs.Part.{placeFrom}
 use Rattle.repairs.proofs.part.part_from.Statement.{statement}
 use Rattle.repairs.proofs.part.part_from.Tie as tie
 
@@ -17,6 +21,14 @@ behind ws i h = sym (drop-of-length-le ws {i = NODE-WORDS * i} (omega arith))
 
 rest : (ws : List ℕ) (i : ℕ) → take (length ws - NODE-WORDS * i) (drop (NODE-WORDS * i) ws) ≡ drop (NODE-WORDS * i) ws
 rest ws i = take-all (length ws - NODE-WORDS * i) (drop (NODE-WORDS * i) ws) (omega (arith, length-drop (NODE-WORDS * i) ws))
+
+at-node : (start : ℕ × ℕ) (ws : List ℕ) (i at : ℕ) → i ≤ count ws → at ≡ start .1 + NODE-BYTES * i → (start .0, at) ≡ placeFrom start ws i
+unfolding placeFrom
+at-node start ws i at h q = before-the-end start _ _ at (omega arith) q
+
+at-front : (start : ℕ × ℕ) (ws : List ℕ) (i : ℕ) → count ws < i → start ≡ placeFrom start ws i
+unfolding placeFrom
+at-front start ws i h = at-the-beginning start _ _ (omega arith)
 
 node-count-requires : tie.Need-node-count-requires
 node-count-requires c κs = search needs
@@ -27,7 +39,7 @@ slice-aggregate-result c = search needs
 returns : tie.Need-returns
 returns c =
     let a = c .before .before .before .before .args in
-    behind (now (a .words)) (a .index) (omega arith)
+    (behind (now (a .words)) (a .index) (omega arith), at-front (a .words .ptr) (now (a .words)) (a .index) (omega arith))
 
 mul-result : tie.Need-mul-result
 mul-result c = search needs
@@ -47,7 +59,7 @@ part-result-end c = search needs
 returns-2 : tie.Need-returns-2
 returns-2 c =
     let a = c .before .before .before .before .args in
-    rest (now (a .words)) (a .index)
+    (rest (now (a .words)) (a .index), at-node (a .words .ptr) (now (a .words)) (a .index) _ (omega arith) (omega arith))
 
 pub part-from-spec : {M : Type 1} → statement M
 part-from-spec =

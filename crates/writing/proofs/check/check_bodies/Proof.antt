@@ -10,21 +10,20 @@ use lib.ListN.{length, getD, take, drop, length-drop, drop-of-length-le}
 use lib.Seq.{drop-drop, length-take-le}
 use denote.Ref.{now}
 use borrow.Author.Tests.{eq-eqb}
-use Rattle.nodes.specs.Answer.{TAKEN}
+use Rattle.answers.specs.Answer.{TAKEN}
 use Rattle.nodes.specs.Words.{NODE-WORDS, MOST-NODES, nodes}
 use Rattle.nodes.proofs.WordLaws.{length-nodes, nodes-take, nodes-drop}
 use Rattle.numbers.specs.Little.{NODE-BYTES}
 use Rattle.contents.specs.Contents.{entry, contentsEnd, laidb}
-use Rattle.lists.specs.declared.verdict.Verdict.{Verdict}
+use Rattle.answers.specs.declared.verdict.Verdict.{Verdict}
 use Rattle.lists.specs.Check.{checkNodes, checkWords}
-use Rattle.lists.specs.Two.{inList}
-use Rattle.lists.specs.Verdict.{taken}
+use Rattle.answers.specs.Verdict.{inList, taken}
 use Rattle.lists.proofs.Taken.{whole-words}
 use Rattle.books.specs.Book.{checkBodies}
 use Rattle.books.proofs.BookLaws.{bodies-on, bodies-stop, bodies-end}
 use Rattle.writing.specs.declared.wanted.Wanted.{Wanted}
 use Rattle.writing.specs.Wanted.{WANTED-WORDS, want, wanted, laidOut, contentsFor, bodiesFor, sizeFor, wantedFault}
-use Rattle.writing.proofs.Laid.{laid-first, laid-end}
+use Rattle.writing.proofs.BodyOffsets.{laid-first, laid-end}
 use Rattle.writing.proofs.Rules.{Rules, rules-written, wanted-short, wanted-few}
 use Rattle.writing.proofs.WantedLaws.{length-wanted, wanted-from, wanted-at}
 use Rattle.writing.proofs.check.check_bodies.Statement.{statement}

@@ -8,13 +8,13 @@ use native.Mathlib.Omega.{arith}
 use lib.ListN.{length}
 use denote.Ref.{now}
 use borrow.Author.Tests.{eq-eqb, ne-eqb}
-use Rattle.nodes.specs.Answer.{TAKEN}
+use Rattle.answers.specs.Answer.{TAKEN}
 use Rattle.nodes.specs.Words.{NODE-WORDS, nodes}
-use Rattle.lists.specs.declared.verdict.Verdict.{Verdict}
-use Rattle.lists.specs.Verdict.{ANCESTORS, verdict}
+use Rattle.answers.specs.declared.verdict.Verdict.{Verdict}
+use Rattle.answers.specs.Verdict.{ANCESTORS, verdict}
 use Rattle.books.specs.Book.{checkBodies, checkParts}
 use Rattle.writing.specs.Wanted.{WANTED-WORDS, wanted, bodiesFor, wantedFault}
-use Rattle.writing.specs.Written.{checkWanted}
+use Rattle.writing.specs.WriteCall.{checkWanted}
 use Rattle.writing.proofs.Checking.{entries-ragged, nodes-ragged, whole-checked, parts}
 use Rattle.writing.proofs.check.check_wanted.Statement.{statement}
 use Rattle.writing.proofs.check.check_wanted.Tie as tie

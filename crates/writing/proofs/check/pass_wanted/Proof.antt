@@ -11,14 +11,15 @@ use lib.ListN.{length, getD, drop, drop-of-length-le}
 use denote.Ref.{now}
 use borrow.Author.Tests.{leb-true}
 use Rattle.nodes.specs.Words.{MOST-NODES}
-use Rattle.nodes.proofs.Tests.{either, and-read}
+use Rattle.laws.proofs.Tests.{either, and-read}
 use Rattle.numbers.specs.Little.{NODE-BYTES}
 use Rattle.contents.specs.declared.entry.Entry.{Entry}
-use Rattle.contents.specs.declared.step.Place.{Place}
+use Rattle.contents.specs.declared.step.ContentsPlace.{ContentsPlace}
 use Rattle.contents.specs.declared.step.Step.{Step}
 use Rattle.contents.specs.declared.step.Step.the-variants.{Reached, Refused}
 use Rattle.contents.specs.Contents.{entry, contentsEnd}
-use Rattle.contents.specs.Passing.{startOf, passesb, placeAfter, stepOf, Kept}
+use Rattle.contents.specs.Passing.{startOf, passesb, afterEntry, stepOf}
+use Rattle.contents.specs.Private.Walk.{Kept}
 use Rattle.contents.proofs.ContentLaws.{Left, kept-on, kept-stop, kept-end}
 use Rattle.writing.specs.declared.wanted.Wanted.{Wanted}
 use Rattle.writing.specs.Wanted.{WANTED-WORDS, want, wanted, laidOut, contentsFor}
@@ -27,30 +28,30 @@ use Rattle.writing.proofs.check.pass_wanted.Statement.{statement}
 use Rattle.writing.proofs.check.pass_wanted.Tie as tie
 
 -- where a list is passed, its body ends at the next place, and it isn't too long
-Ends : Place → Entry → Step → Type 0
+Ends : ContentsPlace → Entry → Step → Type 0
 Ends p e (Reached q) = (q .end ≡ p .end + NODE-BYTES * e .count) × (e .count ≤ MOST-NODES)
 Ends p e (Refused answer) = Unit {0}
 
-ends : (p : Place) (e : Entry) → Ends p e (stepOf p e)
-unfolding Ends stepOf placeAfter passesb
+ends : (p : ContentsPlace) (e : Entry) → Ends p e (stepOf p e)
+unfolding Ends stepOf afterEntry passesb
 ends p e =
     elim (either (passesb p e)) [
       | inl h ↦ rw h (refl, leb-true _ _ (and-read (leb (e .count) MOST-NODES) (and-read (eqb (e .offset) (p .end)) h .1) .0))
       | inr h ↦ rw h tt
     ]
 
-passed-ends : (p : Place) (e : Entry) (r : Step) → r ≡ stepOf p e → (q : Place) → r ≡ Reached q
+passed-ends : (p : ContentsPlace) (e : Entry) (r : Step) → r ≡ stepOf p e → (q : ContentsPlace) → r ≡ Reached q
     → (q .end ≡ p .end + NODE-BYTES * e .count) × (e .count ≤ MOST-NODES)
 unfolding Ends
 passed-ends p e r s q h = subst (Ends p e) (sym s ∙ h) (ends p e)
 
 -- so many lists of the entries are passed
-pub record Passed (entries : List ℕ) (lists index : ℕ) (p : Place) : Type 0 where
+pub record Passed (entries : List ℕ) (lists index : ℕ) (p : ContentsPlace) : Type 0 where
   pub most : p .end ≤ contentsEnd lists + 65536 * index
   pub left : Left p (laidOut (p .end) (drop index (wanted entries))) (startOf lists) (contentsFor (wanted entries))
 
 module _ (entries : List ℕ) (lists : ℕ) (n : lists ≡ length entries / WANTED-WORDS) where
-  starts : (p : Place) → p ≡ startOf lists → Passed entries lists 0 p
+  starts : (p : ContentsPlace) → p ≡ startOf lists → Passed entries lists 0 p
   unfolding startOf contentsFor
   starts p e =
       let l = length-wanted entries in
@@ -61,7 +62,7 @@ module _ (entries : List ℕ) (lists : ℕ) (n : lists ≡ length entries / WANT
         left = rw (e, k) (λ size. refl);
       }
 
-  module _ (index : ℕ) (p : Place) (l : Passed entries lists index p) where
+  module _ (index : ℕ) (p : ContentsPlace) (l : Passed entries lists index p) where
     module _ (h : index < lists) (w : Wanted) (q : w ≡ getD (wanted entries) index (want 0 0))
         (r : Step) (s : r ≡ stepOf p (entry (w .tag) (p .end) (w .count))) where
       next : Left p (entry (w .tag) (p .end) (w .count) ∷ laidOut (p .end + NODE-BYTES * w .count) (drop (index + 1) (wanted entries)))
@@ -70,7 +71,7 @@ module _ (entries : List ℕ) (lists : ℕ) (n : lists ≡ length entries / WANT
       next = subst (λ ws. Left p (laidOut (p .end) ws) (startOf lists) (contentsFor (wanted entries)))
           (wanted-from entries index (omega arith) w q) (l .left)
 
-      one-more : (reached : Place) → r ≡ Reached reached → Passed entries lists (index + 1) reached
+      one-more : (reached : ContentsPlace) → r ≡ Reached reached → Passed entries lists (index + 1) reached
       one-more reached k =
           let e = passed-ends p (entry (w .tag) (p .end) (w .count)) r s reached k in
           let far = l .most in

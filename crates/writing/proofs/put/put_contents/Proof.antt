@@ -9,10 +9,10 @@ use lib.ListN.{length, getD, drop, drop-of-length-le}
 use lib.Seq.{sets, length-sets}
 use denote.Ref.{now}
 use Rattle.nodes.specs.Words.{MOST-NODES}
-use Rattle.nodes.specs.Written.{wordsIn, written}
+use Rattle.answers.specs.Output.{wordsIn, written}
 use Rattle.numbers.specs.Little.{NODE-BYTES, bytesOf, numberCount, putNumber}
 use Rattle.contents.specs.Contents.{entry, entryNumbers, contentsEnd}
-use Rattle.nodes.proofs.Writing.{sets-written}
+use Rattle.answers.proofs.OutputLaws.{sets-written}
 use Rattle.writing.specs.declared.wanted.Wanted.{Wanted}
 use Rattle.writing.specs.Wanted.{WANTED-WORDS, want, wanted, laidOut, contentsFor}
 use Rattle.writing.proofs.Putting.{put-on, length-put, laidBytes, laid-on, length-front}

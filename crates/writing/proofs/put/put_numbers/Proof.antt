@@ -9,7 +9,7 @@ use native.Mathlib.Omega.{arith}
 use lib.ListN.{length, getD, drop, drop-of-length-le}
 use lib.Seq.{sets, drop-cons}
 use denote.Ref.{now}
-use Rattle.nodes.specs.Written.{wordsIn}
+use Rattle.answers.specs.Output.{wordsIn}
 use Rattle.numbers.specs.Little.{bytesOf, numberCount, putNumber}
 use Rattle.writing.proofs.Putting.{put-on, length-put}
 use Rattle.writing.proofs.put.put_numbers.Statement.{statement}

@@ -8,19 +8,19 @@ use native.Mathlib.Omega.{arith}
 use lib.ListN.{length, length-append}
 use lib.Seq.{sets}
 use denote.Ref.{now}
-use Rattle.nodes.specs.Answer.{TAKEN, ROOM}
+use Rattle.answers.specs.Answer.{TAKEN, ROOM}
 use Rattle.nodes.specs.Words.{nodes}
-use Rattle.nodes.specs.Written.{wordsIn, written}
+use Rattle.answers.specs.Output.{wordsIn, written}
 use Rattle.nodes.proofs.WordLaws.{length-nodes, words-of-nodes}
-use Rattle.nodes.proofs.Writing.{written-more, words-append}
+use Rattle.answers.proofs.OutputLaws.{written-more, words-append}
 use Rattle.numbers.specs.Little.{bytesOf}
 use Rattle.contents.specs.Contents.{MOST-LISTS, entryNumbers, contentsEnd}
-use Rattle.lists.specs.declared.verdict.Verdict.{Verdict}
-use Rattle.lists.specs.Verdict.{ANCESTORS, verdict, taken}
-use Rattle.writing.specs.declared.write.Written.{Written}
+use Rattle.answers.specs.declared.verdict.Verdict.{Verdict}
+use Rattle.answers.specs.Verdict.{ANCESTORS, verdict, taken, counted}
+use Rattle.answers.specs.declared.verdict.Counted.{Counted}
 use Rattle.writing.specs.Wanted.{WANTED-WORDS, wanted, contentsFor, sizeFor, wantedFault, bookNumbers, bookBytes}
-use Rattle.writing.specs.Written.{checkWanted, bytesFor, writtenOf, writtenOutput}
-use Rattle.writing.proofs.Checking.{taken-whole, taken-fault, taken-all}
+use Rattle.writing.specs.WriteCall.{checkWanted, bytesFor, writtenOf, writtenOutput}
+use Rattle.writing.proofs.Checking.{taken-whole, taken-fault}
 use Rattle.writing.proofs.Outcomes.{write-refused, write-room, write-taken}
 use Rattle.writing.proofs.Putting.{length-front}
 use Rattle.writing.proofs.Reading.{size-written}
@@ -31,7 +31,7 @@ use Rattle.writing.proofs.write.write_book.Tie as tie
 
 module _ (entries list : List ℕ) (v : Verdict) (q : v ≡ checkWanted entries list) where
   refused : (out : List ℕ) → (v .answer ≡ TAKEN → ⊥)
-      → _≡_ {A = Written} (record { verdict = v; count = 0 }) (writtenOf entries list out) × (out ≡ writtenOutput entries list out)
+      → _≡_ {A = Counted} (record { verdict = v; count = 0 }) (writtenOf entries list out) × (out ≡ writtenOutput entries list out)
   refused out h =
       let r = write-refused entries list out (λ e. h (ap (λ u. u .answer) q ∙ e)) in
       (ap (λ u. record { verdict = u; count = 0 }) q ∙ sym (r .0), sym (r .1))
@@ -56,11 +56,11 @@ module _ (entries list : List ℕ) (v : Verdict) (q : v ≡ checkWanted entries 
         let c = ap contentsEnd (n ∙ sym (length-wanted entries)) in
         size-written (wanted entries) (nodes list) ∙ omega arith
 
-    no-room : (out : List ℕ) (size : ℕ) (r : Verdict) → length (bytesFor entries list) ≡ size → length out < size → r ≡ verdict ROOM ANCESTORS 0
-        → _≡_ {A = Written} (record { verdict = r; count = 0 }) (writtenOf entries list out) × (out ≡ writtenOutput entries list out)
+    no-room : (out : List ℕ) (size : ℕ) (r : Counted) → length (bytesFor entries list) ≡ size → length out < size
+        → r ≡ counted (verdict ROOM ANCESTORS 0) 0 → (r ≡ writtenOf entries list out) × (out ≡ writtenOutput entries list out)
     no-room out size r s h e =
         let w = write-room entries list out was-taken (omega arith) in
-        (ap (λ u. record { verdict = u; count = 0 }) e ∙ sym (w .0), sym (w .1))
+        (e ∙ sym (w .0), sym (w .1))
 
     -- the nodes behind the contents make the book
     book-made : (out front last : List ℕ) (lists : ℕ) → lists ≡ length entries / WANTED-WORDS → length (bytesFor entries list) ≤ length out
@@ -81,12 +81,11 @@ module _ (entries list : List ℕ) (v : Verdict) (q : v ≡ checkWanted entries 
         ∙ written-more (wordsIn bytesOf us) (wordsIn bytesOf list) out (omega arith)
         ∙ ap (λ bs. written bs out) (sym b)
 
-    done : (out last : List ℕ) (size : ℕ) → length (bytesFor entries list) ≡ size → size ≤ length out → last ≡ written (bytesFor entries list) out
-        → _≡_ {A = Written} (record { verdict = v; count = size }) (writtenOf entries list out) × (last ≡ writtenOutput entries list out)
-    done out last size s h e =
+    done : (out last : List ℕ) (size : ℕ) (r : Counted) → length (bytesFor entries list) ≡ size → size ≤ length out → r ≡ counted taken size
+        → last ≡ written (bytesFor entries list) out → (r ≡ writtenOf entries list out) × (last ≡ writtenOutput entries list out)
+    done out last size r s h c e =
         let w = write-taken entries list out was-taken (omega arith) in
-        let all = q ∙ taken-all entries list was-taken in
-        ((λ k. record { verdict = all k; count = sym s k }) ∙ sym (w .0), e ∙ sym (w .1))
+        (c ∙ (λ k. counted taken (sym s k)) ∙ sym (w .0), e ∙ sym (w .1))
 
 check-wanted-requires : tie.Need-check-wanted-requires
 check-wanted-requires c κs = search needs
@@ -120,8 +119,8 @@ add-size c =
     let m = few (now (a .entries)) (now (a .list)) _ (v .check-wanted .ensures) (c .before .before .if1 .left) in
     search needs
 
-without-node-requires : tie.Need-without-node-requires
-without-node-requires c κs = search needs
+wrote-nothing-requires : tie.Need-wrote-nothing-requires
+wrote-nothing-requires c κs = search needs
 
 returns-2 : tie.Need-returns-2
 returns-2 c =
@@ -131,7 +130,7 @@ returns-2 c =
     let q = v .check-wanted .ensures in
     let t = n .before .if1 .left in
     let size = sized (now (a .entries)) (now (a .list)) _ q t _ _ _ (n .wanted-count .ensures) (c .before .before .contents-end .ensures) refl in
-    no-room (now (a .entries)) (now (a .list)) _ q t _ _ _ size (omega arith) (c .without-node .ensures)
+    no-room (now (a .entries)) (now (a .list)) _ q t _ _ _ size (omega arith) (c .wrote-nothing .ensures)
 
 put-contents-requires : tie.Need-put-contents-requires
 unfolding contentsEnd
@@ -153,12 +152,15 @@ put-numbers-requires : tie.Need-put-numbers-requires
 unfolding contentsEnd
 put-numbers-requires c κs = search needs
 
+wrote-requires : tie.Need-wrote-requires
+wrote-requires c κs = search needs
+
 same-length : tie.Need-same-length
 same-length c = search needs
 
 returns-3 : tie.Need-returns-3
 returns-3 c =
-    let p = c .before .before .before .before .before .before in
+    let p = c .before .before .before .before .before .before .before in
     let e = p .before .before .before in
     let n = e .before in
     let v = n .before .before .before in
@@ -167,8 +169,8 @@ returns-3 c =
     let t = n .before .if1 .left in
     let size = sized (now (a .entries)) (now (a .list)) _ q t _ _ _ (n .wanted-count .ensures) (e .contents-end .ensures) refl in
     let made = book-made (now (a .entries)) (now (a .list)) _ q t (now (a .out)) _ _ _ (n .wanted-count .ensures) (omega arith)
-    (p .put-contents .ensures) (c .before .before .put-numbers .ensures) in
-    done (now (a .entries)) (now (a .list)) _ q t (now (a .out)) _ _ size (omega arith) made
+    (p .put-contents .ensures) (c .before .before .before .put-numbers .ensures) in
+    done (now (a .entries)) (now (a .list)) _ q t (now (a .out)) _ _ _ size (omega arith) (c .wrote .ensures) made
 
 pub write-book-spec : {M : Type 1} → statement M
 write-book-spec =
@@ -181,11 +183,12 @@ write-book-spec =
     contents-end-requires
     mul-size
     add-size
-    without-node-requires
+    wrote-nothing-requires
     returns-2
     put-contents-requires
     mul-put-numbers
     add-put-numbers
     put-numbers-requires
+    wrote-requires
     same-length
     returns-3)

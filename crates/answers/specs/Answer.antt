@@ -1,0 +1,78 @@
+-- Document 01, "Answer numbers": the numbers by name, and the one table of names.
+use Prim.Native.Nat.{ℕ}
+use Prim.Native.Char.{code}
+use Prim.Native.String.{String, len, charAt}
+use mathlib.Core.Bool.{cond}
+use mathlib.Core.List.{List, [], _∷_, map}
+use lib.Dec.{ltb}
+use lib.ListN.{getD}
+
+-- the number of each answer
+abbrev pub TAKEN : ℕ
+TAKEN = 0
+
+abbrev pub RAGGED : ℕ
+RAGGED = 1
+
+abbrev pub LONG : ℕ
+LONG = 2
+
+abbrev pub LEVEL : ℕ
+LEVEL = 3
+
+abbrev pub SPAN : ℕ
+SPAN = 4
+
+abbrev pub ORDER : ℕ
+ORDER = 5
+
+abbrev pub CROSS : ℕ
+CROSS = 6
+
+abbrev pub DEPTH : ℕ
+DEPTH = 7
+
+abbrev pub JOINT : ℕ
+JOINT = 8
+
+abbrev pub ROOM : ℕ
+ROOM = 9
+
+abbrev pub MARK : ℕ
+MARK = 10
+
+abbrev pub STRAY : ℕ
+STRAY = 11
+
+abbrev pub DEEP : ℕ
+DEEP = 12
+
+abbrev pub UNCLOSED : ℕ
+UNCLOSED = 13
+
+abbrev pub TABLE : ℕ
+TABLE = 14
+
+abbrev pub CONTENTS : ℕ
+CONTENTS = 15
+
+abbrev pub ABSENT : ℕ
+ABSENT = 16
+
+-- the names, in the order of their numbers
+unfoldable pub names : List String
+names =
+    "TAKEN" ∷ "RAGGED" ∷ "LONG" ∷ "LEVEL" ∷ "SPAN" ∷ "ORDER" ∷ "CROSS" ∷ "DEPTH" ∷ "JOINT" ∷ "ROOM" ∷ "MARK" ∷ "STRAY" ∷ "DEEP"
+    ∷ "UNCLOSED" ∷ "TABLE" ∷ "CONTENTS" ∷ "ABSENT" ∷ []
+
+-- the ASCII byte at a place of a text, and a blank after its end
+unfoldable pub letterAt : String → ℕ → ℕ
+letterAt text i = cond (ltb i (len text)) (code (charAt text i)) 32
+
+-- a text as a name of eight bytes, filled up with blanks
+unfoldable pub padded : String → List ℕ
+padded text = map (letterAt text) (0 ∷ 1 ∷ 2 ∷ 3 ∷ 4 ∷ 5 ∷ 6 ∷ 7 ∷ [])
+
+-- the name of an answer number; of a number above the last one, eight blanks
+unfoldable pub nameOf : ℕ → List ℕ
+nameOf number = getD (map padded names) number (padded "")

@@ -1,0 +1,141 @@
+-- The first and the last number that pass a test are found along the numbers below a bound, and where none passes the answer is NONE, which none
+-- of them is. A search that ran one number short, or took NONE for a number, would fall here.
+use mathlib.Core.Path.{_≡_, refl, sym, ap, subst, _∙_}
+use mathlib.Core.Logic.{_⊎_, inl, inr}
+use mathlib.Core.Bool.{Bool, true, false, cond}
+use mathlib.Core.List.{List, [], _∷_, _++_}
+use Prim.Native.Nat.{ℕ, zero, suc, _≤_, _<_}
+use native.Mathlib.Nat.{not-suc-le-zero, eq-or-lt-of-le}
+use native.Mathlib.Omega.{arith}
+use lib.Dec.{eqb}
+use borrow.Author.Tests.{eqb-true, eqb-false}
+use Rattle.laws.specs.Choose.{All}
+use Rattle.laws.proofs.Tests.{either, never}
+use Rattle.forest.specs.Links.{NONE, upTo, firstOf}
+
+-- a number is NONE or not
+pub none-or-not : (r : ℕ) → (r ≡ NONE) ⊎ (r ≡ NONE → ⊥)
+none-or-not r = elim (either (eqb r NONE)) [ inl h ↦ inl (eqb-true r NONE h) | inr h ↦ inr (eqb-false r NONE h) ]
+
+-- a number below the next one is below this one or is it
+pub last-or-below : {n j : ℕ} → j < suc n → (j ≡ n) ⊎ (j < n)
+last-or-below k = elim (eq-or-lt-of-le k) [ inl e ↦ inl (omega arith) | inr e ↦ inr (omega arith) ]
+
+-- what holds of each number below a bound holds of all of them
+all-next : (P : ℕ → Type 0) (xs : List ℕ) (x : ℕ) → All P xs → P x → All P (xs ++ x ∷ [])
+all-next P [] x h p = (p, tt)
+all-next P (y ∷ xs) x h p = (h .0, all-next P xs x (h .1) p)
+
+pub all-up : (P : ℕ → Type 0) (n : ℕ) → ((j : ℕ) → j < n → P j) → All P (upTo n)
+unfolding upTo
+all-up P zero f = tt
+all-up P (suc n) f = all-next P (upTo n) n (all-up P n (λ j l. f j (omega arith))) (f n (omega arith))
+
+-- r is the first of the numbers below another that passes a test, or NONE where none does
+pub record First (test : ℕ → Bool) (bound r : ℕ) : Type 0 where
+  pub found : (r ≡ NONE → ⊥) → (r < bound) × (test r ≡ true)
+  pub first : (j : ℕ) → j < bound → ((r ≡ NONE → ⊥) → j < r) → test j ≡ false
+
+-- r is the last of them, or NONE where none does
+pub record Last (test : ℕ → Bool) (bound r : ℕ) : Type 0 where
+  pub found : (r ≡ NONE → ⊥) → (r < bound) × (test r ≡ true)
+  pub last : (j : ℕ) → j < bound → ((r ≡ NONE → ⊥) → r < j) → test j ≡ false
+
+module _ (test : ℕ → Bool) where
+  -- a search goes on behind a list only where it found nothing there
+  stays : (xs ys : List ℕ) → (firstOf test xs ≡ NONE → ⊥) → firstOf test (xs ++ ys) ≡ firstOf test xs
+  unfolding firstOf
+  stays [] ys h = absurd (h refl)
+  stays (x ∷ xs) ys h = elim (either (test x)) [ inl t ↦ rw t refl | inr t ↦ rw t (stays xs ys (rw t at h)) ]
+
+  goes-on : (xs ys : List ℕ) → All (λ x. test x ≡ false) xs → firstOf test (xs ++ ys) ≡ firstOf test ys
+  unfolding firstOf
+  goes-on [] ys h = refl
+  goes-on (x ∷ xs) ys h = rw (h .0) (goes-on xs ys (h .1))
+
+  module _ {n r : ℕ} (f : First test n r) where
+    first-stays : (r ≡ NONE → ⊥) → First test (suc n) r
+    first-stays h =
+        let b = f .found h in
+        record { found = λ k. (omega (arith, b .0), b .1); first = λ j k l. f .first j (omega (arith, b .0, l h)) l }
+
+    first-fails : test n ≡ false → First test (suc n) r
+    first-fails t = record {
+      found = λ k. (omega (arith, f .found k .0), f .found k .1);
+      first = λ j k l. elim (last-or-below k) [ inl e ↦ ap test e ∙ t | inr e ↦ f .first j e l ];
+    }
+
+    first-next : r ≡ NONE → n < NONE → test n ≡ true → First test (suc n) n
+    first-next e m t = record { found = λ k. (omega arith, t); first = λ j k l. f .first j (l (λ z. omega arith)) (λ h. absurd (h e)) }
+
+  nothing-first : (n : ℕ) → ((j : ℕ) → j < n → test j ≡ false) → First test n NONE
+  nothing-first n f = record { found = λ h. absurd (h refl); first = λ j k h. f j k }
+
+  pub first-of : (n : ℕ) → n ≤ NONE → First test n (firstOf test (upTo n))
+  unfolding upTo firstOf
+  first-of zero l = nothing-first zero (λ j k. absurd (not-suc-le-zero k))
+  first-of (suc n) l =
+      let f = first-of n (omega arith) in
+      elim (none-or-not (firstOf test (upTo n))) [
+        | inr h ↦ subst (First test (suc n)) (sym (stays (upTo n) (n ∷ []) h)) (first-stays f h)
+        | inl h ↦ let none : All (λ x. test x ≡ false) (upTo n) = all-up _ n (λ j k. f .first j k (λ z. absurd (z h))) in
+            rw (goes-on (upTo n) (n ∷ []) none)
+            (elim (either (test n)) [
+              | inl t ↦ rw t (first-next f h (omega arith) t)
+              | inr t ↦ rw t (subst (First test (suc n)) h (first-fails f t))
+            ])
+      ]
+
+  -- no number found stands before another
+  none-before : {n r s : ℕ} → First test n r → First test n s → (r ≡ NONE → ⊥) → ((s ≡ NONE → ⊥) → r < s) → ⊥
+  none-before {n} {r} {s} f g h l = never (f .found h .1) (g .first r (f .found h .0) l)
+
+  -- there is one first number
+  first-same : {n r s : ℕ} → First test n r → First test n s → r ≡ s
+  first-same {n} {r} {s} f g =
+      elim (none-or-not r) [
+        | inl p ↦ elim (none-or-not s) [ inl q ↦ p ∙ sym q | inr q ↦ absurd (none-before g f q (λ z. absurd (z p))) ]
+        | inr p ↦ elim (none-or-not s) [
+          | inl q ↦ absurd (none-before f g p (λ z. absurd (z q)))
+          | inr q ↦ let a : r < s → ⊥ = λ l. none-before f g p (λ z. l) in
+              let b : s < r → ⊥ = λ l. none-before g f q (λ z. l) in
+              omega (arith, a, b)
+        ]
+      ]
+
+  pub first-is : {n r : ℕ} → n ≤ NONE → First test n r → firstOf test (upTo n) ≡ r
+  first-is l f = first-same (first-of _ l) f
+
+  pub first-none : (n : ℕ) → n ≤ NONE → ((j : ℕ) → j < n → test j ≡ false) → firstOf test (upTo n) ≡ NONE
+  first-none n l f = first-is l (nothing-first n f)
+
+  -- where none was found, none passes
+  pub none-found : (n : ℕ) → n ≤ NONE → firstOf test (upTo n) ≡ NONE → (j : ℕ) → j < n → test j ≡ false
+  none-found n l e j k = first-of n l .first j k (λ h. absurd (h e))
+
+  -- one number more changes what was found only where nothing was, and it passes
+  pub first-kept : (n : ℕ) → suc n ≤ NONE → (test n ≡ true → firstOf test (upTo n) ≡ NONE → ⊥) → firstOf test (upTo (suc n)) ≡ firstOf test (upTo n)
+  first-kept n l h =
+      let f = first-of n (omega arith) in
+      elim (either (test n)) [ inl t ↦ first-is l (first-stays f (h t)) | inr t ↦ first-is l (first-fails f t) ]
+
+  pub first-added : (n : ℕ) → suc n ≤ NONE → test n ≡ true → ((j : ℕ) → j < n → test j ≡ false) → firstOf test (upTo (suc n)) ≡ n
+  first-added n l t f = first-is l (first-next (nothing-first n f) refl l t)
+
+  -- the last of the numbers below another that passes, or NONE
+  pub lastOf : ℕ → ℕ
+  lastOf zero = NONE
+  lastOf (suc n) = cond (test n) n (lastOf n)
+
+  pub last-of : (n : ℕ) → n ≤ NONE → Last test n (lastOf n)
+  unfolding lastOf
+  last-of zero l = record { found = λ h. absurd (h refl); last = λ j k h. absurd (not-suc-le-zero k) }
+  last-of (suc n) l =
+      let f = last-of n (omega arith) in
+      elim (either (test n)) [
+        | inl t ↦ rw t (record { found = λ h. (omega arith, t); last = λ j k h. absurd (omega (arith, h (λ e. omega arith))) })
+        | inr t ↦ rw t (record {
+          found = λ h. (omega (arith, f .found h .0), f .found h .1);
+          last = λ j k h. elim (last-or-below k) [ inl e ↦ ap test e ∙ t | inr e ↦ f .last j e h ];
+        })
+      ]

@@ -1,0 +1,11 @@
+-- Each public contract is an equation with a definition, and two things that equal a third are
+-- equal; so no second answer satisfies it. `Post` is what a function's `ensures` says of its result
+-- and of what it was lent; a contract that left a field or a word open would fall here.
+use mathlib.Core.Path.{_≡_}
+use denote.Ref.{now}
+use Rattle.laws.proofs.Only.{only}
+use Rattle.joins.proofs.copy.copy_lists.Reads as copy-lists
+
+pub copy-lists-only : (κs : _) (a : _) (r r′ : _) (s s′ : _) → copy-lists.Post κs a r s → copy-lists.Post κs a r′ s′
+    → (r ≡ r′) × (now (s .1 .1 .1 .1 .0) ≡ now (s′ .1 .1 .1 .1 .0)) × (now (s .1 .1 .1 .1 .1 .0) ≡ now (s′ .1 .1 .1 .1 .1 .0))
+copy-lists-only κs a r r′ s s′ p q = (only (p .0) (q .0), only (p .1) (q .1), only (p .2) (q .2))

@@ -1,0 +1,90 @@
+-- `firstAt` counts what fails before the first that passes, so a search that has passed k elements has k to add to what the rest says.
+-- An element passed over, or a count one off, would fall here.
+use Prim.Native.Nat.{ℕ, zero, suc, _+_, _≤_, _<_, zero-le, compare·suc-suc}
+use mathlib.Core.Path.{_≡_, refl}
+use mathlib.Core.Bool.{Bool, true, false}
+use mathlib.Core.List.{List, [], _∷_}
+use mathlib.Core.Logic.{inl, inr}
+use native.Mathlib.Nat.{not-suc-le-zero}
+use native.Mathlib.Omega.{arith}
+use lib.Dec.{ltb}
+use borrow.Author.Tests.{lt-ltb}
+use lib.ListN.{length, getD, take, drop}
+use Rattle.laws.specs.Choose.{All, any, firstAt}
+use Rattle.laws.proofs.Tests.{either, never, not-so}
+
+module _ {A : Type 0} (test : A → Bool) where
+  pub first-hit : (x : A) (xs : List A) → test x ≡ true → firstAt test (x ∷ xs) ≡ 0
+  unfolding firstAt
+  first-hit x xs h = rw h refl
+
+  pub first-miss : (x : A) (xs : List A) → test x ≡ false → firstAt test (x ∷ xs) ≡ firstAt test xs + 1
+  unfolding firstAt
+  first-miss x xs h = rw h (omega arith)
+
+  pub first-empty : firstAt test [] ≡ 0
+  unfolding firstAt
+  first-empty = refl
+
+  -- the index lies in the list or at its end
+  pub first-in : (xs : List A) → firstAt test xs ≤ length xs
+  unfolding firstAt
+  first-in [] = zero-le
+  first-in (x ∷ xs) = elim (either (test x)) [ inl h ↦ rw h zero-le | inr h ↦ rw h (let p = first-in xs in omega arith) ]
+
+  -- what stands before it fails
+  pub first-failed : (xs : List A) → All (λ x. test x ≡ false) (take (firstAt test xs) xs)
+  unfolding firstAt
+  first-failed [] = tt
+  first-failed (x ∷ xs) = elim (either (test x)) [ inl h ↦ rw h tt | inr h ↦ rw h (h, first-failed xs) ]
+
+  -- a search that starts no later than the answer finds it
+  pub first-from : (k : ℕ) (xs : List A) → k ≤ firstAt test xs → firstAt test (drop k xs) + k ≡ firstAt test xs
+  unfolding firstAt
+  first-from zero xs l = omega arith
+  first-from (suc k) [] l = absurd (not-suc-le-zero l)
+  first-from (suc k) (x ∷ xs) l =
+      elim (either (test x)) [
+        | inl h ↦ absurd (not-suc-le-zero (rw h at l))
+        | inr h ↦ let m : suc k ≤ suc (firstAt test xs) = rw h at l in
+            rw h (let p = first-from k xs (omega arith) in omega arith)
+      ]
+
+-- a test that more elements pass has its first one no later
+pub first-earlier : {A : Type 0} (test other : A → Bool) → ((x : A) → other x ≡ true → test x ≡ true) → (xs : List A)
+    → firstAt test xs ≤ firstAt other xs
+unfolding firstAt
+first-earlier test other f [] = zero-le
+first-earlier test other f (x ∷ xs) =
+    elim (either (test x)) [
+      | inl h ↦ rw h zero-le
+      | inr h ↦ rw (h, not-so (λ o. never (f x o) h)) (let p = first-earlier test other f xs in omega arith)
+    ]
+
+-- an element before the first that passes a test fails it
+pub before-first : {A : Type 0} (test : A → Bool) (xs : List A) (i : ℕ) (d : A) → i < firstAt test xs → test (getD xs i d) ≡ false
+unfolding firstAt
+before-first test [] i d l = absurd (not-suc-le-zero l)
+before-first test (x ∷ xs) zero d l = elim (either (test x)) [ inl h ↦ absurd (not-suc-le-zero (rw h at l)) | inr h ↦ h ]
+before-first test (x ∷ xs) (suc i) d l =
+    elim (either (test x)) [
+      | inl h ↦ absurd (not-suc-le-zero (rw h at l))
+      | inr h ↦ before-first test xs i d (let m : suc i < suc (firstAt test xs) = rw h at l in omega arith)
+    ]
+
+-- the first element that passes a test passes it
+pub first-passes : {A : Type 0} (test : A → Bool) (ns : List A) (n : A) → firstAt test ns < length ns → test (getD ns (firstAt test ns) n) ≡ true
+unfolding firstAt
+first-passes test [] n l = absurd (not-suc-le-zero l)
+first-passes test (x ∷ ns) n l =
+    elim (either (test x)) [ inl h ↦ rw (h, h) refl | inr h ↦ rw h (first-passes test ns n (let m = rw h at l in omega arith)) ]
+
+-- the first that passes stands among the elements where some element passes
+pub first-there : {A : Type 0} (test : A → Bool) (xs : List A) → ltb (firstAt test xs) (length xs) ≡ any test xs
+unfolding any firstAt
+first-there test [] = refl
+first-there test (x ∷ xs) =
+    elim (either (test x)) [
+      | inl h ↦ rw h (lt-ltb 0 (length (x ∷ xs)) (omega arith))
+      | inr h ↦ rw (h, compare·suc-suc (suc (firstAt test xs)) (length xs)) (first-there test xs)
+    ]

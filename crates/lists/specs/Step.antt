@@ -1,0 +1,10 @@
+-- What a step of the check answers: document 01's number and values for each of its two cases.
+use Rattle.answers.specs.declared.verdict.Verdict.{Verdict}
+use Rattle.answers.specs.Verdict.{taken}
+use Rattle.lists.specs.declared.walk.Step.{Step}
+use Rattle.lists.specs.declared.walk.Step.the-variants.{Reached, Refused}
+
+-- a place reached is TAKEN so far, and a refusal is the verdict that it holds
+abbrev pub verdictOf : Step → Verdict
+verdictOf (Reached place) = taken
+verdictOf (Refused refusal) = refusal

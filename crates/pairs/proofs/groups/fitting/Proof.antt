@@ -1,0 +1,15 @@
+-- Either all that is left is taken, or all that is wanted.
+-- A number above either would fall at its return.
+use mathlib.Core.Logic.{inl, inr}
+use native.Mathlib.Omega.{arith}
+use Rattle.pairs.proofs.groups.fitting.Statement.{statement}
+use Rattle.pairs.proofs.groups.fitting.Tie as tie
+
+returns : tie.Need-returns
+returns c = (omega arith, omega arith, inl (omega arith))
+
+returns-2 : tie.Need-returns-2
+returns-2 c = (omega arith, omega arith, inr (omega arith))
+
+pub fitting-spec : {M : Type 1} → statement M
+fitting-spec = tie.close (tie.spec returns returns-2)

@@ -1,0 +1,17 @@
+-- The test of the number is the definition's own.
+-- The two relations swapped fall at the returns.
+use borrow.Author.Tests.{eq-eqb, ne-eqb}
+use Rattle.ticket_words.specs.Words.{relationOf}
+use Rattle.ticket_words.proofs.words.relation_of.Statement.{statement}
+use Rattle.ticket_words.proofs.words.relation_of.Tie as tie
+
+returns : tie.Need-returns
+unfolding relationOf
+returns c = rw (eq-eqb _ 0 (c .if1 .taken))
+
+returns-2 : tie.Need-returns-2
+unfolding relationOf
+returns-2 c = rw (ne-eqb _ 0 (c .if1 .left))
+
+pub relation-of-spec : {M : Type 1} → statement M
+relation-of-spec = tie.close (tie.spec returns returns-2)

@@ -1,0 +1,2 @@
+-- What the contracts of `ticket_words` cite.
+pub mod Words

@@ -1,0 +1,42 @@
+-- Document 01, "The field book": what writing answers and writes: RAGGED, CONTENTS, the bodies, ROOM.
+use Prim.Native.Nat.{ℕ}
+use mathlib.Core.Bool.{cond, _||_}
+use mathlib.Core.List.{List}
+use lib.ListN.{length}
+use Rattle.answers.specs.Answer.{RAGGED}
+use Rattle.nodes.specs.Words.{nodes}
+use Rattle.answers.specs.Output.{answerOf, ifTaken, outputOf}
+use Rattle.answers.specs.declared.verdict.Verdict.{Verdict}
+use Rattle.lists.specs.Check.{raggedb}
+use Rattle.answers.specs.Verdict.{ANCESTORS, verdict}
+use Rattle.books.specs.Book.{checkParts}
+use Rattle.answers.specs.declared.verdict.Counted.{Counted}
+use Rattle.writing.specs.Wanted.{wanted, raggedEntries, bodiesFor, wantedFault, bookBytes}
+
+-- entries and nodes, as words
+module _ (entries list : List ℕ) where
+  -- the checks before ROOM: the entries and then the nodes, CONTENTS, and the bodies in order
+  unfoldable pub checkWanted : Verdict
+  checkWanted =
+      cond (raggedEntries entries || raggedb list) (verdict RAGGED ANCESTORS 0)
+      (checkParts (wantedFault (wanted entries) (nodes list)) (bodiesFor (wanted entries) (nodes list)))
+
+  -- the bytes of the book
+  unfoldable pub bytesFor : List ℕ
+  bytesFor = bookBytes (wanted entries) (nodes list)
+
+-- a call with them and an output
+module _ (entries list out : List ℕ) where
+  -- the answer, and how many bytes were written, none on refusal
+  unfoldable pub writtenOf : Counted
+  writtenOf =
+      let v = checkWanted entries list in
+      let book = bytesFor entries list in
+      record {
+        verdict = verdict (answerOf (v .answer) book out) (v .list) (v .index);
+        count = ifTaken (v .answer) book out (length book) 0;
+      }
+
+  -- the output on return
+  unfoldable pub writtenOutput : List ℕ
+  writtenOutput = outputOf (checkWanted entries list .answer) (bytesFor entries list) out
