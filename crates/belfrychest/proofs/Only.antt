@@ -16,6 +16,7 @@ use Rattle.belfrychest.proofs.table.belfry_links.Reads as links
 use Rattle.belfrychest.proofs.table.belfry_number.Reads as number
 use Rattle.belfrychest.proofs.table.belfry_pick.Reads as pick
 use Rattle.belfrychest.proofs.table.belfry_unnumber.Reads as unnumber
+use Rattle.belfrychest.proofs.version.belfry_version.Reads as version
 
 pub check-only : (κs : _) (a : _) (r r′ : _) (s s′ : _) → check.Post κs a r s → check.Post κs a r′ s′ → r ≡ r′
 check-only κs a r r′ s s′ p q = only p q
@@ -58,3 +59,6 @@ links-only κs a r r′ s s′ p q = (only (p .1) (q .1), only (p .0) (q .0))
 pub book-write-only : (κs : _) (a : _) (r r′ : _) (s s′ : _) → book-write.Post κs a r s → book-write.Post κs a r′ s′
     → (now (s .1 .1 .0) ≡ now (s′ .1 .1 .0)) × (r ≡ r′)
 book-write-only κs a r r′ s s′ p q = (only (p .1) (q .1), only (p .0) (q .0))
+
+pub version-only : (κs : _) (a : _) (r r′ : _) (s s′ : _) → version.Post κs a r s → version.Post κs a r′ s′ → r ≡ r′
+version-only κs a r r′ s s′ p q = only p q

@@ -1,4 +1,5 @@
--- `Shown` is what the contracts of `belfrychest` cite; `Following` is a listing that C follows
--- through calls.
+-- `Shown` and `Version` are what the contracts of `belfrychest` cite; `Following` is a listing that
+-- C follows through calls.
 pub mod Following
 pub mod Shown
+pub mod Version

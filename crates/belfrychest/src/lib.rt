@@ -5,3 +5,4 @@ pub mod list;
 pub mod name;
 pub mod page;
 pub mod table;
+pub mod version;

@@ -1,2 +1,4 @@
--- The three demands on the page call, clause by clause.
+-- `Demands` states the three demands on the page call, and `Pieces` what holds of lists that are
+-- cut into pieces, each clause by clause.
 pub mod Demands
+pub mod Pieces

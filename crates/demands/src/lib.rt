@@ -1,2 +1,3 @@
-// The customer's three demands, in his words. There is no code here: proofs/Demands.antt states
-// each clause and proves it by citing the layers.
+// The customer's three demands, in his words, and the rule for lists that are cut into pieces.
+// There is no code here: proofs/Demands.antt and proofs/Pieces.antt state each clause and prove it
+// by citing the layers.

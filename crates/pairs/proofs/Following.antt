@@ -30,7 +30,7 @@ use Rattle.pairs.proofs.Answered.{not-refused, is-accepted, lists-ascen
 use Rattle.pairs.proofs.Shown.{shown-is}
 
 -- of related pairs, the same starts are the same key
-same-key : (relation : Relation) (order : Order) (p q : Pair) → relatedb relation p ≡ true → relatedb relation q ≡ true → SameStarts p q
+pub same-key : (relation : Relation) (order : Order) (p q : Pair) → relatedb relation p ≡ true → relatedb relation q ≡ true → SameStarts p q
     → sortKey order p ≡ sortKey order q
 unfolding keyOf
 same-key relation Descendant p q r s e =
