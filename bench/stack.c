@@ -35,7 +35,8 @@ static void call_check_two(const struct code *code)
 static void call_faulty(const struct code *code)
 {
     (void)code;
-    belfry_faulty(lists.zone, zone_words, lists.sample, sample_words);
+    belfry_part part = belfry_faulty(lists.zone, zone_words, lists.sample, sample_words);
+    (void)part;
 }
 
 static void call_list(const struct code *code, uint32_t relation, uint32_t order)
@@ -64,13 +65,15 @@ static void call_number(const struct code *code)
 static void call_unnumber(const struct code *code)
 {
     (void)code;
-    belfry_unnumber(table, table_words, out, OUT_WORDS);
+    belfry_unnumbered marks = belfry_unnumber(table, table_words, out, OUT_WORDS);
+    (void)marks;
 }
 
 static void call_pick(const struct code *code)
 {
     (void)code;
-    belfry_pick(table, table_words, ZONE_TAG, out, OUT_WORDS);
+    belfry_result nodes = belfry_pick(table, table_words, ZONE_TAG, out, OUT_WORDS);
+    (void)nodes;
 }
 
 static void call_links(const struct code *code)
@@ -91,7 +94,9 @@ static void call_book_body(const struct code *code)
 static void call_book_write(const struct code *code)
 {
     (void)code;
-    belfry_book_write(entry, 2, lists.zone, zone_words, (uint8_t *)out, sizeof out);
+    belfry_result written = belfry_book_write(entry, 2, lists.zone, zone_words, (uint8_t *)out,
+                                              sizeof out);
+    (void)written;
 }
 
 static void call_name(const struct code *code)

@@ -1,19 +1,30 @@
 /* Belfrychest for C99 and C++: it pairs every zone with the samples under it, and loses none.
  *
- * A node is four words: document, start, end, level. A list is the words of its nodes, one node
- * after the other. A listing joins two lists: the ancestors (zones) and the descendants (samples).
- * Document 01 says what each word means; this header says what a caller has to know of each call.
+ * A node is four numbers: document, start, end, level. A list is an array of nodes. A listing joins
+ * two lists: the ancestors (zones) and the descendants (samples). Document 01 says what each number
+ * means; this header says what a caller has to know of each call.
+ *
+ * What the library does can be called in two ways:
+ *
+ * - The calls of nodes, at the end of this header, take arrays of structs and count structs. Use
+ *   these: belfry_list_pairs, belfry_check_nodes and the others.
+ * - The calls of words, which the archive holds, are for the bindings of other languages. They take
+ *   words, which are uint32_t, and count words: a list of n nodes has 4 * n of them. To count nodes
+ *   there is a mistake that they can't always see. They then read a quarter of the list, and the
+ *   pairs of the rest are lost.
  *
  * This holds for every call:
  *
  * - It takes any numbers and returns. A caller need not check anything first: each call makes its
  *   own checks and answers with a number.
- * - A length counts the words or bytes at the pointer before it. A pointer is never null, even
- *   where the length is 0. It is aligned for its type, and everything that its length counts may be
- *   read, and in an output also written.
+ * - A count or a length says how much lies at the pointer before it: structs, words or bytes. The
+ *   pointer is aligned for its type, and everything that is counted may be read, and in an output
+ *   also written.
+ * - In a call of nodes, a pointer may be null where its count is 0. In a call of words it is never
+ *   null, even where its length is 0.
  * - An output overlaps no input. Inputs may overlap one another or be the same.
  * - It reads its inputs and never alters them. In an output it alters nothing but the result, which
- *   starts at the first word or byte.
+ *   starts at the first struct, word or byte.
  * - A refusal is any answer other than BELFRY_TAKEN. It leaves the whole output as it was, and the
  *   counts, lengths and places in the answer are 0.
  * - It allocates nothing and keeps nothing, neither an address nor a state. So calls may run at the
@@ -29,7 +40,22 @@
 extern "C" {
 #endif
 
-/* The most nodes of a list, rows of a table and marks of a document. */
+/* The version of the library that this header belongs to. It rises when something here changes:
+ * belfry_version returns that of the archive, and the two have to be equal. */
+#define BELFRY_VERSION 1
+
+/* A call of words takes no null, and an answer that nobody looks at may be a refusal. A compiler
+ * that has these attributes warns of a null and of a dropped answer. */
+#ifdef __GNUC__
+#define BELFRY_NONNULL __attribute__((nonnull))
+#define BELFRY_MUST_USE __attribute__((warn_unused_result))
+#else
+#define BELFRY_NONNULL
+#define BELFRY_MUST_USE
+#endif
+
+/* The most nodes of a list, rows of a table and marks of a document. README.md says how a longer
+ * list is cut into pieces without losing a pair (More than 4,096 nodes). */
 #define BELFRY_MOST_NODES 4096
 /* The highest level of a node. The lowest is 1. */
 #define BELFRY_MOST_LEVELS 64
@@ -39,6 +65,11 @@ extern "C" {
 #define BELFRY_MOST_LISTS 16
 /* The most bytes of a book that the printing program takes. The calls below have no such limit. */
 #define BELFRY_PRINTED_BYTES 61440
+
+/* A good size for a page, in pairs. Every page checks both lists anew, so a small page costs nearly
+ * as much as a large one, and a listing in pages of 4 pairs hundreds of times as much as one in
+ * pages of this size. */
+#define BELFRY_PAGE_PAIRS 4096
 
 /* How many words each thing takes. A node is document, start, end, level. A pair is the ancestor
  * and then the descendant. A row of a table is a node and its tag. A link is the index of the
@@ -59,6 +90,11 @@ extern "C" {
 #define BELFRY_BOOK_BYTES(lists, nodes) \
     (BELFRY_NUMBER_BYTES * (1 + BELFRY_CONTENTS_NUMBERS * (lists) + BELFRY_NODE_WORDS * (nodes)))
 
+/* How many bytes a stored ticket takes: the number of its form and then its words, each as in a
+ * book. The form changes only when a ticket's words do. */
+#define BELFRY_TICKET_FORM 1
+#define BELFRY_TICKET_BYTES (BELFRY_NUMBER_BYTES * (1 + BELFRY_TICKET_WORDS))
+
 /* How many bytes an answer's name takes. It is padded with blanks and has no zero at its end. */
 #define BELFRY_NAME_BYTES 8
 
@@ -76,32 +112,80 @@ extern "C" {
 #define BELFRY_DESCENDANTS 1
 
 /* A ticket's relation, its order, and whether it is placed. Any number other than 0 is taken as
- * BELFRY_DIRECTLY, as BELFRY_ANCESTOR_ORDER and as BELFRY_PLACED. */
-#define BELFRY_INSIDE 0
-#define BELFRY_DIRECTLY 1
-#define BELFRY_DESCENDANT_ORDER 0
-#define BELFRY_ANCESTOR_ORDER 1
+ * BELFRY_DIRECTLY, as BELFRY_ANCESTOR_ORDER and as BELFRY_PLACED.
+ * The relation and the order are two types, so that a compiler sees where one is given for the
+ * other: C++ refuses it; in C, clang and gcc (from 10 on, with -Wextra) warn of it. */
+typedef enum belfry_relation {
+    BELFRY_INSIDE = 0,
+    BELFRY_DIRECTLY = 1
+} belfry_relation;
+typedef enum belfry_order {
+    BELFRY_DESCENDANT_ORDER = 0,
+    BELFRY_ANCESTOR_ORDER = 1
+} belfry_order;
 #define BELFRY_FRESH 0
 #define BELFRY_PLACED 1
 
-/* The answers. */
-#define BELFRY_TAKEN 0     /* Nothing below applies. */
-#define BELFRY_RAGGED 1    /* The words don't make whole nodes, rows or entries. */
-#define BELFRY_LONG 2      /* There are more nodes, rows or marks than BELFRY_MOST_NODES. */
-#define BELFRY_LEVEL 3     /* A node's level is 0 or above BELFRY_MOST_LEVELS. */
-#define BELFRY_SPAN 4      /* A node ends below its start. */
-#define BELFRY_ORDER 5     /* A node doesn't come after the one before, by document and start. */
-#define BELFRY_CROSS 6     /* A node starts within an earlier one and isn't inside it. */
-#define BELFRY_DEPTH 7     /* A node is inside an earlier one whose level isn't lower. */
-#define BELFRY_JOINT 8     /* Each list passes alone, but two nodes, one of each, are at odds. */
-#define BELFRY_ROOM 9      /* The output is shorter than the result. */
-#define BELFRY_MARK 10     /* A mark is above BELFRY_TEXT. */
-#define BELFRY_STRAY 11    /* A close or a text with nothing open, or an open after the root. */
-#define BELFRY_DEEP 12     /* An element or a text would have a level above BELFRY_MOST_LEVELS. */
-#define BELFRY_UNCLOSED 13 /* The marks end with an element open, or there are none. */
-#define BELFRY_TABLE 14    /* No accepted marks have this table. */
-#define BELFRY_CONTENTS 15 /* A book's contents break a rule. */
-#define BELFRY_ABSENT 16   /* The book has no list of that tag. */
+/* The answers, written by bin/tables. */
+/* Nothing below applies. */
+#define BELFRY_TAKEN 0
+/* The words don't make whole nodes, rows or entries. */
+#define BELFRY_RAGGED 1
+/* There are more nodes, rows or marks than 4,096; for the program, more bytes than 61,440. */
+#define BELFRY_LONG 2
+/* A node's level is 0 or above 64. */
+#define BELFRY_LEVEL 3
+/* A node ends below its start. */
+#define BELFRY_SPAN 4
+/* A node doesn't come after the one before it, by document and start. */
+#define BELFRY_ORDER 5
+/* A node starts within an earlier one and isn't inside it. */
+#define BELFRY_CROSS 6
+/* A node is inside an earlier one whose level isn't lower. */
+#define BELFRY_DEPTH 7
+/* Each list passes alone, but a node of one and a node of the other are at odds. */
+#define BELFRY_JOINT 8
+/* The output is shorter than the result. */
+#define BELFRY_ROOM 9
+/* A mark is above 65,536. */
+#define BELFRY_MARK 10
+/* A close or a text has nothing open around it, or something opens after the root has closed. */
+#define BELFRY_STRAY 11
+/* An element or a text would have a level above 64. */
+#define BELFRY_DEEP 12
+/* The marks end with an element open, or there are none. */
+#define BELFRY_UNCLOSED 13
+/* No accepted marks have this table. */
+#define BELFRY_TABLE 14
+/* A book's contents break a rule. */
+#define BELFRY_CONTENTS 15
+/* The book has no list of that tag, or fewer lists than wanted. */
+#define BELFRY_ABSENT 16
+
+/* A node of a list. */
+typedef struct {
+    uint32_t document, start, end, level;
+} belfry_node;
+
+/* A pair of a listing: the descendant is inside the ancestor. */
+typedef struct {
+    belfry_node ancestor, descendant;
+} belfry_pair;
+
+/* A row of a table: a node, and its tag, which is BELFRY_TEXT for a text. */
+typedef struct {
+    uint32_t document, start, end, level, tag;
+} belfry_row;
+
+/* A node's place in the forest: the indexes of other nodes of its list, or BELFRY_NONE. */
+typedef struct {
+    uint32_t parent, first_child, next_sibling;
+} belfry_link;
+
+/* A list of a book to be written: its tag, and how many nodes it has. */
+typedef struct {
+    uint32_t tag, count;
+} belfry_entry;
 
 /* What a check answers. For BELFRY_LEVEL to BELFRY_DEPTH, the list and the index say where the
  * faulty node is. For every other answer the index is 0, and so is the list, except in the
@@ -117,22 +201,28 @@ typedef struct {
     size_t from, words;
 } belfry_part;
 
+/* The same in nodes: the part has `count` nodes, from index `from` on. */
+typedef struct {
+    belfry_verdict verdict;
+    size_t from, count;
+} belfry_node_part;
+
 /* What a caller keeps between two pages: which pairs, in which order, and the sort key of the last
- * pair handed out. The key is ignored when the ticket is fresh. Any words make a usable ticket, so
- * it may be stored and read back in any way. BELFRY_TICKET makes the first one. */
+ * pair handed out. The key is ignored when the ticket is fresh. Any words make a usable ticket.
+ * BELFRY_TICKET makes the first one; belfry_store_ticket and belfry_stored_ticket store it as bytes
+ * and read it back. */
 typedef struct {
     uint32_t relation, order, placed, document, first, second;
 } belfry_ticket;
 
-static inline belfry_ticket belfry_fresh_ticket(uint32_t relation, uint32_t order) {
-    belfry_ticket ticket = {relation, order, BELFRY_FRESH, 0, 0, 0};
+/* Returns the ticket that starts a listing. Use it rather than filling in the fields: a later
+ * version of the library may have more of them, and here they get the values with which every pair
+ * is listed. It is a function, since clang doesn't warn of the arguments of an installed header's
+ * macro. */
+static inline belfry_ticket BELFRY_TICKET(belfry_relation relation, belfry_order order) {
+    const belfry_ticket ticket = {relation, order, BELFRY_FRESH, 0, 0, 0};
     return ticket;
 }
-
-/* The ticket that starts a listing, as a belfry_ticket. Use it rather than filling in the fields: a
- * later version of the library may have more of them, and here they get the values with which every
- * pair is listed. */
-#define BELFRY_TICKET(relation, order) belfry_fresh_ticket((relation), (order))
 
 /* A verdict, whether nothing is left (1 or 0), how many pairs were written, and the ticket for the
  * next page. */
@@ -168,20 +258,38 @@ typedef struct {
     size_t from, bytes;
 } belfry_body;
 
+/* Whether a stored ticket could be read back. */
+typedef enum {
+    BELFRY_TICKET_READ,
+    /* Its form isn't BELFRY_TICKET_FORM: another version of the library stored it, or none did. */
+    BELFRY_TICKET_OTHER_FORM,
+    /* It hasn't BELFRY_TICKET_BYTES bytes. */
+    BELFRY_TICKET_OTHER_LENGTH
+} belfry_ticket_fault;
+
+/* ---- The calls of words, which the archive holds. ---- */
+
+/* Returns the archive's version. It has to be BELFRY_VERSION. */
+BELFRY_MUST_USE
+uint32_t belfry_version(void);
+
 /* Checks one list. It reads the list and writes nothing.
  * Answers: RAGGED, LONG, then LEVEL to DEPTH for the first node at which one applies, with its
  * index; the list is 0. */
+BELFRY_MUST_USE BELFRY_NONNULL
 belfry_verdict belfry_check(const uint32_t *list, size_t words);
 
 /* Checks two lists that are to be joined. It reads both and writes nothing.
  * Answers: those of belfry_check for the ancestors, then for the descendants, with the list at
  * fault; then JOINT. */
+BELFRY_MUST_USE BELFRY_NONNULL
 belfry_verdict belfry_check_two(const uint32_t *ancestors, size_t ancestor_words,
                                 const uint32_t *descendants, size_t descendant_words);
 
 /* Checks two lists as belfry_check_two does, and says where to repair: the part of the list at
  * fault from the faulty node to its end. It reads both lists and writes nothing; the part is in the
  * caller's own list, from word `from` on. It is empty unless the answer is LEVEL to DEPTH. */
+BELFRY_MUST_USE BELFRY_NONNULL
 belfry_part belfry_faulty(const uint32_t *ancestors, size_t ancestor_words,
                           const uint32_t *descendants, size_t descendant_words);
 
@@ -190,20 +298,23 @@ belfry_part belfry_faulty(const uint32_t *ancestors, size_t ancestor_words,
  * pair takes eight words; words at the end that don't make a whole pair stay as they were.
  * The answer's ticket is the one given, except that after a page that wrote something `placed` is 1
  * and the key is that of the last pair written.
- * Done is 1 exactly when everything that remained was written; with room for no pair, it is 1 when
- * nothing remained.
+ * Done is 1 exactly when everything that remained was written.
+ * With room for no pair nothing can be written. Such a call is never done while a pair remains, and
+ * returns the ticket as it was: a loop until done would never end. Give room for BELFRY_PAGE_PAIRS.
  * Between two calls the lists may be edited. When a call says done, each pair that stood unaltered
  * in all accepted calls has been handed out, once.
  * Answers: those of belfry_check_two, never ROOM. A refusal returns the ticket as it was and isn't
  * done, so a repaired list goes on from there. */
+BELFRY_MUST_USE BELFRY_NONNULL
 belfry_page belfry_list(const uint32_t *ancestors, size_t ancestor_words,
                         const uint32_t *descendants, size_t descendant_words,
                         belfry_ticket ticket, uint32_t *out, size_t out_words);
 
 /* Numbers a document's marks. It reads the marks and writes a row for each element and text, in
- * start order; five words a mark are always enough.
+ * start order; as many rows as there are marks are always enough.
  * Answers: LONG, then MARK, STRAY or DEEP for the first faulty mark, UNCLOSED, ROOM; list and index
  * are 0. */
+BELFRY_MUST_USE BELFRY_NONNULL
 belfry_result belfry_number(uint32_t document, const uint32_t *marks, size_t mark_words,
                             uint32_t *out, size_t out_words);
 
@@ -211,12 +322,15 @@ belfry_result belfry_number(uint32_t document, const uint32_t *marks, size_t mar
  * BELFRY_MOST_NODES words are always enough. The document's number is read from the table, and is 0
  * on refusal.
  * Answers: RAGGED, LONG, TABLE, ROOM. */
+BELFRY_MUST_USE BELFRY_NONNULL
 belfry_unnumbered belfry_unnumber(const uint32_t *table, size_t table_words,
                                   uint32_t *out, size_t out_words);
 
 /* Picks a tag's list out of a table. It reads the table and writes the node of each row with that
- * tag, in row order; four words a row are always enough. It checks nothing else of the table.
+ * tag, in row order; as many nodes as there are rows are always enough. It checks nothing else of
+ * the table.
  * Answers: RAGGED, LONG, ROOM; list and index are 0. */
+BELFRY_MUST_USE BELFRY_NONNULL
 belfry_result belfry_pick(const uint32_t *table, size_t table_words, uint32_t tag,
                           uint32_t *out, size_t out_words);
 
@@ -224,16 +338,19 @@ belfry_result belfry_pick(const uint32_t *table, size_t table_words, uint32_t ta
  * each node: the index of its parent, which is the innermost node that contains it, of its first
  * child, and of the next node with the same parent in the same document, or BELFRY_NONE.
  * Answers: those of belfry_check, then ROOM. */
+BELFRY_MUST_USE BELFRY_NONNULL
 belfry_result belfry_links(const uint32_t *list, size_t words, uint32_t *out, size_t out_words);
 
 /* Checks a book. It reads the book and writes nothing.
  * Answers: CONTENTS, then LEVEL to DEPTH for the first body at fault, with the list's place in the
  * book and the node's index in that list. */
+BELFRY_MUST_USE BELFRY_NONNULL
 belfry_book belfry_book_check(const uint8_t *book, size_t bytes);
 
 /* Finds the body of a tag's list. It reads the book, checks all of it, and writes nothing; the body
  * is in the caller's own bytes.
  * Answers: those of belfry_book_check, then ABSENT. */
+BELFRY_MUST_USE BELFRY_NONNULL
 belfry_body belfry_book_body(const uint8_t *book, size_t bytes, uint32_t tag);
 
 /* Writes a book. It reads the entries, a tag and a number of nodes for each list, and the nodes of
@@ -241,13 +358,228 @@ belfry_body belfry_book_body(const uint8_t *book, size_t bytes, uint32_t tag);
  * ascend, and the numbers must add up to the nodes.
  * Answers: RAGGED, CONTENTS, then LEVEL to DEPTH for the first list at fault, with its place and
  * the node's index in that list, then ROOM. */
+BELFRY_MUST_USE BELFRY_NONNULL
 belfry_result belfry_book_write(const uint32_t *entries, size_t entry_words,
                                 const uint32_t *nodes, size_t node_words,
                                 uint8_t *out, size_t out_bytes);
 
 /* Writes an answer's name into all eight bytes, padded with blanks; eight blanks for a number above
  * BELFRY_ABSENT. It is never refused. */
+BELFRY_NONNULL
 void belfry_name(uint32_t answer, uint8_t out[BELFRY_NAME_BYTES]);
+
+/* ---- What the calls of nodes stand on. ---- */
+
+/* Return the address that stands in for an array of no words, and of no bytes. */
+static inline uint32_t *belfry_no_words(void) {
+    static uint32_t none;
+    return &none;
+}
+static inline uint8_t *belfry_no_bytes(void) {
+    static uint8_t none;
+    return &none;
+}
+
+/* Returns how many words `count` structs of `each` words have. A count that has more words than can
+ * be counted is taken as the largest that hasn't, which is above every limit too. */
+static inline size_t belfry_words_of(size_t count, size_t each) {
+    const size_t most = SIZE_MAX / each;
+    return (count < most ? count : most) * each;
+}
+
+/* An array of structs as two arguments of a call of words: the address of its first word, which is
+ * the field `first`, and the number of its words. */
+#define BELFRY_WORDS_OF(array, count, first) \
+    ((count) != 0 ? &(array)->first : belfry_no_words()), \
+        belfry_words_of((count), sizeof *(array) / sizeof(uint32_t))
+
+/* Writes a number as it stands in a book, and reads it. */
+static inline void belfry_write_number(uint32_t number, uint8_t *out) {
+    for (size_t i = 0; i < BELFRY_NUMBER_BYTES; i++)
+        out[i] = (number >> (8 * i)) & 0xff;
+}
+static inline uint32_t belfry_read_number(const uint8_t *bytes) {
+    uint32_t number = 0;
+    for (size_t i = BELFRY_NUMBER_BYTES; i > 0; i--)
+        number = number << 8 | bytes[i - 1];
+    return number;
+}
+
+/* ---- The calls of nodes. ----
+ *
+ * Each takes any count: one above the limit is refused, however large it is. `room` says how many
+ * structs, words or bytes the output can hold. */
+
+/* Checks one list, as belfry_check does.
+ * Answers: LONG, then LEVEL to DEPTH. */
+BELFRY_MUST_USE
+static inline belfry_verdict belfry_check_nodes(const belfry_node *list, size_t count) {
+    return belfry_check(BELFRY_WORDS_OF(list, count, document));
+}
+
+/* Checks two lists that are to be joined, as belfry_check_two does.
+ * Answers: those of belfry_check_nodes for the ancestors, then for the descendants, with the list
+ * at fault; then JOINT. */
+BELFRY_MUST_USE
+static inline belfry_verdict belfry_check_two_lists(
+    const belfry_node *ancestors, size_t ancestor_count,
+    const belfry_node *descendants, size_t descendant_count) {
+    return belfry_check_two(BELFRY_WORDS_OF(ancestors, ancestor_count, document),
+                            BELFRY_WORDS_OF(descendants, descendant_count, document));
+}
+
+/* Checks two lists and says where to repair, as belfry_faulty does, in nodes: the part starts at
+ * index `from` of the list at fault.
+ * Answers: those of belfry_check_two_lists. */
+BELFRY_MUST_USE
+static inline belfry_node_part belfry_faulty_nodes(
+    const belfry_node *ancestors, size_t ancestor_count,
+    const belfry_node *descendants, size_t descendant_count) {
+    const belfry_part words =
+        belfry_faulty(BELFRY_WORDS_OF(ancestors, ancestor_count, document),
+                      BELFRY_WORDS_OF(descendants, descendant_count, document));
+    const belfry_node_part part = {words.verdict, words.from / BELFRY_NODE_WORDS,
+                                   words.words / BELFRY_NODE_WORDS};
+    return part;
+}
+
+/* Hands out the next page of pairs, as belfry_list does. Give room for BELFRY_PAGE_PAIRS: with room
+ * for no pair, a loop until done would never end.
+ * Answers: those of belfry_check_two_lists. */
+BELFRY_MUST_USE
+static inline belfry_page belfry_list_pairs(
+    const belfry_node *ancestors, size_t ancestor_count,
+    const belfry_node *descendants, size_t descendant_count,
+    belfry_ticket ticket, belfry_pair *out, size_t room) {
+    return belfry_list(BELFRY_WORDS_OF(ancestors, ancestor_count, document),
+                       BELFRY_WORDS_OF(descendants, descendant_count, document),
+                       ticket, BELFRY_WORDS_OF(out, room, ancestor.document));
+}
+
+/* Numbers a document's marks, as belfry_number does.
+ * Answers: LONG, then MARK, STRAY or DEEP for the first faulty mark, UNCLOSED, ROOM. */
+BELFRY_MUST_USE
+static inline belfry_result belfry_number_rows(uint32_t document,
+                                               const uint32_t *marks, size_t mark_count,
+                                               belfry_row *out, size_t room) {
+    return belfry_number(document, mark_count != 0 ? marks : belfry_no_words(), mark_count,
+                         BELFRY_WORDS_OF(out, room, document));
+}
+
+/* Turns a table back into marks, as belfry_unnumber does.
+ * Answers: LONG, TABLE, ROOM. */
+BELFRY_MUST_USE
+static inline belfry_unnumbered belfry_unnumber_rows(const belfry_row *table, size_t row_count,
+                                                     uint32_t *out, size_t room) {
+    return belfry_unnumber(BELFRY_WORDS_OF(table, row_count, document),
+                           room != 0 ? out : belfry_no_words(), room);
+}
+
+/* Picks a tag's list out of a table, as belfry_pick does.
+ * Answers: LONG, ROOM. */
+BELFRY_MUST_USE
+static inline belfry_result belfry_pick_nodes(const belfry_row *table, size_t row_count,
+                                              uint32_t tag, belfry_node *out, size_t room) {
+    return belfry_pick(BELFRY_WORDS_OF(table, row_count, document), tag,
+                       BELFRY_WORDS_OF(out, room, document));
+}
+
+/* Links a list's nodes to the forest, as belfry_links does: one link for each node.
+ * Answers: those of belfry_check_nodes, then ROOM. */
+BELFRY_MUST_USE
+static inline belfry_result belfry_link_nodes(const belfry_node *list, size_t count,
+                                              belfry_link *out, size_t room) {
+    return belfry_links(BELFRY_WORDS_OF(list, count, document),
+                        BELFRY_WORDS_OF(out, room, parent));
+}
+
+/* Writes a book, as belfry_book_write does: `nodes` holds the nodes of all lists one after the
+ * other. The book takes BELFRY_BOOK_BYTES(entry_count, node_count).
+ * Answers: CONTENTS, then LEVEL to DEPTH for the first list at fault, with its place and the node's
+ * index in that list, then ROOM. */
+BELFRY_MUST_USE
+static inline belfry_result belfry_write_nodes(const belfry_entry *entries, size_t entry_count,
+                                               const belfry_node *nodes, size_t node_count,
+                                               uint8_t *out, size_t room) {
+    return belfry_book_write(BELFRY_WORDS_OF(entries, entry_count, tag),
+                             BELFRY_WORDS_OF(nodes, node_count, document),
+                             room != 0 ? out : belfry_no_bytes(), room);
+}
+
+/* Checks a book and says how many lists it has, as belfry_book_check does. */
+BELFRY_MUST_USE
+static inline belfry_book belfry_open_book(const uint8_t *book, size_t bytes) {
+    return belfry_book_check(bytes != 0 ? book : belfry_no_bytes(), bytes);
+}
+
+/* Returns the node whose sixteen bytes of a book start at `bytes`. */
+static inline belfry_node belfry_read_node(const uint8_t *bytes) {
+    const belfry_node node = {
+        belfry_read_number(bytes), belfry_read_number(bytes + BELFRY_NUMBER_BYTES),
+        belfry_read_number(bytes + 2 * BELFRY_NUMBER_BYTES),
+        belfry_read_number(bytes + 3 * BELFRY_NUMBER_BYTES)};
+    return node;
+}
+
+/* Copies a tag's list out of a book. It checks the whole book and writes the list's nodes;
+ * BELFRY_MOST_NODES are always enough.
+ * Answers: those of belfry_book_check, then ABSENT, then ROOM. */
+BELFRY_MUST_USE
+static inline belfry_result belfry_read_nodes(const uint8_t *book, size_t bytes, uint32_t tag,
+                                              belfry_node *out, size_t room) {
+    const size_t node_bytes = BELFRY_NUMBER_BYTES * BELFRY_NODE_WORDS;
+    const belfry_body body = belfry_book_body(bytes != 0 ? book : belfry_no_bytes(), bytes, tag);
+    belfry_result result = {body.verdict, body.bytes / node_bytes};
+    if (result.count > room) {
+        result.verdict.answer = BELFRY_ROOM;
+        result.count = 0;
+    }
+    for (size_t i = 0; i < result.count; i++)
+        out[i] = belfry_read_node(book + body.from + node_bytes * i);
+    return result;
+}
+
+/* Writes an answer's name as a string, without blanks, and returns `out`. */
+BELFRY_NONNULL
+static inline const char *belfry_answer_name(uint32_t answer, char out[BELFRY_NAME_BYTES + 1]) {
+    uint8_t name[BELFRY_NAME_BYTES];
+    size_t letters = 0;
+    belfry_name(answer, name);
+    for (; letters < BELFRY_NAME_BYTES && name[letters] != ' '; letters++)
+        out[letters] = (char)name[letters];
+    out[letters] = 0;
+    return out;
+}
+
+/* ---- A ticket that is kept in a file, or while the machine is off. ---- */
+
+/* Stores a ticket as bytes. */
+BELFRY_NONNULL
+static inline void belfry_store_ticket(belfry_ticket ticket, uint8_t out[BELFRY_TICKET_BYTES]) {
+    const uint32_t numbers[] = {BELFRY_TICKET_FORM, ticket.relation, ticket.order, ticket.placed,
+                                ticket.document, ticket.first, ticket.second};
+    for (size_t i = 0; i < sizeof numbers / sizeof *numbers; i++)
+        belfry_write_number(numbers[i], out + BELFRY_NUMBER_BYTES * i);
+}
+
+/* Reads a stored ticket back into `ticket`, and leaves that as it was when the bytes aren't a
+ * ticket of this form. Then start again with BELFRY_TICKET: pairs come twice, but none is lost. */
+BELFRY_MUST_USE
+static inline belfry_ticket_fault belfry_stored_ticket(const uint8_t *stored, size_t bytes,
+                                                       belfry_ticket *ticket) {
+    uint32_t words[BELFRY_TICKET_WORDS];
+    if (bytes >= BELFRY_NUMBER_BYTES && belfry_read_number(stored) != BELFRY_TICKET_FORM)
+        return BELFRY_TICKET_OTHER_FORM;
+    if (bytes != BELFRY_TICKET_BYTES)
+        return BELFRY_TICKET_OTHER_LENGTH;
+    for (size_t i = 0; i < BELFRY_TICKET_WORDS; i++)
+        words[i] = belfry_read_number(stored + BELFRY_NUMBER_BYTES * (i + 1));
+    const belfry_ticket read = {words[0], words[1], words[2], words[3], words[4], words[5]};
+    *ticket = read;
+    return BELFRY_TICKET_READ;
+}
+
+#undef BELFRY_WORDS_OF
 
 #ifdef __cplusplus
 }

@@ -1,22 +1,61 @@
-/* The farm of document 01, two zones and two samples: all its pairs, then a call with the samples
- * in the wrong order, which is refused. */
+/* The farm of document 01, two zones and two samples. Prints all its pairs, and then what a call
+ * with the samples in the wrong order is refused with. */
 #include <stdio.h>
-#include <string.h>
 
 #include "belfrychest.h"
 
+#define COUNT(array) (sizeof(array) / sizeof *(array))
+
+static const belfry_node zones[] = {
+    {.document = 5, .start = 2, .end = 10, .level = 2},
+    {.document = 5, .start = 3, .end = 7, .level = 3},
+};
+static const belfry_node samples[] = {
+    {.document = 5, .start = 4, .end = 6, .level = 4},
+    {.document = 5, .start = 8, .end = 9, .level = 3},
+};
+static const belfry_node unsorted[] = {
+    {.document = 5, .start = 8, .end = 9, .level = 3},
+    {.document = 5, .start = 4, .end = 6, .level = 4},
+};
+
+static void print_pairs(const belfry_pair *pairs, size_t count) {
+    for (size_t i = 0; i < count; i++)
+        printf("%u %u %u\n", pairs[i].ancestor.document, pairs[i].ancestor.start,
+               pairs[i].descendant.start);
+}
+
+static void print_refusal(belfry_verdict verdict) {
+    char name[BELFRY_NAME_BYTES + 1];
+    printf("refused %u %s list %u index %u\n", verdict.answer,
+           belfry_answer_name(verdict.answer, name), verdict.list, verdict.index);
+}
+
+/* Prints every pair of the zones with these samples, page by page, and how many there are; or the
+ * refusal. */
+static void join_zones_with(const belfry_node *list, size_t count) {
+    static belfry_pair pairs[BELFRY_PAGE_PAIRS];
+    belfry_page page = {.ticket = BELFRY_TICKET(BELFRY_INSIDE, BELFRY_DESCENDANT_ORDER)};
+    size_t total = 0;
+    while (!page.done) {
+        page = belfry_list_pairs(zones, COUNT(zones), list, count, page.ticket, pairs,
+                                 BELFRY_PAGE_PAIRS);
+        if (page.verdict.answer != BELFRY_TAKEN) {
+            print_refusal(page.verdict);
+            return;
+        }
+        print_pairs(pairs, page.count);
+        total += page.count;
+    }
+    printf("pairs %zu\n", total);
+}
+
 int main(void) {
-    const uint32_t zones[] = {5, 2, 10, 2, 5, 3, 7, 3}, samples[] = {5, 4, 6, 4, 5, 8, 9, 3}, turned[] = {5, 8, 9, 3, 5, 4, 6, 4};
-    const belfry_ticket fresh = BELFRY_TICKET(BELFRY_INSIDE, BELFRY_DESCENDANT_ORDER);
-    uint32_t out[4 * BELFRY_PAIR_WORDS];
-    const belfry_page page = belfry_list(zones, 8, samples, 8, fresh, out, 4 * BELFRY_PAIR_WORDS);
-    for (size_t i = 0; i < BELFRY_PAIR_WORDS * page.count; i += BELFRY_PAIR_WORDS)
-        printf("%u %u %u\n", out[i], out[i + 1], out[i + BELFRY_NODE_WORDS + 1]);
-    printf("pairs %zu\n", page.count);
-    const belfry_verdict refused = belfry_list(zones, 8, turned, 8, fresh, out, 4 * BELFRY_PAIR_WORDS).verdict;
-    char name[BELFRY_NAME_BYTES + 1] = "";
-    belfry_name(refused.answer, (uint8_t *)name);
-    name[strcspn(name, " ")] = 0;
-    printf("refused %u %s list %u index %u\n", refused.answer, name, refused.list, refused.index);
+    if (belfry_version() != BELFRY_VERSION) {
+        fprintf(stderr, "farm: the archive belongs to another version of belfrychest.h\n");
+        return 1;
+    }
+    join_zones_with(samples, COUNT(samples));
+    join_zones_with(unsorted, COUNT(unsorted));
     return 0;
 }

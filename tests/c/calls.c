@@ -1,43 +1,24 @@
-/* Calls each function on the farm of document 01 and holds every field of the answers, and every
- * word of the outputs, against what has to be there. Valid as C99 and as C++. Prints what differs. */
-#include <stdio.h>
-#include <string.h>
+/* Calls each function of the archive on the farm of document 01 and holds every field of the
+ * answers, and every byte of the outputs, against what has to be there. */
+#include "expect.h"
 
-#include "belfrychest.h"
-
-enum { PAINT = 0xAB, MOST = 64 };
+enum { MOST = 64 };
 
 static const uint32_t none = BELFRY_NONE;
 static const uint32_t marks[] = {1, 2, 2, 3, 65536, 0, 0, 3, 0, 0, 0};
-static const uint32_t table[] = {5, 1, 11, 1, 1, 5, 2, 10, 2, 2, 5, 3, 7, 3, 2, 5, 4, 6, 4, 3, 5, 5, 5, 5, 65536, 5, 8, 9, 3, 3};
+static const uint32_t table[] = {5, 1, 11, 1, 1, 5, 2, 10, 2, 2, 5, 3, 7, 3, 2,
+                                 5, 4, 6, 4, 3, 5, 5, 5, 5, 65536, 5, 8, 9, 3, 3};
 static const uint32_t zones[] = {5, 2, 10, 2, 5, 3, 7, 3};
 static const uint32_t samples[] = {5, 4, 6, 4, 5, 8, 9, 3};
+/* A book of the zones and the samples. */
+static const uint32_t entries[] = {2, 2, 3, 2};
+static const uint32_t nodes[] = {5, 2, 10, 2, 5, 3, 7, 3, 5, 4, 6, 4, 5, 8, 9, 3};
 /* The samples in the wrong order, and a text after them: the node at index 1 is at fault. */
 static const uint32_t turned[] = {5, 8, 9, 3, 5, 4, 6, 4, 5, 5, 5, 5};
 
-static int differing;
-
-static void expect(const char *what, size_t found, size_t wanted) {
-    if (found == wanted)
-        return;
-    printf("%s is %zu and has to be %zu\n", what, found, wanted);
-    differing = 1;
-}
-
-static void expect_verdict(const char *what, belfry_verdict found, uint32_t answer, uint32_t list, uint32_t index) {
-    printf("%s\n", what);
-    expect("the answer", found.answer, answer);
-    expect("the list", found.list, list);
-    expect("the index", found.index, index);
-}
-
-/* The first words of an output are the wanted ones, and those after them are still painted. */
-static void expect_words(const uint32_t found[MOST], const uint32_t *wanted, size_t count) {
-    uint32_t whole[MOST];
-    memset(whole, PAINT, sizeof whole);
-    memcpy(whole, wanted, count * sizeof *wanted);
-    for (size_t i = 0; i < MOST; i++)
-        expect("a word of the output", found[i], whole[i]);
+static void call_version(void) {
+    printf("belfry_version\n");
+    expect("the version", belfry_version(), BELFRY_VERSION);
 }
 
 static void call_checks(void) {
@@ -53,21 +34,14 @@ static void call_checks(void) {
     expect("words", part.words, 8);
 }
 
-static void expect_ticket(belfry_ticket found, belfry_ticket wanted) {
-    expect("relation", found.relation, wanted.relation);
-    expect("order", found.order, wanted.order);
-    expect("placed", found.placed, wanted.placed);
-    expect("document", found.document, wanted.document);
-    expect("first", found.first, wanted.first);
-    expect("second", found.second, wanted.second);
-}
-
 /* A page of two pairs in ancestor order, the last one, and a refused one. An order of 9 is ancestor
  * order and comes back as 9. */
 static void call_list(void) {
-    const uint32_t first_pairs[] = {5, 2, 10, 2, 5, 4, 6, 4, 5, 2, 10, 2, 5, 8, 9, 3}, last_pair[] = {5, 3, 7, 3, 5, 4, 6, 4};
+    const uint32_t first_pairs[] = {5, 2, 10, 2, 5, 4, 6, 4, 5, 2, 10, 2, 5, 8, 9, 3};
+    const uint32_t last_pair[] = {5, 3, 7, 3, 5, 4, 6, 4};
     const belfry_ticket fresh = {BELFRY_INSIDE, 9, BELFRY_FRESH, 71, 72, 73};
-    const belfry_ticket after_two = {BELFRY_INSIDE, 9, BELFRY_PLACED, 5, 2, 8}, after_all = {BELFRY_INSIDE, 9, BELFRY_PLACED, 5, 3, 4};
+    const belfry_ticket after_two = {BELFRY_INSIDE, 9, BELFRY_PLACED, 5, 2, 8};
+    const belfry_ticket after_all = {BELFRY_INSIDE, 9, BELFRY_PLACED, 5, 3, 4};
     uint32_t out[MOST];
 
     memset(out, PAINT, sizeof out);
@@ -76,7 +50,7 @@ static void call_list(void) {
     expect("done", page.done, 0);
     expect("count", page.count, 2);
     expect_ticket(page.ticket, after_two);
-    expect_words(out, first_pairs, 16);
+    expect_output(out, sizeof out, first_pairs, sizeof first_pairs);
 
     memset(out, PAINT, sizeof out);
     page = belfry_list(zones, 8, samples, 8, page.ticket, out, 2 * BELFRY_PAIR_WORDS);
@@ -84,7 +58,7 @@ static void call_list(void) {
     expect("done", page.done, 1);
     expect("count", page.count, 1);
     expect_ticket(page.ticket, after_all);
-    expect_words(out, last_pair, 8);
+    expect_output(out, sizeof out, last_pair, sizeof last_pair);
 
     memset(out, PAINT, sizeof out);
     page = belfry_list(zones, 8, turned, 12, fresh, out, 2 * BELFRY_PAIR_WORDS);
@@ -92,10 +66,10 @@ static void call_list(void) {
     expect("done", page.done, 0);
     expect("count", page.count, 0);
     expect_ticket(page.ticket, fresh);
-    expect_words(out, out, 0);
+    expect_output(out, sizeof out, out, 0);
 }
 
-/* The macro makes a ticket with the relation and the order asked for, which is fresh. */
+/* BELFRY_TICKET makes a ticket with the relation and the order asked for, which is fresh. */
 static void make_ticket(void) {
     const belfry_ticket fresh = {BELFRY_DIRECTLY, BELFRY_ANCESTOR_ORDER, BELFRY_FRESH, 0, 0, 0};
     printf("BELFRY_TICKET\n");
@@ -108,7 +82,7 @@ static void call_tables(void) {
     belfry_result rows = belfry_number(5, marks, 11, out, MOST);
     expect_verdict("belfry_number", rows.verdict, BELFRY_TAKEN, 0, 0);
     expect("count", rows.count, 6);
-    expect_words(out, table, 30);
+    expect_output(out, sizeof out, table, sizeof table);
 
     memset(out, PAINT, sizeof out);
     belfry_unnumbered back = belfry_unnumber(table, 30, out, MOST);
@@ -116,13 +90,13 @@ static void call_tables(void) {
     expect("the answer", back.answer, BELFRY_TAKEN);
     expect("document", back.document, 5);
     expect("count", back.count, 11);
-    expect_words(out, marks, 11);
+    expect_output(out, sizeof out, marks, sizeof marks);
 
     memset(out, PAINT, sizeof out);
     belfry_result picked = belfry_pick(table, 30, 2, out, MOST);
     expect_verdict("belfry_pick", picked.verdict, BELFRY_TAKEN, 0, 0);
     expect("count", picked.count, 2);
-    expect_words(out, zones, 8);
+    expect_output(out, sizeof out, zones, sizeof zones);
 }
 
 static void call_links(void) {
@@ -132,13 +106,13 @@ static void call_links(void) {
     belfry_result linked = belfry_links(zones, 8, out, MOST);
     expect_verdict("belfry_links", linked.verdict, BELFRY_TAKEN, 0, 0);
     expect("count", linked.count, 2);
-    expect_words(out, links, 6);
+    expect_output(out, sizeof out, links, sizeof links);
 
     memset(out, PAINT, sizeof out);
     linked = belfry_links(turned, 12, out, MOST);
     expect_verdict("belfry_links, refused", linked.verdict, BELFRY_ORDER, 0, 1);
     expect("count", linked.count, 0);
-    expect_words(out, out, 0);
+    expect_output(out, sizeof out, out, 0);
 }
 
 /* The number at a place of a book, the lowest byte first. */
@@ -148,8 +122,8 @@ static uint32_t number_at(const uint8_t *book, size_t index) {
 }
 
 static void call_book(void) {
-    const uint32_t entries[] = {2, 2, 3, 2}, nodes[] = {5, 2, 10, 2, 5, 3, 7, 3, 5, 4, 6, 4, 5, 8, 9, 3};
-    const uint32_t numbers[] = {2, 2, 28, 2, 3, 60, 2, 5, 2, 10, 2, 5, 3, 7, 3, 5, 4, 6, 4, 5, 8, 9, 3};
+    const uint32_t numbers[] = {2, 2, 28, 2, 3, 60, 2, 5, 2, 10, 2, 5,
+                                3, 7, 3, 5, 4, 6, 4, 5, 8, 9, 3};
     uint8_t book[BELFRY_BOOK_BYTES(2, 4) + 1];
     memset(book, PAINT, sizeof book);
     belfry_result written = belfry_book_write(entries, 4, nodes, 16, book, sizeof book);
@@ -172,7 +146,6 @@ static void call_book(void) {
 
 /* The second sample of the book is given the first one's start: list 1, node 1 is out of order. */
 static void call_faulty_book(void) {
-    const uint32_t entries[] = {2, 2, 3, 2}, nodes[] = {5, 2, 10, 2, 5, 3, 7, 3, 5, 4, 6, 4, 5, 8, 9, 3};
     uint8_t book[BELFRY_BOOK_BYTES(2, 4)];
     expect("count", belfry_book_write(entries, 4, nodes, 16, book, sizeof book).count, 92);
     book[60 + 16 + 4] = 4;
@@ -198,6 +171,7 @@ static void call_name(void) {
 }
 
 int main(void) {
+    call_version();
     call_checks();
     make_ticket();
     call_list();

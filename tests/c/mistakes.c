@@ -1,0 +1,246 @@
+/* The mistakes of a C user, by name: `mistakes NAME` tries one, and holds what comes of it against
+ * what the header says. */
+#include "expect.h"
+
+static const belfry_node zones[] = {{5, 2, 30, 2}, {5, 3, 7, 3}, {5, 9, 20, 3}, {5, 10, 15, 4}};
+static const belfry_node samples[] = {
+    {5, 4, 6, 4}, {5, 11, 12, 5}, {5, 16, 17, 4}, {5, 21, 22, 3}};
+/* The zones around each sample, added up. */
+enum { ALL_PAIRS = 2 + 3 + 2 + 1, ROOM = 16 };
+
+static belfry_ticket fresh_ticket(void) {
+    return BELFRY_TICKET(BELFRY_INSIDE, BELFRY_DESCENDANT_ORDER);
+}
+
+static void expect_page(const char *what, belfry_page page, uint32_t done, size_t count) {
+    expect_verdict(what, page.verdict, BELFRY_TAKEN, 0, 0);
+    expect("done", page.done, done);
+    expect("count", page.count, count);
+}
+
+/* Four nodes counted as four where words are wanted are one node: the call of words takes that and
+ * says done, and all pairs but one are lost. Three are RAGGED. The call of nodes finds them all. */
+static void count_nodes_for_words(void) {
+    uint32_t zone_words[16], sample_words[16], out_words[BELFRY_PAIR_WORDS * ROOM];
+    belfry_pair out[ROOM];
+    memcpy(zone_words, zones, sizeof zone_words);
+    memcpy(sample_words, samples, sizeof sample_words);
+    expect_page("the call of words, lengths in nodes",
+                belfry_list(zone_words, 4, sample_words, 4, fresh_ticket(), out_words,
+                            COUNT(out_words)),
+                1, 1);
+    expect_verdict("the call of words, a length of three", belfry_check(zone_words, 3),
+                   BELFRY_RAGGED, 0, 0);
+    expect_page("the call of nodes",
+                belfry_list_pairs(zones, 4, samples, 4, fresh_ticket(), out, ROOM), 1, ALL_PAIRS);
+}
+
+/* Null with a count of 0, in the calls of lists. */
+static void give_null_lists(void) {
+    belfry_pair out[ROOM];
+    expect_verdict("belfry_check_nodes", belfry_check_nodes(NULL, 0), BELFRY_TAKEN, 0, 0);
+    expect_verdict("belfry_check_two_lists", belfry_check_two_lists(NULL, 0, NULL, 0),
+                   BELFRY_TAKEN, 0, 0);
+    const belfry_node_part part = belfry_faulty_nodes(NULL, 0, NULL, 0);
+    expect_verdict("belfry_faulty_nodes", part.verdict, BELFRY_TAKEN, 0, 0);
+    expect("the part's nodes", part.count, 0);
+    expect_page("belfry_list_pairs, no lists and no output",
+                belfry_list_pairs(NULL, 0, NULL, 0, fresh_ticket(), NULL, 0), 1, 0);
+    expect_page("belfry_list_pairs, no zones",
+                belfry_list_pairs(NULL, 0, samples, 4, fresh_ticket(), out, ROOM), 1, 0);
+    expect_page("belfry_list_pairs, no samples",
+                belfry_list_pairs(zones, 4, NULL, 0, fresh_ticket(), out, ROOM), 1, 0);
+    expect_page("belfry_list_pairs, no output",
+                belfry_list_pairs(zones, 4, samples, 4, fresh_ticket(), NULL, 0), 0, 0);
+    expect_verdict("belfry_link_nodes", belfry_link_nodes(NULL, 0, NULL, 0).verdict, BELFRY_TAKEN,
+                   0, 0);
+    expect_verdict("belfry_link_nodes, no output", belfry_link_nodes(zones, 4, NULL, 0).verdict,
+                   BELFRY_ROOM, 0, 0);
+}
+
+/* Null with a count of 0, in the calls of marks and tables. */
+static void give_null_tables(void) {
+    const uint32_t marks[] = {1, 0};
+    const belfry_row table[] = {{5, 1, 2, 1, 1}};
+    expect_verdict("belfry_number_rows", belfry_number_rows(5, NULL, 0, NULL, 0).verdict,
+                   BELFRY_UNCLOSED, 0, 0);
+    expect_verdict("belfry_number_rows, no output",
+                   belfry_number_rows(5, marks, 2, NULL, 0).verdict, BELFRY_ROOM, 0, 0);
+    expect("belfry_unnumber_rows", belfry_unnumber_rows(NULL, 0, NULL, 0).answer, BELFRY_TABLE);
+    expect("belfry_unnumber_rows, no output", belfry_unnumber_rows(table, 1, NULL, 0).answer,
+           BELFRY_ROOM);
+    expect_verdict("belfry_pick_nodes", belfry_pick_nodes(NULL, 0, 1, NULL, 0).verdict,
+                   BELFRY_TAKEN, 0, 0);
+    expect_verdict("belfry_pick_nodes, no output", belfry_pick_nodes(table, 1, 1, NULL, 0).verdict,
+                   BELFRY_ROOM, 0, 0);
+}
+
+/* Null with a count of 0, in the calls of books and in a stored ticket. */
+static void give_null_books(void) {
+    const belfry_entry empty_list[] = {{2, 0}};
+    uint8_t book[BELFRY_BOOK_BYTES(1, 0)];
+    belfry_ticket ticket;
+    expect_verdict("belfry_write_nodes", belfry_write_nodes(NULL, 0, NULL, 0, NULL, 0).verdict,
+                   BELFRY_ROOM, 0, 0);
+    expect("belfry_write_nodes, no lists", belfry_write_nodes(NULL, 0, NULL, 0, book, 16).count,
+           BELFRY_BOOK_BYTES(0, 0));
+    expect("belfry_write_nodes, no nodes",
+           belfry_write_nodes(empty_list, 1, NULL, 0, book, 16).count, sizeof book);
+    expect_verdict("belfry_open_book", belfry_open_book(NULL, 0).verdict, BELFRY_CONTENTS, 0, 0);
+    expect_verdict("belfry_read_nodes", belfry_read_nodes(NULL, 0, 2, NULL, 0).verdict,
+                   BELFRY_CONTENTS, 0, 0);
+    expect_verdict("belfry_read_nodes, no output",
+                   belfry_read_nodes(book, sizeof book, 2, NULL, 0).verdict, BELFRY_TAKEN, 0, 0);
+    expect("belfry_stored_ticket", belfry_stored_ticket(NULL, 0, &ticket),
+           BELFRY_TICKET_OTHER_LENGTH);
+}
+
+static void give_null(void) {
+    give_null_lists();
+    give_null_tables();
+    give_null_books();
+}
+
+/* Counts whose words can't be counted: multiplied as they are, they come out as 0 to 4 words, and
+ * the whole list is lost. */
+static void overflow_inputs(void) {
+    const size_t nodes = SIZE_MAX / BELFRY_NODE_WORDS + 1, rows = SIZE_MAX / BELFRY_ROW_WORDS + 1;
+    const size_t entries = SIZE_MAX / BELFRY_ENTRY_WORDS + 1;
+    const belfry_row table[] = {{5, 1, 2, 1, 1}};
+    const belfry_entry empty_list[] = {{2, 0}};
+    uint32_t marks[2];
+    belfry_link links[ROOM];
+    belfry_node picked[ROOM];
+    uint8_t book[BELFRY_BOOK_BYTES(1, 0)];
+    expect_verdict("belfry_check_nodes", belfry_check_nodes(zones, nodes), BELFRY_LONG, 0, 0);
+    expect_verdict("belfry_check_nodes, all bits", belfry_check_nodes(zones, SIZE_MAX), BELFRY_LONG,
+                   0, 0);
+    expect_verdict("belfry_check_two_lists", belfry_check_two_lists(zones, 4, samples, nodes),
+                   BELFRY_LONG, BELFRY_DESCENDANTS, 0);
+    expect_verdict("belfry_link_nodes", belfry_link_nodes(zones, nodes, links, ROOM).verdict,
+                   BELFRY_LONG, 0, 0);
+    expect("belfry_unnumber_rows", belfry_unnumber_rows(table, rows, marks, 2).answer, BELFRY_LONG);
+    expect_verdict("belfry_pick_nodes", belfry_pick_nodes(table, rows, 1, picked, ROOM).verdict,
+                   BELFRY_LONG, 0, 0);
+    expect_verdict("belfry_write_nodes, the entries",
+                   belfry_write_nodes(empty_list, entries, NULL, 0, book, sizeof book).verdict,
+                   BELFRY_CONTENTS, 0, 0);
+    expect_verdict("belfry_write_nodes, the nodes",
+                   belfry_write_nodes(empty_list, 1, zones, nodes, book, sizeof book).verdict,
+                   BELFRY_CONTENTS, 0, 0);
+}
+
+/* Rooms whose words can't be counted: multiplied as they are, there would be room for nothing. */
+static void overflow_rooms(void) {
+    const uint32_t marks[] = {1, 0};
+    const belfry_row table[] = {{5, 1, 2, 1, 1}};
+    belfry_pair pairs[ALL_PAIRS];
+    belfry_row rows[1];
+    belfry_node nodes[1];
+    belfry_link links[4];
+    expect_page("belfry_list_pairs",
+                belfry_list_pairs(zones, 4, samples, 4, fresh_ticket(), pairs,
+                                  SIZE_MAX / BELFRY_PAIR_WORDS + 1),
+                1, ALL_PAIRS);
+    expect("belfry_number_rows",
+           belfry_number_rows(5, marks, 2, rows, SIZE_MAX / BELFRY_ROW_WORDS + 1).count, 1);
+    expect("belfry_pick_nodes",
+           belfry_pick_nodes(table, 1, 1, nodes, SIZE_MAX / BELFRY_NODE_WORDS + 1).count, 1);
+    expect("belfry_link_nodes",
+           belfry_link_nodes(zones, 4, links, SIZE_MAX / BELFRY_LINK_WORDS + 1).count, 4);
+}
+
+static void overflow(void) {
+    overflow_inputs();
+    overflow_rooms();
+}
+
+/* Room for no pair: nothing is handed out, and the call isn't done while a pair remains, however
+ * often it is made. After the last pair it is. */
+static void give_no_room(void) {
+    belfry_pair pairs[ROOM];
+    uint32_t zone_words[16], sample_words[16], out[BELFRY_PAIR_WORDS - 1];
+    memcpy(zone_words, zones, sizeof zone_words);
+    memcpy(sample_words, samples, sizeof sample_words);
+    belfry_page page =
+        belfry_list_pairs(zones, 4, samples, 4, fresh_ticket(), pairs, ALL_PAIRS - 1);
+    expect_page("all pairs but one", page, 0, ALL_PAIRS - 1);
+    const belfry_ticket before = page.ticket;
+    page = belfry_list_pairs(zones, 4, samples, 4, before, pairs, 0);
+    expect_page("room for no pair", page, 0, 0);
+    expect_ticket(page.ticket, before);
+    page = belfry_list(zone_words, 16, sample_words, 16, page.ticket, out, COUNT(out));
+    expect_page("room for seven words", page, 0, 0);
+    expect_ticket(page.ticket, before);
+    page = belfry_list_pairs(zones, 4, samples, 4, page.ticket, pairs, 1);
+    expect_page("room for the last pair", page, 1, 1);
+    expect_page("room for no pair, and none remains",
+                belfry_list_pairs(zones, 4, samples, 4, page.ticket, pairs, 0), 1, 0);
+}
+
+/* Bytes that aren't a ticket of this form are refused, and the caller's ticket stays as it was. */
+static void refuse_bytes(const uint8_t *stored, size_t bytes, belfry_ticket_fault fault) {
+    const belfry_ticket kept = {1, 2, 3, 4, 5, 6};
+    belfry_ticket ticket = kept;
+    expect("what reading it back says", belfry_stored_ticket(stored, bytes, &ticket), fault);
+    expect_ticket(ticket, kept);
+}
+
+/* A ticket is stored as its form and its words, the lowest byte first. Another form, as a later
+ * version of the library stores, and bytes that were cut off are refused. */
+static void store_ticket(void) {
+    const belfry_ticket ticket = {1, 9, 0xFFFFFFFF, 0x04030201, 0x10, 0x8000};
+    const uint8_t wanted[] = {BELFRY_TICKET_FORM, 0, 0, 0, 1, 0, 0, 0, 9, 0, 0, 0, 255, 255,
+                              255, 255, 1, 2, 3, 4, 16, 0, 0, 0, 0, 128, 0, 0};
+    uint8_t stored[BELFRY_TICKET_BYTES + 1];
+    belfry_ticket back;
+    memset(stored, PAINT, sizeof stored);
+    belfry_store_ticket(ticket, stored);
+    expect_output(stored, sizeof stored, wanted, sizeof wanted);
+    memset(&back, PAINT, sizeof back);
+    expect("what reading it back says", belfry_stored_ticket(stored, BELFRY_TICKET_BYTES, &back),
+           BELFRY_TICKET_READ);
+    expect_ticket(back, ticket);
+
+    refuse_bytes(stored, BELFRY_TICKET_BYTES - 1, BELFRY_TICKET_OTHER_LENGTH);
+    refuse_bytes(stored, BELFRY_TICKET_BYTES + 1, BELFRY_TICKET_OTHER_LENGTH);
+    refuse_bytes(stored, BELFRY_NUMBER_BYTES - 1, BELFRY_TICKET_OTHER_LENGTH);
+    stored[3] = 1;
+    refuse_bytes(stored, BELFRY_TICKET_BYTES, BELFRY_TICKET_OTHER_FORM);
+    refuse_bytes(stored, BELFRY_TICKET_BYTES + 1, BELFRY_TICKET_OTHER_FORM);
+    memset(stored, 0, sizeof stored);
+    refuse_bytes(stored, BELFRY_TICKET_BYTES, BELFRY_TICKET_OTHER_FORM);
+}
+
+/* A name is printed as a string: without blanks, and with a zero at its end. */
+static void print_name(void) {
+    const char full[] = "CONTENTS", part[] = "ROOM";
+    char name[BELFRY_NAME_BYTES + 2];
+    memset(name, PAINT, sizeof name);
+    expect("what it returns", belfry_answer_name(BELFRY_CONTENTS, name) == name, 1);
+    expect_output(name, sizeof name, full, sizeof full);
+    memset(name, PAINT, sizeof name);
+    expect("what it returns", belfry_answer_name(BELFRY_ROOM, name) == name, 1);
+    expect_output(name, sizeof name, part, sizeof part);
+    expect("the length of an unknown answer's name",
+           strlen(belfry_answer_name(BELFRY_ABSENT + 1, name)), 0);
+}
+
+static const struct {
+    const char *name;
+    void (*make)(void);
+} mistakes[] = {
+    {"length", count_nodes_for_words}, {"null", give_null},    {"overflow", overflow},
+    {"room", give_no_room},            {"ticket", store_ticket}, {"name", print_name},
+};
+
+int main(int count, char **arguments) {
+    int tried = 0;
+    for (size_t i = 0; i < COUNT(mistakes); i++) {
+        if (count == 2 && strcmp(arguments[1], mistakes[i].name) == 0) {
+            mistakes[i].make();
+            tried = 1;
+        }
+    }
+    return tried ? differing : 2;
+}
