@@ -1,24 +1,32 @@
 //! Pairs every zone with the samples under it, and loses none: the Belfrychest library for Rust.
 //!
-//! A node is four words: document, start, end, level. A list is a slice of such words, node after node; the lists that are joined are the
-//! ancestors (zones) and the descendants (samples). Lists are lent, results are written into lent outputs, and nothing is copied or kept.
+//! A [`Node`] has a document, a start, an end and a level. A list is a slice of nodes; the lists
+//! that are joined are the ancestors (zones) and the descendants (samples).
 //!
-//! Any words are taken, and no check is expected before a call: each call makes its own and answers, or refuses with a [`Refusal`] that says why
-//! and where. A refused call leaves the output as it was. Of an output nothing is altered but the result, which starts at its first word.
+//! Any nodes are taken, and no check is expected before a call: each call makes its own and
+//! answers, or refuses with a [`Refusal`] that says why and where. A call whose name ends in
+//! `_into` writes into a lent output, from its first place on, and allocates nothing; a refused one
+//! leaves the output as it was. The call without `_into` returns the result.
 //!
 //! ```
-//! use belfrychest::{Listing, Order, Relation};
+//! use belfrychest::{listing, Node, Order, Relation};
 //!
-//! let zones = [5, 2, 10, 2, 5, 3, 7, 3];
-//! let samples = [5, 4, 6, 4, 5, 8, 9, 3];
-//! let listing = Listing::new(&zones, &samples, Relation::Inside, Order::Descendant, [0; 16])?;
-//! let starts: Vec<_> = listing.map(|pair| (pair.ancestor.start, pair.descendant.start)).collect();
+//! let node = |start, end, level| Node { document: 5, start, end, level };
+//! let zones = [node(2, 10, 2), node(3, 7, 3)];
+//! let samples = [node(4, 6, 4), node(8, 9, 3)];
+//! let pairs = listing(&zones, &samples, Relation::Inside, Order::Descendant)?;
+//! let starts: Vec<_> = pairs.iter().map(|p| (p.ancestor.start, p.descendant.start)).collect();
 //! assert_eq!(starts, [(2, 4), (3, 4), (2, 8)]);
 //! # Ok::<(), belfrychest::Refusal>(())
 //! ```
 //!
-//! [`Listing`] goes through all pairs of two lists that stay as they are. Where lists are edited between the pages, [`next_page`] hands out a page
-//! at a time and a [`Ticket`] to go on with. All that is unsafe is in [`raw`], the C interface as it is.
+//! [`listing()`] and [`Listing`] go through all pairs of two lists that stay as they are. Where
+//! lists are edited between the pages, [`next_page`] hands out a page at a time and a [`Ticket`] to
+//! go on with. [`Pieces`] does all this for lists of any length.
+//!
+//! Lists that come as words, four for each node, are lent as they lie: [`nodes`] takes words, and
+//! [`words`] gives them. All that is unsafe is in [`raw`], the C interface as it is. Every call
+//! panics where the archive that was linked has another version than [`VERSION`].
 
 #![deny(unsafe_code)]
 #![deny(missing_docs)]
@@ -31,16 +39,21 @@ mod listing;
 mod marks;
 mod node;
 mod page;
+mod pieces;
 #[allow(unsafe_code, missing_docs)]
 pub mod raw;
+mod table;
 mod ticket;
 
-pub use answer::{Answer, Refusal};
-pub use book::{book_body, book_bytes, book_check, book_write, body_words};
+pub use answer::Refusal;
+pub use book::{body_nodes, book_body, book_bytes, book_check, book_write, book_write_into};
 pub use limits::*;
-pub use list::{check, check_two, faulty, links, Fault};
-pub use listing::Listing;
-pub use marks::{number, pick, unnumber, Unnumbered};
-pub use node::{nodes, pairs, Node, Pair};
+pub use list::{check, check_two, faulty, links, links_into, Fault};
+pub use listing::{listing, Listing};
+pub use marks::{number, number_into, pick, pick_into, unnumber, unnumber_into};
+pub use node::{nodes, rows, Entry, Link, Node, Pair, Row};
 pub use page::{next_page, Page};
-pub use ticket::{Order, Place, Relation, Ticket};
+pub use pieces::Pieces;
+pub use raw::{version, words};
+pub use table::{Answer, VERSION};
+pub use ticket::{Order, Place, Relation, StoredTicketError, Ticket};

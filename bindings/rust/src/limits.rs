@@ -1,33 +1,42 @@
-//! The limits, and how many words each thing takes. The names are those of the C header.
+//! The limits, and how many words or bytes each thing takes. The names are those of the C header.
 
-/// A list has at most so many nodes, a table so many rows and a document so many marks.
+/// The most nodes of a list, rows of a table and marks of a document. [`crate::Pieces`] takes lists
+/// of any length.
 pub const MOST_NODES: usize = 4096;
-/// A node's level is 1 up to this one.
+/// The highest level of a node. The lowest is 1.
 pub const MOST_LEVELS: usize = 64;
-/// So many nodes of a list contain a given one at most, since levels rise on the way in.
+/// The most nodes of a list that contain one node, since levels rise on the way in.
 pub const MOST_CONTAINING: usize = MOST_LEVELS - 1;
-/// A book has at most so many lists.
+/// The most lists of a book.
 pub const MOST_LISTS: usize = 16;
-/// The printing program takes a book of at most so many bytes. The calls have no such limit.
+/// The most bytes of a book that the printing program takes. The calls have no such limit.
 pub const PRINTED_BYTES: usize = 61440;
+/// The pairs of a page for those who have no reason to choose another number. Every page checks
+/// both lists anew, so a listing in pages of 4 pairs costs hundreds of times as much.
+pub const PAGE_PAIRS: usize = 4096;
 
-/// A node is document, start, end and level.
+/// The words of a node: document, start, end, level.
 pub const NODE_WORDS: usize = 4;
-/// A pair is the ancestor and then the descendant.
+/// The words of a pair: the ancestor's and then the descendant's.
 pub const PAIR_WORDS: usize = 2 * NODE_WORDS;
-/// A row of a table is a node and its tag.
+/// The words of a table's row: a node's and its tag.
 pub const ROW_WORDS: usize = NODE_WORDS + 1;
-/// A link is the index of the parent, of the first child and of the next sibling.
+/// The words of a link: the index of the parent, of the first child and of the next sibling.
 pub const LINK_WORDS: usize = 3;
-/// An entry for a book that is to be written is a tag and a number of nodes.
+/// The words of an entry for a book that is to be written: a tag and a number of nodes.
 pub const ENTRY_WORDS: usize = 2;
-/// A ticket is its relation, its order, whether it is placed, and the three numbers of its key.
+/// The words of a ticket: its relation, its order, whether it is placed, and the three numbers of
+/// its key.
 pub const TICKET_WORDS: usize = 6;
-/// A number in a book is so many bytes, the lowest first.
+/// The form in which tickets are stored. It changes when a ticket's words do.
+pub const TICKET_FORM: u32 = 1;
+/// The bytes of a number in a book or in a stored ticket, the lowest first.
 pub const NUMBER_BYTES: usize = 4;
-/// A list's row in a book's contents is so many numbers: tag, offset, count of nodes.
+/// The bytes of a stored ticket: the form's number and the ticket's words.
+pub const TICKET_BYTES: usize = NUMBER_BYTES * (1 + TICKET_WORDS);
+/// The numbers that a list takes in a book's contents: tag, offset, count of nodes.
 pub const CONTENTS_NUMBERS: usize = 3;
-/// An answer's name is so many bytes, filled up with blanks.
+/// The bytes of an answer's name, filled up with blanks.
 pub const NAME_BYTES: usize = 8;
 
 /// The mark that closes an element.
@@ -37,7 +46,7 @@ pub const TEXT: u32 = 65536;
 /// A link's word that says there is no such node.
 pub const NONE: u32 = u32::MAX;
 
-/// The list that a refusal of two lists names when the ancestors are at fault, or neither list alone.
+/// The list that a refusal names when the ancestors are at fault.
 pub const ANCESTORS: usize = 0;
-/// The list that a refusal of two lists names when the descendants are at fault.
+/// The list that a refusal names when the descendants are at fault.
 pub const DESCENDANTS: usize = 1;

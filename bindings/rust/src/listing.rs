@@ -1,43 +1,59 @@
-//! A whole listing, pair by pair.
+//! A whole listing, at once or pair by pair.
 
-use crate::answer::{Answer, Refusal};
-use crate::limits::PAIR_WORDS;
-use crate::node::{pairs, Pair};
+use crate::answer::Refusal;
+use crate::limits::PAGE_PAIRS;
+use crate::node::{Node, Pair};
 use crate::page::{next_page, Page};
 use crate::ticket::{Order, Relation, Ticket};
 use std::iter::FusedIterator;
 
-/// All pairs of two lists, fetched page by page into a buffer. It borrows the lists, so they can't change before it ends, and what was taken at the
-/// start is taken to the end. Lists that are to be edited in between are paged by [`next_page`].
+/// Returns all pairs of two lists. Refused as [`crate::check_two`] is.
+pub fn listing(
+    ancestors: &[Node],
+    descendants: &[Node],
+    relation: Relation,
+    order: Order,
+) -> Result<Vec<Pair>, Refusal> {
+    let buffer = vec![Pair::default(); PAGE_PAIRS];
+    Ok(Listing::new(ancestors, descendants, relation, order, buffer)?.collect())
+}
+
+/// All pairs of two lists, fetched page by page into a buffer. It borrows the lists, so they can't
+/// change before it ends, and what was taken at the start is taken to the end. Lists that are
+/// edited in between are paged by [`next_page`].
 #[derive(Clone, Debug)]
 pub struct Listing<'a, B> {
-    ancestors: &'a [u32],
-    descendants: &'a [u32],
+    ancestors: &'a [Node],
+    descendants: &'a [Node],
     buffer: B,
     page: Page,
     shown: usize,
 }
 
-impl<'a, B: AsMut<[u32]>> Listing<'a, B> {
-    /// Checks both lists and fetches the first page. The buffer, an array, a `Vec` or a lent slice, holds a page. Each page costs a check of both
-    /// lists, so a larger buffer makes for less work. Refused as [`crate::check_two`] is, then with ROOM where there are pairs and the buffer has
-    /// room for none.
-    pub fn new(ancestors: &'a [u32], descendants: &'a [u32], relation: Relation, order: Order, mut buffer: B) -> Result<Self, Refusal> {
-        let page = next_page(ancestors, descendants, Ticket::fresh(relation, order), buffer.as_mut())?;
-        if page.count == 0 && !page.done {
-            return Err(Refusal::without_node(Answer::Room));
-        }
+impl<'a, B: AsMut<[Pair]>> Listing<'a, B> {
+    /// Checks both lists and fetches the first page. The buffer, an array, a `Vec` or a lent slice,
+    /// holds a page; [`PAGE_PAIRS`] is a good length for it. Refused as [`next_page`] is.
+    pub fn new(
+        ancestors: &'a [Node],
+        descendants: &'a [Node],
+        relation: Relation,
+        order: Order,
+        mut buffer: B,
+    ) -> Result<Self, Refusal> {
+        let fresh = Ticket::fresh(relation, order);
+        let page = next_page(ancestors, descendants, fresh, buffer.as_mut())?;
         Ok(Listing { ancestors, descendants, buffer, page, shown: 0 })
     }
 
     fn turn_page(&mut self) {
-        self.page = next_page(self.ancestors, self.descendants, self.page.ticket, self.buffer.as_mut())
+        let Listing { ancestors, descendants, page, .. } = *self;
+        self.page = next_page(ancestors, descendants, page.ticket, self.buffer.as_mut())
             .expect("lists that were taken, and lent since, are taken again");
         self.shown = 0;
     }
 }
 
-impl<B: AsMut<[u32]>> Iterator for Listing<'_, B> {
+impl<B: AsMut<[Pair]>> Iterator for Listing<'_, B> {
     type Item = Pair;
 
     fn next(&mut self) -> Option<Pair> {
@@ -47,10 +63,9 @@ impl<B: AsMut<[u32]>> Iterator for Listing<'_, B> {
             }
             self.turn_page();
         }
-        let pair = pairs(&self.buffer.as_mut()[PAIR_WORDS * self.shown..]).next();
         self.shown += 1;
-        pair
+        Some(self.buffer.as_mut()[self.shown - 1])
     }
 }
 
-impl<B: AsMut<[u32]>> FusedIterator for Listing<'_, B> {}
+impl<B: AsMut<[Pair]>> FusedIterator for Listing<'_, B> {}

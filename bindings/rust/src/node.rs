@@ -1,11 +1,17 @@
-//! Nodes and pairs, and how they lie in words.
+//! Nodes, pairs, rows, links and entries. Each is made of words, and a slice of them is lent as the
+//! words that it is, without a copy.
 
-use crate::limits::{NODE_WORDS, PAIR_WORDS};
+use crate::answer::Refusal;
+use crate::limits::NONE;
+use crate::raw::{items, OfWords};
+use crate::table::Answer;
+use crate::ticket::Order;
 
 /// A zone, a sample, or whatever a list holds.
-#[derive(Clone, Copy, Debug, PartialEq, Eq, Hash)]
+#[repr(C)]
+#[derive(Clone, Copy, Debug, Default, PartialEq, Eq, Hash)]
 pub struct Node {
-    /// Nodes of different documents are never inside one another.
+    /// The number of its document. Nodes of different documents are never inside one another.
     pub document: u32,
     /// Where it starts in its document.
     pub start: u32,
@@ -15,20 +21,9 @@ pub struct Node {
     pub level: u32,
 }
 
-impl Node {
-    /// The node's words, as they stand in a list.
-    pub fn to_words(self) -> [u32; NODE_WORDS] {
-        [self.document, self.start, self.end, self.level]
-    }
-
-    /// The node of four words.
-    pub fn from_words([document, start, end, level]: [u32; NODE_WORDS]) -> Node {
-        Node { document, start, end, level }
-    }
-}
-
 /// A node and one inside it.
-#[derive(Clone, Copy, Debug, PartialEq, Eq, Hash)]
+#[repr(C)]
+#[derive(Clone, Copy, Debug, Default, PartialEq, Eq, Hash)]
 pub struct Pair {
     /// The outer node, a zone.
     pub ancestor: Node,
@@ -37,18 +32,87 @@ pub struct Pair {
 }
 
 impl Pair {
-    /// The pair of eight words, as a page has them.
-    pub fn from_words([d, s, e, l, document, start, end, level]: [u32; PAIR_WORDS]) -> Pair {
-        Pair { ancestor: Node::from_words([d, s, e, l]), descendant: Node { document, start, end, level } }
+    /// Returns the three numbers that an order sorts its pairs by: the document, the start of the
+    /// node that leads, and the start of the other one.
+    pub fn key(&self, order: Order) -> [u32; 3] {
+        let Pair { ancestor, descendant } = self;
+        match order {
+            Order::Descendant => [ancestor.document, descendant.start, ancestor.start],
+            Order::Ancestor => [ancestor.document, ancestor.start, descendant.start],
+        }
     }
 }
 
-/// The nodes of a list, one after the other; words that don't make a whole node are left over.
-pub fn nodes(words: &[u32]) -> impl Iterator<Item = Node> + '_ {
-    words.chunks_exact(NODE_WORDS).map(|w| Node::from_words([w[0], w[1], w[2], w[3]]))
+/// A row of a document's table.
+#[repr(C)]
+#[derive(Clone, Copy, Debug, Default, PartialEq, Eq, Hash)]
+pub struct Row {
+    /// The node of an element or a text.
+    pub node: Node,
+    /// The element's tag, or [`crate::TEXT`].
+    pub tag: u32,
 }
 
-/// The pairs that words hold, one after the other; words that don't make a whole pair are left over.
-pub fn pairs(words: &[u32]) -> impl Iterator<Item = Pair> + '_ {
-    words.chunks_exact(PAIR_WORDS).map(|w| Pair::from_words([w[0], w[1], w[2], w[3], w[4], w[5], w[6], w[7]]))
+/// Where a node hangs in the containment forest of its list. Other nodes are given by their
+/// indices in the list.
+#[repr(C)]
+#[derive(Clone, Copy, Debug, PartialEq, Eq, Hash)]
+pub struct Link {
+    parent: u32,
+    first_child: u32,
+    next_sibling: u32,
+}
+
+impl Link {
+    /// Returns the index of the innermost node that contains this one.
+    pub fn parent(&self) -> Option<usize> {
+        linked(self.parent)
+    }
+
+    /// Returns the index of the first node whose parent is this one.
+    pub fn first_child(&self) -> Option<usize> {
+        linked(self.first_child)
+    }
+
+    /// Returns the index of the next node of the same document with the same parent.
+    pub fn next_sibling(&self) -> Option<usize> {
+        linked(self.next_sibling)
+    }
+}
+
+/// The link of a node that stands alone.
+impl Default for Link {
+    fn default() -> Link {
+        Link { parent: NONE, first_child: NONE, next_sibling: NONE }
+    }
+}
+
+fn linked(word: u32) -> Option<usize> {
+    (word != NONE).then_some(word as usize)
+}
+
+/// A list of a book that is to be written.
+#[repr(C)]
+#[derive(Clone, Copy, Debug, Default, PartialEq, Eq, Hash)]
+pub struct Entry {
+    /// The list's tag.
+    pub tag: u32,
+    /// How many nodes it has.
+    pub count: u32,
+}
+
+/// Returns the words of a list as its nodes, without a copy. Refused with RAGGED where a word is
+/// left over.
+pub fn nodes(words: &[u32]) -> Result<&[Node], Refusal> {
+    whole(words)
+}
+
+/// Returns the words of a table as its rows, without a copy. Refused with RAGGED where a word is
+/// left over.
+pub fn rows(words: &[u32]) -> Result<&[Row], Refusal> {
+    whole(words)
+}
+
+fn whole<T: OfWords>(words: &[u32]) -> Result<&[T], Refusal> {
+    items(words).ok_or_else(|| Refusal::without_place(Answer::Ragged))
 }

@@ -3,9 +3,18 @@
 //! answers.
 //!
 //! All unsafe code of this crate is here, and it is sound for one reason throughout. A slice is
-//! passed as its address and its length: the address is never null and is aligned, even for an empty
-//! slice; the archive reads and writes no more than the length says and keeps no address; and an
-//! output that is lent mutably overlaps nothing else that is lent.
+//! passed as its address and its length: the address is never null and is aligned, even for an
+//! empty slice; the archive reads and writes no more than the length says and keeps no address; and
+//! an output that is lent mutably overlaps nothing else that is lent. A slice of items that are
+//! [`OfWords`] is the slice of their words.
+//!
+//! Every call first holds the archive's version against [`VERSION`], and panics where they differ,
+//! since the structs of another version may lie otherwise in memory.
+
+use crate::node::{Entry, Link, Node, Pair, Row};
+use crate::table::VERSION;
+use std::mem::size_of;
+use std::slice;
 
 /// The answer of a check: its number, the list that it names, and the index of the faulty node in
 /// that list, or 0.
@@ -86,8 +95,18 @@ pub struct Body {
 
 extern "C" {
     fn belfry_check(list: *const u32, words: usize) -> Verdict;
-    fn belfry_check_two(ancestors: *const u32, ancestor_words: usize, descendants: *const u32, descendant_words: usize) -> Verdict;
-    fn belfry_faulty(ancestors: *const u32, ancestor_words: usize, descendants: *const u32, descendant_words: usize) -> Part;
+    fn belfry_check_two(
+        ancestors: *const u32,
+        ancestor_words: usize,
+        descendants: *const u32,
+        descendant_words: usize,
+    ) -> Verdict;
+    fn belfry_faulty(
+        ancestors: *const u32,
+        ancestor_words: usize,
+        descendants: *const u32,
+        descendant_words: usize,
+    ) -> Part;
     fn belfry_list(
         ancestors: *const u32,
         ancestor_words: usize,
@@ -97,9 +116,26 @@ extern "C" {
         out: *mut u32,
         out_words: usize,
     ) -> Page;
-    fn belfry_number(document: u32, marks: *const u32, mark_words: usize, out: *mut u32, out_words: usize) -> Written;
-    fn belfry_unnumber(table: *const u32, table_words: usize, out: *mut u32, out_words: usize) -> Unnumbered;
-    fn belfry_pick(table: *const u32, table_words: usize, tag: u32, out: *mut u32, out_words: usize) -> Written;
+    fn belfry_number(
+        document: u32,
+        marks: *const u32,
+        mark_words: usize,
+        out: *mut u32,
+        out_words: usize,
+    ) -> Written;
+    fn belfry_unnumber(
+        table: *const u32,
+        table_words: usize,
+        out: *mut u32,
+        out_words: usize,
+    ) -> Unnumbered;
+    fn belfry_pick(
+        table: *const u32,
+        table_words: usize,
+        tag: u32,
+        out: *mut u32,
+        out_words: usize,
+    ) -> Written;
     fn belfry_links(list: *const u32, words: usize, out: *mut u32, out_words: usize) -> Written;
     fn belfry_book_check(book: *const u8, bytes: usize) -> Book;
     fn belfry_book_body(book: *const u8, bytes: usize, tag: u32) -> Body;
@@ -112,25 +148,53 @@ extern "C" {
         out_bytes: usize,
     ) -> Written;
     fn belfry_name(answer: u32, out: *mut u8);
+    fn belfry_version() -> u32;
+}
+
+/// Returns the version of the archive that was linked. Every call needs it to be [`VERSION`].
+pub fn version() -> u32 {
+    unsafe { belfry_version() }
+}
+
+/// Panics unless the archive is of this crate's version.
+fn hold_version() {
+    let linked = version();
+    assert!(
+        linked == VERSION,
+        "belfrychest {VERSION} is linked with an archive of version {linked}"
+    );
 }
 
 /// What `belfry_check` answers for a list.
 pub fn check(list: &[u32]) -> Verdict {
+    hold_version();
     unsafe { belfry_check(list.as_ptr(), list.len()) }
 }
 
 /// What `belfry_check_two` answers for two lists.
 pub fn check_two(ancestors: &[u32], descendants: &[u32]) -> Verdict {
-    unsafe { belfry_check_two(ancestors.as_ptr(), ancestors.len(), descendants.as_ptr(), descendants.len()) }
+    hold_version();
+    unsafe {
+        belfry_check_two(
+            ancestors.as_ptr(),
+            ancestors.len(),
+            descendants.as_ptr(),
+            descendants.len(),
+        )
+    }
 }
 
 /// What `belfry_faulty` answers for two lists.
 pub fn faulty(ancestors: &[u32], descendants: &[u32]) -> Part {
-    unsafe { belfry_faulty(ancestors.as_ptr(), ancestors.len(), descendants.as_ptr(), descendants.len()) }
+    hold_version();
+    unsafe {
+        belfry_faulty(ancestors.as_ptr(), ancestors.len(), descendants.as_ptr(), descendants.len())
+    }
 }
 
 /// The page that `belfry_list` writes and answers.
 pub fn list(ancestors: &[u32], descendants: &[u32], ticket: Ticket, out: &mut [u32]) -> Page {
+    hold_version();
     unsafe {
         belfry_list(
             ancestors.as_ptr(),
@@ -146,42 +210,95 @@ pub fn list(ancestors: &[u32], descendants: &[u32], ticket: Ticket, out: &mut [u
 
 /// The table that `belfry_number` writes and answers.
 pub fn number(document: u32, marks: &[u32], out: &mut [u32]) -> Written {
+    hold_version();
     unsafe { belfry_number(document, marks.as_ptr(), marks.len(), out.as_mut_ptr(), out.len()) }
 }
 
 /// The marks that `belfry_unnumber` writes and answers.
 pub fn unnumber(table: &[u32], out: &mut [u32]) -> Unnumbered {
+    hold_version();
     unsafe { belfry_unnumber(table.as_ptr(), table.len(), out.as_mut_ptr(), out.len()) }
 }
 
 /// The nodes that `belfry_pick` writes and answers.
 pub fn pick(table: &[u32], tag: u32, out: &mut [u32]) -> Written {
+    hold_version();
     unsafe { belfry_pick(table.as_ptr(), table.len(), tag, out.as_mut_ptr(), out.len()) }
 }
 
 /// The links that `belfry_links` writes and answers.
 pub fn links(list: &[u32], out: &mut [u32]) -> Written {
+    hold_version();
     unsafe { belfry_links(list.as_ptr(), list.len(), out.as_mut_ptr(), out.len()) }
 }
 
 /// What `belfry_book_check` answers for a book.
 pub fn book_check(book: &[u8]) -> Book {
+    hold_version();
     unsafe { belfry_book_check(book.as_ptr(), book.len()) }
 }
 
 /// Where `belfry_book_body` finds a tag's list.
 pub fn book_body(book: &[u8], tag: u32) -> Body {
+    hold_version();
     unsafe { belfry_book_body(book.as_ptr(), book.len(), tag) }
 }
 
 /// The book that `belfry_book_write` writes and answers.
 pub fn book_write(entries: &[u32], nodes: &[u32], out: &mut [u8]) -> Written {
-    unsafe { belfry_book_write(entries.as_ptr(), entries.len(), nodes.as_ptr(), nodes.len(), out.as_mut_ptr(), out.len()) }
+    hold_version();
+    unsafe {
+        belfry_book_write(
+            entries.as_ptr(),
+            entries.len(),
+            nodes.as_ptr(),
+            nodes.len(),
+            out.as_mut_ptr(),
+            out.len(),
+        )
+    }
 }
 
 /// The eight bytes that `belfry_name` writes.
 pub fn name(answer: u32) -> [u8; 8] {
+    hold_version();
     let mut out = [0; 8];
     unsafe { belfry_name(answer, out.as_mut_ptr()) };
     out
+}
+
+/// What is made of words alone, so that a slice of it lies in memory as words do, item after item.
+///
+/// # Safety
+///
+/// The type is `repr(C)`, and each of its fields is a `u32` or is of such a type itself.
+pub unsafe trait OfWords: Copy {}
+
+unsafe impl OfWords for Node {}
+unsafe impl OfWords for Pair {}
+unsafe impl OfWords for Row {}
+unsafe impl OfWords for Link {}
+unsafe impl OfWords for Entry {}
+
+/// How many words an item has.
+const fn words_of<T: OfWords>() -> usize {
+    size_of::<T>() / size_of::<u32>()
+}
+
+/// Returns the words of nodes, pairs, rows, links or entries, one item after the other, without a
+/// copy.
+pub fn words<T: OfWords>(items: &[T]) -> &[u32] {
+    unsafe { slice::from_raw_parts(items.as_ptr().cast(), items.len() * words_of::<T>()) }
+}
+
+/// Returns the words of such items, to be written.
+pub fn words_mut<T: OfWords>(items: &mut [T]) -> &mut [u32] {
+    unsafe { slice::from_raw_parts_mut(items.as_mut_ptr().cast(), items.len() * words_of::<T>()) }
+}
+
+/// Returns such items of their words, without a copy, or none where a word is left over.
+pub fn items<T: OfWords>(words: &[u32]) -> Option<&[T]> {
+    let count = words.len() / words_of::<T>();
+    let whole = count * words_of::<T>() == words.len();
+    whole.then(|| unsafe { slice::from_raw_parts(words.as_ptr().cast(), count) })
 }

@@ -1,59 +1,90 @@
-//! Every function of the binding on the farm of document 01, taken and refused; the iterator against page calls; numbers against the C header.
+//! Every function of the binding on the farm of document 01, taken and refused; the iterator
+//! against page calls; numbers against the C header.
 
 use belfrychest::*;
 use std::collections::BTreeMap;
 use std::error::Error;
 
-const MARKS: [u32; 11] = [1, 2, 2, 3, TEXT, CLOSE, CLOSE, 3, CLOSE, CLOSE, CLOSE];
-const TABLE: [u32; 30] = [5, 1, 11, 1, 1, 5, 2, 10, 2, 2, 5, 3, 7, 3, 2, 5, 4, 6, 4, 3, 5, 5, 5, 5, TEXT, 5, 8, 9, 3, 3];
-const ZONES: [u32; 8] = [5, 2, 10, 2, 5, 3, 7, 3];
-const SAMPLES: [u32; 8] = [5, 4, 6, 4, 5, 8, 9, 3];
-/// The samples in the wrong order, and a text behind them.
-const TURNED: [u32; 12] = [5, 8, 9, 3, 5, 4, 6, 4, 5, 5, 5, 5];
-/// A node that crosses the farm's first zone.
-const CROSSING: [u32; 4] = [5, 4, 12, 3];
-const PAINT: u32 = 0xABAB_ABAB;
-
-fn refusal(answer: Answer, list: usize, index: usize) -> Refusal {
-    Refusal { answer, list, index }
+const fn node(start: u32, end: u32, level: u32) -> Node {
+    Node { document: 5, start, end, level }
 }
 
-/// A painted output of which the first words are these.
-fn painted(words: &[u32], length: usize) -> Vec<u32> {
-    let mut out = words.to_vec();
-    out.resize(length, PAINT);
+const fn row(node: Node, tag: u32) -> Row {
+    Row { node, tag }
+}
+
+const MARKS: [u32; 11] = [1, 2, 2, 3, TEXT, CLOSE, CLOSE, 3, CLOSE, CLOSE, CLOSE];
+const ZONES: [Node; 2] = [node(2, 10, 2), node(3, 7, 3)];
+const SAMPLES: [Node; 2] = [node(4, 6, 4), node(8, 9, 3)];
+const TABLE: [Row; 6] = [
+    row(node(1, 11, 1), 1),
+    row(ZONES[0], 2),
+    row(ZONES[1], 2),
+    row(SAMPLES[0], 3),
+    row(node(5, 5, 5), TEXT),
+    row(SAMPLES[1], 3),
+];
+/// The samples in the wrong order, and a text after them.
+const TURNED: [Node; 3] = [SAMPLES[1], SAMPLES[0], node(5, 5, 5)];
+/// A node that crosses the farm's first zone.
+const CROSSING: [Node; 1] = [node(4, 12, 3)];
+
+/// The refusal by an answer that has no place.
+fn refusal(answer: Answer) -> Refusal {
+    Refusal { answer, list: None, index: None }
+}
+
+/// The refusal of a node.
+fn refusal_at(answer: Answer, list: usize, index: usize) -> Refusal {
+    Refusal { answer, list: Some(list), index: Some(index) }
+}
+
+/// An output that begins with these items and goes on with nines.
+fn painted<T: raw::OfWords>(items: &[T], paint: T, length: usize) -> Vec<T> {
+    let mut out = items.to_vec();
+    out.resize(length, paint);
     out
 }
+
+const NODE_PAINT: Node = Node { document: 9, start: 9, end: 9, level: 9 };
+const PAIR_PAINT: Pair = Pair { ancestor: NODE_PAINT, descendant: NODE_PAINT };
+const ROW_PAINT: Row = row(NODE_PAINT, 9);
 
 fn starts(pair: Pair) -> (u32, u32) {
     (pair.ancestor.start, pair.descendant.start)
 }
 
-/// The numbers that the C header defines, by name without BELFRY_; macros that are made of others are not among them.
+/// The name and the number of a line of the C header that defines a number, as a macro or as an
+/// enumerator.
+fn header_number(line: &str) -> Option<(String, u32)> {
+    let defined = line.strip_prefix("#define ").unwrap_or(line).trim_start();
+    let mut words = defined.strip_prefix("BELFRY_")?.split_whitespace().filter(|word| *word != "=");
+    let name = words.next()?.to_string();
+    let number = words.next()?.trim_end_matches(['u', ',']).parse().ok()?;
+    Some((name, number))
+}
+
+/// The numbers that the C header defines, by name without BELFRY_; macros that are made of others
+/// are not among them.
 fn header_numbers() -> BTreeMap<String, u32> {
-    let header = include_str!("../../c/belfrychest.h");
-    let mut numbers = BTreeMap::new();
-    for line in header.lines().filter_map(|line| line.strip_prefix("#define BELFRY_")) {
-        let mut words = line.split_whitespace();
-        let name = words.next().expect("a macro has a name");
-        if let Some(Ok(number)) = words.next().map(|word| word.trim_end_matches('u').parse()) {
-            numbers.insert(name.to_string(), number);
-        }
-    }
-    numbers
+    include_str!("../../c/belfrychest.h").lines().filter_map(header_number).collect()
 }
 
 fn binding_numbers() -> BTreeMap<String, u32> {
     let answers = Answer::ALL.iter().map(|answer| (answer.name(), answer.number()));
+    let ticket_words = |placed| Ticket::from_words([0, 0, placed, 0, 0, 0]).to_words();
     let words = [
+        ("VERSION", VERSION as usize),
         ("MOST_NODES", MOST_NODES),
         ("MOST_LEVELS", MOST_LEVELS),
         ("MOST_LISTS", MOST_LISTS),
         ("PRINTED_BYTES", PRINTED_BYTES),
+        ("PAGE_PAIRS", PAGE_PAIRS),
         ("NODE_WORDS", NODE_WORDS),
         ("LINK_WORDS", LINK_WORDS),
         ("ENTRY_WORDS", ENTRY_WORDS),
         ("TICKET_WORDS", TICKET_WORDS),
+        ("TICKET_FORM", TICKET_FORM as usize),
         ("NUMBER_BYTES", NUMBER_BYTES),
         ("CONTENTS_NUMBERS", CONTENTS_NUMBERS),
         ("NAME_BYTES", NAME_BYTES),
@@ -66,8 +97,8 @@ fn binding_numbers() -> BTreeMap<String, u32> {
         ("DIRECTLY", Relation::Directly as usize),
         ("DESCENDANT_ORDER", Order::Descendant as usize),
         ("ANCESTOR_ORDER", Order::Ancestor as usize),
-        ("FRESH", Ticket::fresh(Relation::Inside, Order::Descendant).to_words()[2] as usize),
-        ("PLACED", Ticket::from_words([0, 0, 9, 0, 0, 0]).to_words()[2] as usize),
+        ("FRESH", ticket_words(0)[2] as usize),
+        ("PLACED", ticket_words(9)[2] as usize),
     ];
     answers.chain(words.map(|(name, number)| (name.to_string(), number as u32))).collect()
 }
@@ -78,125 +109,142 @@ fn numbers_are_those_of_the_header() {
     assert_eq!((PAIR_WORDS, ROW_WORDS, MOST_CONTAINING), (8, 5, 63));
 }
 
-/// Nodes side by side, so many.
-fn siblings(count: usize) -> Vec<u32> {
-    (0..count as u32).flat_map(|start| Node { document: 5, start, end: start, level: 1 }.to_words()).collect()
+#[test]
+fn the_archive_is_of_this_version() {
+    assert_eq!(version(), VERSION);
+}
+
+/// This many nodes, side by side.
+fn siblings(count: usize) -> Vec<Node> {
+    (0..count as u32).map(|start| node(start, start, 1)).collect()
 }
 
 #[test]
 fn limits_are_those_of_the_archive() {
     assert_eq!(check(&siblings(MOST_NODES)), Ok(()));
-    assert_eq!(check(&siblings(MOST_NODES + 1)), Err(refusal(Answer::Long, 0, 0)));
-    assert_eq!(check(&[5, 2, 2, MOST_LEVELS as u32]), Ok(()));
-    assert_eq!(check(&[5, 2, 2, MOST_LEVELS as u32 + 1]), Err(refusal(Answer::Level, 0, 0)));
-    let empty_lists = |count: u32| (0..count).flat_map(|tag| [tag, 0]).collect::<Vec<u32>>();
-    let mut book = vec![0xAB; book_bytes(MOST_LISTS + 1, 0)];
-    assert_eq!(book_write(&empty_lists(MOST_LISTS as u32), &[], &mut book), Ok(book_bytes(MOST_LISTS, 0)));
-    assert_eq!(book_write(&empty_lists(MOST_LISTS as u32 + 1), &[], &mut book), Err(refusal(Answer::Contents, 0, 0)));
+    assert_eq!(check(&siblings(MOST_NODES + 1)), Err(refusal(Answer::Long)));
+    assert_eq!(check(&[node(2, 2, MOST_LEVELS as u32)]), Ok(()));
+    let too_deep = [node(2, 2, MOST_LEVELS as u32 + 1)];
+    assert_eq!(check(&too_deep), Err(refusal_at(Answer::Level, 0, 0)));
+    let empty_lists =
+        |lists: usize| (0..lists as u32).map(|tag| Entry { tag, count: 0 }).collect::<Vec<Entry>>();
+    let written = book_write(&empty_lists(MOST_LISTS), &[]).map(|book| book.len());
+    assert_eq!(written, Ok(book_bytes(MOST_LISTS, 0)));
+    assert_eq!(book_write(&empty_lists(MOST_LISTS + 1), &[]), Err(refusal(Answer::Contents)));
 }
 
 #[test]
-fn answers_have_their_numbers_and_no_other_number_has_one() {
+fn answers_have_their_numbers_and_other_numbers_are_unknown() {
     for (number, answer) in Answer::ALL.iter().enumerate() {
         assert_eq!(answer.number() as usize, number);
-        assert_eq!(Answer::from_number(number as u32), Some(*answer));
+        assert_eq!(Answer::from_number(number as u32), *answer);
     }
-    assert_eq!(Answer::from_number(17), None);
-    assert_eq!(raw::name(17), *b"        ");
+    let after_the_last = Answer::ALL.len() as u32;
+    assert_eq!(Answer::from_number(after_the_last), Answer::Unknown(after_the_last));
+    assert_eq!(Answer::Unknown(u32::MAX).number(), u32::MAX);
+    assert_eq!(Answer::Unknown(u32::MAX).name(), "UNKNOWN");
 }
 
 #[test]
-fn a_refusal_is_an_error_that_says_its_name_and_what_to_do() {
-    let error: Box<dyn Error> = check_two(&ZONES, &TURNED).unwrap_err().into();
-    assert_eq!(
-        error.to_string(),
-        "refused 5 ORDER list 1 index 1: sort the nodes by document and start, and keep one of those that start together"
-    );
-    let mut hints: Vec<_> = Answer::ALL.iter().map(|answer| answer.hint()).collect();
+fn a_refusal_is_an_error_that_says_its_name_its_place_and_what_to_do() {
+    let said = |refused: Result<(), Refusal>| -> String {
+        let error: Box<dyn Error> = refused.unwrap_err().into();
+        error.to_string()
+    };
+    let [order, joint, long] = [Answer::Order, Answer::Joint, Answer::Long].map(Answer::hint);
+    let turned = said(check_two(&ZONES, &TURNED));
+    assert_eq!(turned, format!("refused 5 ORDER list 1 index 1: {order}"));
+    assert_eq!(said(check_two(&ZONES, &CROSSING)), format!("refused 8 JOINT: {joint}"));
+    let too_long = said(check_two(&ZONES, &siblings(MOST_NODES + 1)));
+    assert_eq!(too_long, format!("refused 2 LONG list 1: {long}"));
+}
+
+#[test]
+fn each_answer_has_its_own_hint() {
+    let unknown = [Answer::Unknown(17)];
+    let mut hints: Vec<_> =
+        Answer::ALL.iter().chain(&unknown).map(|answer| answer.hint()).collect();
     hints.sort_unstable();
     hints.dedup();
-    assert_eq!(hints.len(), Answer::ALL.len());
+    assert_eq!(hints.len(), Answer::ALL.len() + 1);
 }
 
 #[test]
 fn checks() {
     assert_eq!(check(&ZONES), Ok(()));
     assert_eq!(check(&[]), Ok(()));
-    assert_eq!(check(&TURNED), Err(refusal(Answer::Order, 0, 1)));
-    assert_eq!(check(&ZONES[..7]), Err(refusal(Answer::Ragged, 0, 0)));
+    assert_eq!(check(&TURNED), Err(refusal_at(Answer::Order, 0, 1)));
     assert_eq!(check_two(&ZONES, &SAMPLES), Ok(()));
-    assert_eq!(check_two(&ZONES, &TURNED), Err(refusal(Answer::Order, DESCENDANTS, 1)));
-    assert_eq!(check_two(&TURNED, &SAMPLES), Err(refusal(Answer::Order, ANCESTORS, 1)));
-    assert_eq!(check_two(&ZONES, &CROSSING), Err(refusal(Answer::Joint, 0, 0)));
+    assert_eq!(check_two(&ZONES, &TURNED), Err(refusal_at(Answer::Order, DESCENDANTS, 1)));
+    assert_eq!(check_two(&TURNED, &SAMPLES), Err(refusal_at(Answer::Order, ANCESTORS, 1)));
+    assert_eq!(check_two(&ZONES, &CROSSING), Err(refusal(Answer::Joint)));
+    let long = |list| Refusal { list: Some(list), ..refusal(Answer::Long) };
+    assert_eq!(check_two(&siblings(MOST_NODES + 1), &[]), Err(long(ANCESTORS)));
+    assert_eq!(check_two(&[], &siblings(MOST_NODES + 1)), Err(long(DESCENDANTS)));
 }
 
 #[test]
 fn the_faulty_part_is_a_part_of_the_list_itself() {
     assert_eq!(faulty(&ZONES, &SAMPLES), None);
     let below = faulty(&ZONES, &TURNED).expect("the samples are out of order");
-    assert_eq!(below, Fault { refusal: refusal(Answer::Order, DESCENDANTS, 1), part: &TURNED[4..] });
+    let at_fault = refusal_at(Answer::Order, DESCENDANTS, 1);
+    assert_eq!(below, Fault { refusal: at_fault, part: &TURNED[1..] });
     let turned = TURNED;
     let above = faulty(&turned, &SAMPLES).expect("the ancestors are out of order");
-    assert_eq!(above.refusal, refusal(Answer::Order, ANCESTORS, 1));
-    assert_eq!(above.part.as_ptr_range(), turned[4..].as_ptr_range());
+    assert_eq!(above.refusal, refusal_at(Answer::Order, ANCESTORS, 1));
+    assert_eq!(above.part.as_ptr_range(), turned[1..].as_ptr_range());
     let between = faulty(&ZONES, &CROSSING).expect("the lists are at odds");
-    assert_eq!(between, Fault { refusal: refusal(Answer::Joint, 0, 0), part: &[] });
+    assert_eq!(between, Fault { refusal: refusal(Answer::Joint), part: &[] });
 }
 
 #[test]
 fn pages_go_on_from_their_tickets() {
-    let mut out = painted(&[], 20);
+    let mut out = [PAIR_PAINT; 2];
     let fresh = Ticket::fresh(Relation::Inside, Order::Descendant);
     let first = next_page(&ZONES, &SAMPLES, fresh, &mut out).expect("the farm is taken");
     assert_eq!((first.count, first.done), (2, false));
     assert_eq!(first.ticket.place, Place::After { document: 5, first: 4, second: 3 });
-    assert_eq!(first.pairs(&out).map(starts).collect::<Vec<_>>(), [(2, 4), (3, 4)]);
-    assert_eq!(out[16..], [PAINT; 4]);
+    assert_eq!(out.map(starts), [(2, 4), (3, 4)]);
     let second = next_page(&ZONES, &SAMPLES, first.ticket, &mut out).expect("the farm is taken");
     assert_eq!((second.count, second.done), (1, true));
-    assert_eq!(second.pairs(&out).map(starts).collect::<Vec<_>>(), [(2, 8)]);
+    assert_eq!(out.map(starts), [(2, 8), (3, 4)]);
 }
 
 #[test]
 fn a_refused_page_leaves_the_output() {
-    let mut out = painted(&[], 20);
+    let mut out = [PAIR_PAINT; 2];
     let fresh = Ticket::fresh(Relation::Directly, Order::Ancestor);
-    assert_eq!(next_page(&ZONES, &TURNED, fresh, &mut out), Err(refusal(Answer::Order, DESCENDANTS, 1)));
-    assert_eq!(out, painted(&[], 20));
-    let page = next_page(&ZONES, &SAMPLES, fresh, &mut []).expect("the farm is taken");
-    assert_eq!(page, Page { count: 0, done: false, ticket: fresh });
+    let refused = next_page(&ZONES, &TURNED, fresh, &mut out);
+    assert_eq!(refused, Err(refusal_at(Answer::Order, DESCENDANTS, 1)));
+    assert_eq!(out, [PAIR_PAINT; 2]);
 }
 
 #[test]
-fn tickets_are_stored_as_words_and_as_bytes() {
+fn tickets_are_six_words() {
     let place = Place::After { document: 5, first: 0x0102_0304, second: u32::MAX };
     let ticket = Ticket { relation: Relation::Directly, order: Order::Ancestor, place };
     assert_eq!(ticket.to_words(), [1, 1, 1, 5, 0x0102_0304, u32::MAX]);
     assert_eq!(Ticket::from_words(ticket.to_words()), ticket);
-    let bytes = ticket.to_bytes();
-    assert_eq!(bytes, [1, 0, 0, 0, 1, 0, 0, 0, 1, 0, 0, 0, 5, 0, 0, 0, 4, 3, 2, 1, 255, 255, 255, 255]);
-    assert_eq!(Ticket::from_bytes(bytes), ticket);
+    assert_eq!(Ticket::from_words([9, 9, 9, 5, 0x0102_0304, u32::MAX]), ticket);
     let fresh = Ticket::fresh(Relation::Inside, Order::Descendant);
     assert_eq!(Ticket::from_words([0, 0, 0, 7, 8, 9]), fresh);
-    assert_eq!(Ticket::from_bytes([0; 24]), fresh);
-    assert_eq!(Ticket::from_words([9, 9, 9, 5, 0x0102_0304, u32::MAX]), ticket);
 }
 
 /// The lists of the sample farm in examples/farm.book: zones and samples.
-fn sample_farm() -> (Vec<u32>, Vec<u32>) {
+fn sample_farm() -> (Vec<Node>, Vec<Node>) {
     let book = include_bytes!("../../../examples/farm.book");
-    let list = |tag| body_words(book_body(book, tag).expect("the farm has the tag"));
+    let list = |tag| body_nodes(book_body(book, tag).expect("the farm has the tag"));
     (list(2), list(3))
 }
 
-/// All pairs by page calls with room for so many pairs.
-fn paged(zones: &[u32], samples: &[u32], relation: Relation, order: Order, room: usize) -> Vec<Pair> {
-    let mut out = vec![PAINT; PAIR_WORDS * room];
-    let mut found = Vec::new();
-    let mut ticket = Ticket::fresh(relation, order);
+/// All pairs by page calls with room for this many pairs.
+fn paged(lists: &(Vec<Node>, Vec<Node>), fresh: Ticket, room: usize) -> Vec<Pair> {
+    let (zones, samples) = lists;
+    let (mut out, mut found) = (vec![PAIR_PAINT; room], Vec::new());
+    let mut ticket = fresh;
     loop {
         let page = next_page(zones, samples, ticket, &mut out).expect("the farm is taken");
-        found.extend(page.pairs(&out));
+        found.extend_from_slice(&out[..page.count]);
         if page.done {
             return found;
         }
@@ -205,122 +253,173 @@ fn paged(zones: &[u32], samples: &[u32], relation: Relation, order: Order, room:
 }
 
 #[test]
-fn a_listing_shows_what_page_calls_show() {
+fn the_sample_farm_has_the_pairs_that_the_program_prints() {
     let (zones, samples) = sample_farm();
-    let whole = paged(&zones, &samples, Relation::Inside, Order::Descendant, 64);
-    let printed: String = whole.iter().map(|p| format!("{} {} {}\n", p.ancestor.document, p.ancestor.start, p.descendant.start)).collect();
+    let pairs = listing(&zones, &samples, Relation::Inside, Order::Descendant);
+    let line = |pair: Pair| {
+        let (zone, sample) = starts(pair);
+        format!("{} {zone} {sample}\n", pair.ancestor.document)
+    };
+    let printed: String = pairs.expect("the farm is taken").into_iter().map(line).collect();
     assert_eq!(printed + "pairs 21\n", include_str!("../../../examples/farm.out"));
-    for relation in [Relation::Inside, Relation::Directly] {
-        for order in [Order::Descendant, Order::Ancestor] {
-            let whole = paged(&zones, &samples, relation, order, 64);
-            for room in 1..=whole.len() + 1 {
-                assert_eq!(paged(&zones, &samples, relation, order, room), whole);
-                let listing = Listing::new(&zones, &samples, relation, order, vec![PAINT; PAIR_WORDS * room]);
-                assert_eq!(listing.expect("the farm is taken").collect::<Vec<_>>(), whole);
-            }
+}
+
+#[test]
+fn a_listing_shows_what_page_calls_show() {
+    let farm = sample_farm();
+    let (zones, samples) = &farm;
+    for (relation, order) in [(0, 0), (0, 1), (1, 0), (1, 1)] {
+        let fresh = Ticket::from_words([relation, order, 0, 0, 0, 0]);
+        let Ticket { relation, order, .. } = fresh;
+        let whole = listing(zones, samples, relation, order).expect("the farm is taken");
+        for room in 1..=whole.len() + 1 {
+            assert_eq!(paged(&farm, fresh, room), whole);
+            let listing = Listing::new(zones, samples, relation, order, vec![PAIR_PAINT; room]);
+            assert_eq!(listing.expect("the farm is taken").collect::<Vec<_>>(), whole);
         }
     }
 }
 
 #[test]
 fn a_listing_takes_lent_and_owned_buffers_and_stays_ended() {
-    let mut lent = [PAINT; 9];
-    let mut listing = Listing::new(&ZONES, &SAMPLES, Relation::Directly, Order::Ancestor, &mut lent[..]).expect("the farm is taken");
-    assert_eq!(listing.by_ref().map(starts).collect::<Vec<_>>(), [(2, 8), (3, 4)]);
+    let (relation, order) = (Relation::Directly, Order::Ancestor);
+    let mut lent = [PAIR_PAINT; 3];
+    let mut listing =
+        Listing::new(&ZONES, &SAMPLES, relation, order, &mut lent[..]).expect("the farm is taken");
+    let found: Vec<_> = listing.by_ref().map(starts).collect();
+    assert_eq!(found, [(2, 8), (3, 4)]);
     assert_eq!((listing.next(), listing.next()), (None, None));
-    assert_eq!(lent[8], PAINT);
-    let owned = Listing::new(&ZONES, &SAMPLES, Relation::Directly, Order::Ancestor, [0; 16]).expect("the farm is taken");
-    assert_eq!(owned.map(starts).collect::<Vec<_>>(), [(2, 8), (3, 4)]);
+    assert_eq!(lent[2], PAIR_PAINT);
+    let owned =
+        Listing::new(&ZONES, &SAMPLES, relation, order, [PAIR_PAINT]).expect("the farm is taken");
+    assert_eq!(owned.map(starts).collect::<Vec<_>>(), found);
 }
 
 #[test]
 fn a_listing_is_refused_at_its_start() {
-    let listing = |zones, samples, room| Listing::new(zones, samples, Relation::Inside, Order::Descendant, vec![PAINT; room]).map(|all| all.count());
-    assert_eq!(listing(&ZONES, &TURNED, 8), Err(refusal(Answer::Order, DESCENDANTS, 1)));
-    assert_eq!(listing(&ZONES, &SAMPLES, 7), Err(refusal(Answer::Room, 0, 0)));
-    assert_eq!(listing(&ZONES, &[], 7), Ok(0));
-    assert_eq!(listing(&ZONES, &SAMPLES, 8), Ok(3));
+    let (relation, order) = (Relation::Inside, Order::Descendant);
+    let turned = Err(refusal_at(Answer::Order, DESCENDANTS, 1));
+    assert_eq!(listing(&ZONES, &TURNED, relation, order), turned);
+    let one_by_one = Listing::new(&ZONES, &TURNED, relation, order, [PAIR_PAINT]);
+    assert_eq!(one_by_one.map(Iterator::collect), turned);
 }
 
 #[test]
 fn marks_are_numbered_and_come_back() {
-    let mut out = painted(&[], 31);
-    assert_eq!(number(5, &MARKS, &mut out), Ok(6));
-    assert_eq!(out, painted(&TABLE, 31));
-    let mut back = painted(&[], 12);
-    assert_eq!(unnumber(&TABLE, &mut back), Ok(Unnumbered { document: 5, count: 11 }));
-    assert_eq!(back, painted(&MARKS, 12));
-    let mut zones = painted(&[], 9);
-    assert_eq!(pick(&TABLE, 2, &mut zones), Ok(2));
-    assert_eq!(zones, painted(&ZONES, 9));
+    assert_eq!(number(5, &MARKS), Ok(TABLE.to_vec()));
+    assert_eq!(unnumber(&TABLE), Ok((5, MARKS.to_vec())));
+    assert_eq!(pick(&TABLE, 2), Ok(ZONES.to_vec()));
+    assert_eq!(pick(&TABLE, 9), Ok(Vec::new()));
+}
+
+#[test]
+fn marks_are_numbered_into_an_output_and_come_back() {
+    let mut out = [ROW_PAINT; 7];
+    assert_eq!(number_into(5, &MARKS, &mut out), Ok(6));
+    assert_eq!(out[..], painted(&TABLE, ROW_PAINT, 7));
+    let mut back = [9; 12];
+    assert_eq!(unnumber_into(&TABLE, &mut back), Ok((5, 11)));
+    assert_eq!((&back[..11], back[11]), (&MARKS[..], 9));
+    let mut zones = [NODE_PAINT; 3];
+    assert_eq!(pick_into(&TABLE, 2, &mut zones), Ok(2));
+    assert_eq!(zones[..], painted(&ZONES, NODE_PAINT, 3));
 }
 
 #[test]
 fn marks_and_tables_are_refused() {
-    let mut out = painted(&[], 7);
-    assert_eq!(number(5, &MARKS, &mut out), Err(refusal(Answer::Room, 0, 0)));
-    assert_eq!(number(5, &[1, TEXT + 1], &mut out), Err(refusal(Answer::Mark, 0, 0)));
-    assert_eq!(number(5, &[CLOSE], &mut out), Err(refusal(Answer::Stray, 0, 0)));
-    assert_eq!(number(5, &[1; 65], &mut out), Err(refusal(Answer::Deep, 0, 0)));
-    assert_eq!(number(5, &[], &mut out), Err(refusal(Answer::Unclosed, 0, 0)));
-    assert_eq!(number(5, &[1; MOST_NODES + 1], &mut out), Err(refusal(Answer::Long, 0, 0)));
-    assert_eq!(unnumber(&TABLE, &mut out), Err(refusal(Answer::Room, 0, 0)));
-    assert_eq!(unnumber(&TABLE[5..], &mut out), Err(refusal(Answer::Table, 0, 0)));
-    assert_eq!(pick(&TABLE, 2, &mut out), Err(refusal(Answer::Room, 0, 0)));
-    assert_eq!(pick(&TABLE[1..], 2, &mut out), Err(refusal(Answer::Ragged, 0, 0)));
-    assert_eq!(out, painted(&[], 7));
+    assert_eq!(number(5, &[1, TEXT + 1]), Err(refusal(Answer::Mark)));
+    assert_eq!(number(5, &[CLOSE]), Err(refusal(Answer::Stray)));
+    assert_eq!(number(5, &[1; 65]), Err(refusal(Answer::Deep)));
+    assert_eq!(number(5, &[]), Err(refusal(Answer::Unclosed)));
+    assert_eq!(number(5, &[1; MOST_NODES + 1]), Err(refusal(Answer::Long)));
+    assert_eq!(unnumber(&TABLE[1..]), Err(refusal(Answer::Table)));
+    assert_eq!(unnumber(&[TABLE[0]; MOST_NODES + 1]), Err(refusal(Answer::Long)));
+    assert_eq!(pick(&[TABLE[0]; MOST_NODES + 1], 2), Err(refusal(Answer::Long)));
+}
+
+#[test]
+fn short_outputs_are_refused_and_left() {
+    let room = refusal(Answer::Room);
+    let (mut rows, mut marks, mut nodes) = ([ROW_PAINT; 5], [9; 10], [NODE_PAINT]);
+    assert_eq!(number_into(5, &MARKS, &mut rows), Err(room));
+    assert_eq!(unnumber_into(&TABLE, &mut marks), Err(room));
+    assert_eq!(pick_into(&TABLE, 2, &mut nodes), Err(room));
+    assert_eq!((rows, marks, nodes), ([ROW_PAINT; 5], [9; 10], [NODE_PAINT]));
+    let (mut links, mut book) = ([Link::default()], [9; 91]);
+    assert_eq!(links_into(&ZONES, &mut links), Err(room));
+    assert_eq!(book_write_into(&ENTRIES, &farm_nodes(), &mut book), Err(room));
+    assert_eq!((links, book), ([Link::default()], [9; 91]));
 }
 
 #[test]
 fn nodes_are_linked() {
-    let mut out = painted(&[], 7);
-    assert_eq!(links(&ZONES, &mut out), Ok(2));
-    assert_eq!(out, painted(&[NONE, 1, NONE, 0, NONE, NONE], 7));
-    let mut short = painted(&[], 5);
-    assert_eq!(links(&ZONES, &mut short), Err(refusal(Answer::Room, 0, 0)));
-    assert_eq!(links(&TURNED, &mut short), Err(refusal(Answer::Order, 0, 1)));
-    assert_eq!(short, painted(&[], 5));
+    let list = [ZONES[0], ZONES[1], SAMPLES[1]];
+    let linked = links(&list).expect("the list is taken");
+    let shown: Vec<_> =
+        linked.iter().map(|l| [l.parent(), l.first_child(), l.next_sibling()]).collect();
+    assert_eq!(shown, [[None, Some(1), None], [Some(0), None, Some(2)], [Some(0), None, None]]);
+    assert_eq!(words(&linked), [NONE, 1, NONE, 0, NONE, 2, 0, NONE, NONE]);
+    let mut out = [linked[1]; 3];
+    assert_eq!(links_into(&ZONES, &mut out), Ok(2));
+    assert_eq!(words(&out), [NONE, 1, NONE, 0, NONE, NONE, 0, NONE, 2]);
+    assert_eq!(links(&TURNED), Err(refusal_at(Answer::Order, 0, 1)));
+    assert_eq!(links(&siblings(MOST_NODES + 1)), Err(refusal(Answer::Long)));
+}
+
+const BOOK: &[u8; 92] = include_bytes!("../../../examples/figure.book");
+const ENTRIES: [Entry; 2] = [Entry { tag: 2, count: 2 }, Entry { tag: 3, count: 2 }];
+
+fn farm_nodes() -> Vec<Node> {
+    [ZONES, SAMPLES].concat()
 }
 
 #[test]
 fn books_are_written_and_read() {
-    let stored = include_bytes!("../../../examples/figure.book");
-    let nodes = [ZONES, SAMPLES].concat();
-    let mut book = [0xAB; 93];
-    assert_eq!(book_bytes(2, 4), 92);
-    assert_eq!(book_write(&[2, 2, 3, 2], &nodes, &mut book), Ok(92));
-    assert_eq!((&book[..92], book[92]), (&stored[..], 0xAB));
-    assert_eq!(book_check(stored), Ok(2));
-    let body = book_body(stored, 3).expect("the book has the tag");
-    assert_eq!(body.as_ptr_range(), stored[60..].as_ptr_range());
-    assert_eq!(body_words(body), SAMPLES);
+    assert_eq!(book_bytes(2, 4), BOOK.len());
+    assert_eq!(book_write(&ENTRIES, &farm_nodes()), Ok(BOOK.to_vec()));
+    let mut out = [9; 93];
+    assert_eq!(book_write_into(&ENTRIES, &farm_nodes(), &mut out), Ok(92));
+    assert_eq!((&out[..92], out[92]), (&BOOK[..], 9));
+    assert_eq!(book_check(BOOK), Ok(2));
+    let body = book_body(BOOK, 3).expect("the book has the tag");
+    assert_eq!(body.as_ptr_range(), BOOK[60..].as_ptr_range());
+    assert_eq!(body_nodes(body), SAMPLES);
 }
 
 #[test]
 fn books_are_refused() {
     let nodes = [&ZONES[..], &TURNED[..]].concat();
-    let mut out = [0xAB; 91];
-    assert_eq!(book_write(&[2, 2, 3, 3], &nodes, &mut out), Err(refusal(Answer::Order, 1, 1)));
-    assert_eq!(book_write(&[3, 2, 2, 3], &nodes, &mut out), Err(refusal(Answer::Contents, 0, 0)));
-    assert_eq!(book_write(&[2, 4], &[ZONES, SAMPLES].concat()[..15], &mut out), Err(refusal(Answer::Ragged, 0, 0)));
-    assert_eq!(book_write(&[2, 2, 3, 2], &[ZONES, SAMPLES].concat(), &mut out), Err(refusal(Answer::Room, 0, 0)));
-    assert_eq!(out, [0xAB; 91]);
+    let entries = |first, second| [Entry { tag: first, count: 2 }, Entry { tag: second, count: 3 }];
+    assert_eq!(book_write(&entries(2, 3), &nodes), Err(refusal_at(Answer::Order, 1, 1)));
+    assert_eq!(book_write(&entries(3, 2), &nodes), Err(refusal(Answer::Contents)));
 
-    let mut book = *include_bytes!("../../../examples/figure.book");
-    assert_eq!(book_body(&book, 4), Err(refusal(Answer::Absent, 0, 0)));
-    assert_eq!(book_check(&book[..91]), Err(refusal(Answer::Contents, 0, 0)));
+    let mut book = *BOOK;
+    assert_eq!(book_body(&book, 4), Err(refusal(Answer::Absent)));
+    assert_eq!(book_check(&book[..91]), Err(refusal(Answer::Contents)));
     book[60 + 16 + 4] = 4;
-    assert_eq!(book_check(&book), Err(refusal(Answer::Order, 1, 1)));
-    assert_eq!(book_body(&book, 2), Err(refusal(Answer::Order, 1, 1)));
+    assert_eq!(book_check(&book), Err(refusal_at(Answer::Order, 1, 1)));
+    assert_eq!(book_body(&book, 2), Err(refusal_at(Answer::Order, 1, 1)));
 }
 
 #[test]
-fn nodes_and_pairs_are_words() {
-    let node = Node { document: 5, start: 3, end: 7, level: 3 };
-    assert_eq!(nodes(&ZONES).last(), Some(node));
-    assert_eq!(node.to_words(), ZONES[4..]);
-    assert_eq!(nodes(&ZONES[1..]).count(), 1);
-    let pair = Pair { ancestor: Node { document: 5, start: 2, end: 10, level: 2 }, descendant: node };
-    assert_eq!(pairs(&ZONES).collect::<Vec<_>>(), [pair]);
-    assert_eq!(pairs(&ZONES[1..]).count(), 0);
+fn words_are_lent_as_nodes_and_rows_and_back() {
+    let list = [5, 2, 10, 2, 5, 3, 7, 3];
+    let lent = nodes(&list).expect("the words make whole nodes");
+    assert_eq!(lent, ZONES);
+    assert_eq!(words(lent).as_ptr_range(), list.as_ptr_range());
+    assert_eq!(words(&ZONES), list);
+    assert_eq!(rows(words(&TABLE)), Ok(&TABLE[..]));
+    let pair = Pair { ancestor: ZONES[0], descendant: ZONES[1] };
+    assert_eq!(words(&[pair]), list);
+    assert_eq!(words(&ENTRIES), [2, 2, 3, 2]);
+    let mut out = [NODE_PAINT; 2];
+    raw::words_mut(&mut out).copy_from_slice(&list);
+    assert_eq!(out, ZONES);
+}
+
+#[test]
+fn pairs_have_the_keys_of_both_orders() {
+    let pair = Pair { ancestor: ZONES[0], descendant: SAMPLES[1] };
+    assert_eq!(pair.key(Order::Descendant), [5, 8, 2]);
+    assert_eq!(pair.key(Order::Ancestor), [5, 2, 8]);
 }

@@ -1,0 +1,171 @@
+//! What users did by mistake, and lost samples by, each under its name.
+
+use belfrychest::*;
+
+const INSIDE: Relation = Relation::Inside;
+const BY_SAMPLES: Order = Order::Descendant;
+
+fn node(start: u32, end: u32, level: u32) -> Node {
+    Node { document: 5, start, end, level }
+}
+
+fn refusal(answer: Answer) -> Refusal {
+    Refusal { answer, list: None, index: None }
+}
+
+/// A field of 4,500 zones side by side, which is a zone itself, and a sample in each of them.
+fn field() -> (Vec<Node>, Vec<Node>) {
+    let starts = || (1..=4_500).map(|number| 10 * number);
+    let zones = starts().map(|start| node(start, start + 9, 2));
+    let samples = starts().map(|start| node(start + 1, start + 1, 3));
+    ([node(0, 50_000, 1)].into_iter().chain(zones).collect(), samples.collect())
+}
+
+#[test]
+fn lists_that_are_cut_and_joined_piece_by_piece_lose_pairs() {
+    let (zones, samples) = field();
+    let pieces = zones.chunks(MOST_NODES).zip(samples.chunks(MOST_NODES));
+    let joined = pieces.map(|(z, s)| listing(z, s, INSIDE, BY_SAMPLES).expect("taken").len());
+    assert_eq!(joined.sum::<usize>(), 8_595);
+
+    let found = Pieces::new(&zones, &samples).listing(INSIDE, BY_SAMPLES).expect("taken");
+    let with_both = |sample: &Node| {
+        let small = zones[sample.start as usize / 10];
+        [zones[0], small].map(|ancestor| Pair { ancestor, descendant: *sample })
+    };
+    let all: Vec<Pair> = samples.iter().flat_map(with_both).collect();
+    assert_eq!(found.len(), 9_000);
+    assert_eq!(found, all);
+}
+
+#[test]
+fn lists_that_are_cut_are_found_whole_in_every_listing_and_page() {
+    let (zones, samples) = field();
+    let pieces = Pieces::new(&zones, &samples);
+    for (relation, order, count) in [
+        (INSIDE, Order::Descendant, 9_000),
+        (INSIDE, Order::Ancestor, 9_000),
+        (Relation::Directly, Order::Descendant, 4_500),
+        (Relation::Directly, Order::Ancestor, 4_500),
+    ] {
+        let found = pieces.listing(relation, order).expect("the field is taken");
+        assert_eq!(found.len(), count);
+        assert!(found.windows(2).all(|two| two[0].key(order) < two[1].key(order)));
+    }
+    let mut out = [Pair::default(); PAGE_PAIRS];
+    let page = pieces.page(Ticket::fresh(INSIDE, BY_SAMPLES), &mut out).expect("taken");
+    assert_eq!((page.count, page.done), (PAGE_PAIRS, false));
+}
+
+#[test]
+fn the_pieces_that_meet_have_every_pair_once() {
+    let (mut zones, samples) = field();
+    zones.push(Node { document: 6, start: 0, end: 9, level: 1 });
+    let meeting = Pieces::new(&zones, &samples).meeting().expect("the field is taken");
+    assert_eq!(meeting.len(), 4);
+    let list = |(z, s): &(&[Node], &[Node])| listing(z, s, INSIDE, BY_SAMPLES).expect("taken");
+    let mut found: Vec<Pair> = meeting.iter().flat_map(list).collect();
+    found.sort_by_key(|pair| pair.key(BY_SAMPLES));
+    let whole = Pieces::new(&zones, &samples).listing(INSIDE, BY_SAMPLES);
+    assert_eq!(Ok(found), whole);
+}
+
+#[test]
+fn pieces_of_other_documents_do_not_meet() {
+    let of_document = |document: u32| move |node: Node| Node { document, ..node };
+    let (zones, samples) = field();
+    let twice = |list: &[Node]| -> Vec<Node> {
+        let again = list.iter().copied().map(of_document(9));
+        list.iter().copied().chain(again).collect()
+    };
+    let (zones, samples) = (twice(&zones[..MOST_NODES]), twice(&samples[..MOST_NODES]));
+    let meeting = Pieces::new(&zones, &samples).meeting().expect("the fields are taken");
+    let documents: Vec<_> = meeting.iter().map(|(z, s)| (z[0].document, s[0].document)).collect();
+    assert_eq!(documents, [(5, 5), (9, 9)]);
+}
+
+/// What the pieces of a field say of its zones after a change, while each piece alone is taken.
+fn refused_after(change: impl Fn(&mut Vec<Node>)) -> Refusal {
+    let (mut zones, samples) = field();
+    change(&mut zones);
+    assert!(zones.chunks(MOST_NODES).all(|piece| check(piece).is_ok()), "seen by a piece alone");
+    let refused = Pieces::new(&zones, &samples).check().expect_err("the zones are at fault");
+    assert_eq!(Pieces::new(&zones, &samples).listing(INSIDE, BY_SAMPLES), Err(refused));
+    assert_eq!(Pieces::new(&zones, &samples).meeting(), Err(refused));
+    refused
+}
+
+fn at(answer: Answer, index: usize) -> Refusal {
+    Refusal { answer, list: Some(ANCESTORS), index: Some(index) }
+}
+
+#[test]
+fn a_cross_at_the_cut_is_found() {
+    let last_ends_late = refused_after(|zones| zones[MOST_NODES - 1].end += 2);
+    assert_eq!(last_ends_late, at(Answer::Cross, MOST_NODES));
+    let field_ends_early = refused_after(|zones| zones[0].end = zones[4_400].start + 5);
+    assert_eq!(field_ends_early, at(Answer::Cross, 4_400));
+}
+
+#[test]
+fn a_wrong_depth_or_order_at_the_cut_is_found() {
+    assert_eq!(refused_after(|zones| zones[4_400].level = 1), at(Answer::Depth, 4_400));
+    let again = refused_after(|zones| zones[MOST_NODES] = zones[MOST_NODES - 1]);
+    assert_eq!(again, at(Answer::Order, MOST_NODES));
+}
+
+#[test]
+fn a_sample_that_crosses_a_zone_of_another_piece_is_found() {
+    let (zones, mut samples) = field();
+    samples[MOST_NODES - 1].end = zones[MOST_NODES].end + 1;
+    let piece_by_piece = zones.chunks(MOST_NODES).zip(samples.chunks(MOST_NODES));
+    assert!(piece_by_piece.clone().all(|(z, s)| check_two(z, s).is_ok()));
+    assert_eq!(Pieces::new(&zones, &samples).check(), Err(refusal(Answer::Joint)));
+}
+
+#[test]
+fn a_page_with_room_for_no_pair_is_refused() {
+    let (zones, samples) = ([node(2, 10, 2)], [node(4, 6, 4)]);
+    let room = refusal(Answer::Room);
+    let fresh = Ticket::fresh(INSIDE, BY_SAMPLES);
+    let place = Place::After { document: u32::MAX, first: u32::MAX, second: u32::MAX };
+    for ticket in [fresh, Ticket { place, ..fresh }] {
+        assert_eq!(next_page(&zones, &samples, ticket, &mut []), Err(room));
+        assert_eq!(Pieces::new(&zones, &samples).page(ticket, &mut []), Err(room));
+    }
+    let listing = |samples| Listing::new(&zones, samples, INSIDE, BY_SAMPLES, []).map(|_| ());
+    assert_eq!(listing(&samples), Err(room));
+    assert_eq!(listing(&[]), Err(room));
+}
+
+#[test]
+fn a_ticket_of_another_form_is_told() {
+    let place = Place::After { document: 5, first: 0x0102_0304, second: u32::MAX };
+    let ticket = Ticket { relation: Relation::Directly, order: Order::Ancestor, place };
+    let stored = [
+        1, 0, 0, 0, 1, 0, 0, 0, 1, 0, 0, 0, 1, 0, 0, 0, 5, 0, 0, 0, 4, 3, 2, 1, 255, 255, 255, 255,
+    ];
+    assert_eq!(ticket.to_bytes(), stored);
+    assert_eq!(Ticket::from_bytes(&stored), Ok(ticket));
+    let fresh = Ticket::fresh(INSIDE, BY_SAMPLES);
+    assert_eq!(Ticket::from_bytes(&fresh.to_bytes()), Ok(fresh));
+
+    let mut later = stored;
+    later[0] = 2;
+    let said = |stored: &[u8]| Ticket::from_bytes(stored).map_err(|error| error.to_string());
+    let other_form = "the ticket was stored in form 2, and this is form 1";
+    assert_eq!(said(&later), Err(other_form.to_string()));
+    let other_length = "a stored ticket has 28 bytes, and these are 24";
+    assert_eq!(said(&stored[4..]), Err(other_length.to_string()));
+    assert_eq!(Ticket::from_bytes(&[]), Err(StoredTicketError::Length(0)));
+}
+
+#[test]
+fn words_that_are_no_whole_nodes_are_ragged() {
+    let list = [5, 2, 10, 2, 5, 3, 7, 3];
+    for left_over in 1..NODE_WORDS {
+        assert_eq!(nodes(&list[left_over..]), Err(refusal(Answer::Ragged)));
+        assert_eq!(rows(&list[left_over..]).is_ok(), list.len() - left_over == ROW_WORDS);
+    }
+    assert_eq!(nodes(&[]), Ok(&[][..]));
+}
