@@ -1,15 +1,26 @@
-"""The farm of document 01: its marks are numbered, its zones and samples picked and paired; then two samples change places, which is refused."""
+"""The farm of document 01: its marks are numbered, its zones and samples picked and paired; then
+two samples change places, which is refused.
+"""
 from array import array
 
 import belfrychest
+from belfrychest import CLOSE, TEXT, Order, Refused, Relation
 
-table = belfrychest.number(5, array("I", [1, 2, 2, 3, belfrychest.TEXT, 0, 0, 3, 0, 0, 0]))
-zones, samples = belfrychest.pick(table, 2), belfrychest.pick(table, 3)
-found = list(belfrychest.pairs(zones, samples))
-for zone, sample in found:
+FIELD, ZONE, SAMPLE = 1, 2, 3
+marks = array("I", [FIELD, ZONE, ZONE, SAMPLE, TEXT, CLOSE, CLOSE, SAMPLE, CLOSE, CLOSE, CLOSE])
+table = belfrychest.number(5, marks)
+zones = belfrychest.pick(table, ZONE)
+samples = belfrychest.pick(table, SAMPLE)
+
+count = 0
+for zone, sample in belfrychest.pairs(
+        zones, samples, relation=Relation.INSIDE, order=Order.DESCENDANT):
     print(zone.document, zone.start, sample.start)
-print("pairs", len(found))
+    count += 1
+print("pairs", count)
+
 try:
     belfrychest.check_two(zones, samples[4:] + samples[:4])
-except belfrychest.Refused as refused:
-    print(f"refused {refused.number:d} {refused.name} list {refused.list} index {refused.index}")
+except Refused as refused:
+    place = f"list {refused.list} index {refused.index}"
+    print(f"refused {refused.number:d} {refused.name} {place}")

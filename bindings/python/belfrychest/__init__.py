@@ -1,0 +1,42 @@
+"""Belfrychest for Python: every zone with the samples under it, out of the proved archive.
+
+A list is a buffer of 32-bit words, four for each node: document, start, end, level. Any
+C-contiguous memory of such words will do: an array('I'), a memoryview of format 'I', a numpy array
+of uint32, a ctypes array of c_uint32. A book is any bytes, such as a bytearray or a mapped file.
+The archive reads and writes all of it where it lies, and copies nothing. Memory with more than one
+dimension must have the words of one item in its last dimension: a numpy array of nodes has the
+shape (n, 4).
+
+`words` turns tuples into such memory, and `nodes`, `node_pairs`, `rows` and `node_links` read it.
+`pairs` lists the pairs of two lists one by one, `listing` returns all of them in one array, and
+`page` writes one page. These take lists of at most MOST nodes; `Pieces` takes lists of any length.
+
+A refusal of the library is raised as `Refused`, and leaves whatever was lent for writing as it was.
+Memory that can't be lent is a TypeError or a ValueError, and so is a number that doesn't have 32
+bits; neither reaches the archive.
+
+What is proved is proved of lists that stay as they are for the length of a call. So no other Python
+code runs during a call of the archive; but don't lend memory that is written meanwhile by another
+process, or by a read in another thread.
+"""
+from ._answers import Refused, Verdict, name
+from ._books import book_body, book_check, book_lists, book_write, book_write_into, write_book
+from ._lists import check, check_two, faulty, links, links_into, verdict, verdict_two
+from ._marks import number, number_into, pick, pick_into, unnumber, unnumber_into
+from ._memory import Buffer, Words
+from ._nodes import Link, Node, Pair, Row, node_links, node_pairs, nodes, rows, words
+from ._pages import Order, Page, Relation, Ticket, listing, page, pairs
+from ._pieces import Pieces
+from ._table import CLOSE, HINTS, MOST_LEVELS, MOST_LISTS, NONE, PAGE_PAIRS, TEXT
+from ._table import MOST_NODES as MOST
+from ._table import Answer, __version__
+
+__all__ = [
+    "Answer", "Buffer", "CLOSE", "HINTS", "Link", "MOST", "MOST_LEVELS", "MOST_LISTS", "NONE",
+    "Node", "Order", "PAGE_PAIRS", "Page", "Pair", "Pieces", "Refused", "Relation", "Row", "TEXT",
+    "Ticket", "Verdict", "Words", "__version__", "book_body", "book_check", "book_lists",
+    "book_write", "book_write_into", "check", "check_two", "faulty", "links", "links_into",
+    "listing", "name", "node_links", "node_pairs", "nodes", "number", "number_into", "page",
+    "pairs", "pick", "pick_into", "rows", "unnumber", "unnumber_into", "verdict", "verdict_two",
+    "words", "write_book",
+]

@@ -1,0 +1,199 @@
+"""Document 01's figures, every refusal, and the calls that write into the caller's memory."""
+import pickle
+import unittest
+from array import array
+
+from support import (
+    BOOK, ENTRIES, INSIDE, LISTINGS, MARKS, S, TABLE, Z, in_five, model, painted, starts, ticket,
+    words,
+)
+
+import belfrychest as belfry
+from belfrychest import HINTS, NONE, Answer, Node, Page, Refused, Verdict
+
+
+class Figures(unittest.TestCase):
+    """Document 01, Figures to hold against it."""
+
+    def test_marks_are_numbered_and_come_back(self):
+        self.assertEqual(belfry.number(5, MARKS), TABLE)
+        self.assertEqual(belfry.unnumber(TABLE), (5, MARKS))
+
+    def test_tags_are_picked(self):
+        self.assertEqual([belfry.pick(TABLE, tag) for tag in (2, 3, 4)], [Z, S, array("I")])
+
+    def test_listings(self):
+        expected = [[(2, 4), (3, 4), (2, 8)], [(2, 4), (2, 8), (3, 4)], [(3, 4), (2, 8)],
+                    [(2, 8), (3, 4)]]
+        self.assertEqual([starts(belfry.pairs(Z, S, **which)) for which in LISTINGS], expected)
+        self.assertEqual(starts(belfry.pairs(Z, S)), expected[0])
+        self.assertEqual(starts(belfry.pairs(Z, Z)), [(2, 3)])
+        self.assertEqual(next(belfry.pairs(Z, S)), (Node(5, 2, 10, 2), Node(5, 4, 6, 4)))
+
+    def test_pages_of_two(self):
+        out = painted(17)
+        first = belfry.page(Z, S, INSIDE, out)
+        self.assertEqual(first, Page(2, False, ticket(0, 0, 1, 5, 4, 3)))
+        self.assertEqual(out, Z[:4] + S[:4] + Z[4:] + S[:4] + painted(1))
+        last = belfry.page(Z, S, first.ticket, out)
+        self.assertEqual(last, Page(1, True, ticket(0, 0, 1, 5, 8, 2)))
+        self.assertEqual(out, Z[:4] + S[4:] + Z[4:] + S[:4] + painted(1))
+
+    def test_links(self):
+        self.assertEqual(belfry.links(Z).tolist(), [NONE, 1, NONE, 0, NONE, NONE])
+
+    def test_the_book(self):
+        book = belfry.book_write(ENTRIES, Z + S)
+        self.assertEqual((len(book), bytes(book)), (92, BOOK))
+        self.assertEqual(belfry.book_check(BOOK), 2)
+        zones, samples = belfry.book_body(BOOK, 2), belfry.book_body(BOOK, 3)
+        self.assertEqual((zones.tolist(), samples.tolist()), (Z.tolist(), S.tolist()))
+        self.assertEqual(starts(belfry.pairs(zones, samples)), [(2, 4), (3, 4), (2, 8)])
+
+    def test_an_empty_body_is_an_empty_list(self):
+        book = belfry.book_write(array("I", [2, 0, 9, 2]), S)
+        zones, samples = belfry.book_body(book, 2), belfry.book_body(book, 9)
+        self.assertEqual((len(samples), list(belfry.pairs(zones, samples))), (8, []))
+
+    def test_verdicts(self):
+        for nodes, answer, index in (
+            (((1, 5, 1), (5, 7, 2)), Answer.CROSS, 1), (((1, 5, 1), (6, 7, 1)), Answer.TAKEN, None),
+            (((1, 9, 1), (7, 9, 2)), Answer.CROSS, 1), (((1, 9, 1), (7, 8, 2)), Answer.TAKEN, None),
+            (((1, 9, 3), (2, 3, 3)), Answer.DEPTH, 1), (((2, 2, 64),), Answer.TAKEN, None),
+            (((2, 2, 65),), Answer.LEVEL, 0),
+        ):
+            with self.subTest(nodes=nodes):
+                only, second = (None, None) if index is None else (0, 1)
+                found = belfry.verdict(in_five(*nodes))
+                self.assertEqual(found, Verdict(answer, only, index))
+                found = belfry.verdict_two(array("I"), in_five(*nodes))
+                self.assertEqual(found, Verdict(answer, second, index))
+
+    def test_a_list_of_the_greatest_length(self):
+        most = memoryview(words(model.siblings(belfry.MOST, 2)))
+        self.assertIsNone(belfry.check(most))
+        self.assertIsNone(belfry.check_two(most, most))
+        self.assertEqual(len(belfry.links(most)), 3 * belfry.MOST)
+
+    def test_checks_say_nothing_of_accepted_lists(self):
+        self.assertIsNone(belfry.check(Z))
+        self.assertIsNone(belfry.check_two(Z, S))
+        self.assertEqual(len(belfry.faulty(Z, S)), 0)
+
+    def test_names(self):
+        self.assertEqual([belfry.name(number) for number in range(17)], model.NAMES)
+        self.assertEqual([answer.name for answer in Answer], model.NAMES)
+        self.assertEqual((belfry.name(17), belfry.name(NONE)), ("", ""))
+
+
+class Writing(unittest.TestCase):
+    """The calls that write into the caller's memory write their result there, say how much, and
+    leave the rest.
+    """
+
+    def test_into_words(self):
+        for call, count, expected in (
+            (lambda out: belfry.number_into(5, MARKS, out), 6, TABLE),
+            (lambda out: belfry.unnumber_into(TABLE, out), (5, 11), MARKS),
+            (lambda out: belfry.pick_into(TABLE, 3, out), 2, S),
+            (lambda out: belfry.links_into(Z, out), 2, belfry.links(Z)),
+        ):
+            with self.subTest(expected=expected):
+                out = painted(len(expected) + 2)
+                self.assertEqual(call(memoryview(out)[1:]), count)
+                self.assertEqual(out, painted(1) + expected + painted(1))
+
+    def test_into_bytes(self):
+        out = bytearray(b"\xa5" * 94)
+        self.assertEqual(belfry.book_write_into(ENTRIES, Z + S, memoryview(out)[1:]), 92)
+        self.assertEqual(out, b"\xa5" + BOOK + b"\xa5")
+
+
+LEVELS = in_five((4, 6, 4), (8, 9, 0))
+SPANS = in_five((2, 10, 2), (3, 1, 3))
+CROSSED = in_five((1, 5, 1), (5, 7, 2))
+TOO_DEEP = in_five((1, 9, 3), (2, 3, 3))
+LONG = words(model.siblings(4097, 0))
+REFUSALS = [
+    (lambda: belfry.check(array("I", bytes(4 * 16385))), Answer.RAGGED, None, None),
+    (lambda: belfry.check_two(Z[:3], Z), Answer.RAGGED, 0, None),
+    (lambda: belfry.check_two(Z, Z[:3]), Answer.RAGGED, 1, None),
+    (lambda: belfry.page(Z, Z[:3], INSIDE, painted(8)), Answer.RAGGED, 1, None),
+    (lambda: belfry.check(LONG), Answer.LONG, None, None),
+    (lambda: belfry.check_two(LONG, S), Answer.LONG, 0, None),
+    (lambda: belfry.listing(Z, LONG), Answer.LONG, 1, None),
+    (lambda: belfry.check(in_five((2, 2, 65))), Answer.LEVEL, 0, 0),
+    (lambda: next(belfry.pairs(Z, LEVELS)), Answer.LEVEL, 1, 1),
+    (lambda: belfry.check_two(SPANS, S), Answer.SPAN, 0, 1),
+    (lambda: belfry.check_two(Z, S + S), Answer.ORDER, 1, 2),
+    (lambda: belfry.links(CROSSED), Answer.CROSS, 0, 1),
+    (lambda: belfry.page(S, TOO_DEEP, INSIDE, painted(8)), Answer.DEPTH, 1, 1),
+    (lambda: belfry.check_two(in_five((1, 9, 1)), in_five((4, 12, 2))), Answer.JOINT, None, None),
+    (lambda: belfry.number_into(5, MARKS, painted(29)), Answer.ROOM, None, None),
+    (lambda: belfry.unnumber_into(TABLE, painted(10)), Answer.ROOM, None, None),
+    (lambda: belfry.pick_into(TABLE, 2, painted(7)), Answer.ROOM, None, None),
+    (lambda: belfry.links_into(Z, painted(5)), Answer.ROOM, None, None),
+    (lambda: belfry.book_write_into(ENTRIES, Z + S, bytearray(91)), Answer.ROOM, None, None),
+    (lambda: belfry.number(5, array("I", [1, 65537, 0])), Answer.MARK, None, None),
+    (lambda: belfry.number(5, array("I", [0])), Answer.STRAY, None, None),
+    (lambda: belfry.number(5, array("I", [1, 0, 1, 0])), Answer.STRAY, None, None),
+    (lambda: belfry.number(5, array("I", [1] * 65)), Answer.DEEP, None, None),
+    (lambda: belfry.number(5, array("I")), Answer.UNCLOSED, None, None),
+    (lambda: belfry.number(5, array("I", bytes(4 * 4097))), Answer.LONG, None, None),
+    (lambda: belfry.unnumber(TABLE[5:]), Answer.TABLE, None, None),
+    (lambda: belfry.unnumber(TABLE[1:]), Answer.RAGGED, None, None),
+    (lambda: belfry.pick(TABLE[1:], 2), Answer.RAGGED, None, None),
+    (lambda: belfry.book_check(BOOK[:-1]), Answer.CONTENTS, None, None),
+    (lambda: belfry.book_check(model.CASES["third-list-faulty"]), Answer.ORDER, 2, 2),
+    (lambda: belfry.book_body(b"", 2), Answer.CONTENTS, None, None),
+    (lambda: belfry.book_body(model.CASES["span"], 2), Answer.SPAN, 1, 1),
+    (lambda: belfry.book_body(BOOK, 4), Answer.ABSENT, None, None),
+    (lambda: belfry.book_write(array("I", [2, 2, 3]), Z), Answer.RAGGED, None, None),
+    (lambda: belfry.book_write(array("I", [2, 2, 3, 3]), Z + S), Answer.CONTENTS, None, None),
+    (lambda: belfry.book_write(ENTRIES, Z + S[4:] + S[:4]), Answer.ORDER, 1, 1),
+]
+
+
+class Refusals(unittest.TestCase):
+    def test_each_is_raised_with_its_fields_and_none_where_no_place_is_meant(self):
+        for call, number, list_, index in REFUSALS:
+            with self.subTest(number=number, list=list_, index=index):
+                with self.assertRaises(Refused) as raised:
+                    call()
+                refused = raised.exception
+                self.assertEqual((refused.number, refused.name), (number, number.name))
+                self.assertEqual((refused.list, refused.index), (list_, index))
+                self.assertIsInstance(refused.number, Answer)
+
+    def test_every_answer_but_taken_is_tried(self):
+        self.assertEqual({number for _, number, _, _ in REFUSALS}, set(Answer) - {Answer.TAKEN})
+
+    def test_the_message_says_what_and_what_to_do_and_the_place_if_there_is_one(self):
+        for refused, expected in (
+            (Refused(5, 1, 2), "5 ORDER, list 1, index 2: "), (Refused(2, 0), "2 LONG, list 0: "),
+            (Refused(8), "8 JOINT: "),
+        ):
+            self.assertEqual(str(refused), expected + HINTS[refused.number])
+            self.assertEqual(refused.hint, HINTS[refused.number])
+        self.assertEqual((set(HINTS), len(set(HINTS.values()))), (set(Answer), 17))
+
+    def test_it_can_be_pickled(self):
+        again = pickle.loads(pickle.dumps(Refused(6, 1, 7)))
+        self.assertEqual((again.number, again.name, again.list, again.index), (6, "CROSS", 1, 7))
+
+    def test_an_output_is_left_as_it_was(self):
+        out, book = painted(40), bytearray(b"\xa5" * 100)
+        for call in (
+            lambda: belfry.page(Z, S + S, INSIDE, out),
+            lambda: belfry.number_into(5, MARKS[:-1], out),
+            lambda: belfry.unnumber_into(TABLE[5:], out),
+            lambda: belfry.pick_into(TABLE[1:], 2, out),
+            lambda: belfry.links_into(S + S, out),
+            lambda: belfry.book_write_into(ENTRIES, Z + Z + S, book),
+        ):
+            self.assertRaises(Refused, call)
+        self.assertEqual((out, book), (painted(40), b"\xa5" * 100))
+
+
+if __name__ == "__main__":
+    unittest.main()

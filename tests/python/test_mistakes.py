@@ -1,0 +1,146 @@
+"""The mistakes of users that once lost pairs or hid a fault without a word, by name."""
+import unittest
+from array import array
+from inspect import signature
+
+from support import INSIDE, S, Z, painted, starts, ticket, words
+
+import belfrychest as belfry
+from belfrychest import Answer, Order, Pieces, Refused, Relation, Ticket, Verdict
+
+
+class TheOrderGivenAsTheRelation(unittest.TestCase):
+    """`pairs(zones, samples, Order.ANCESTOR)` listed the pairs directly inside, and no others."""
+
+    def test_by_position(self):
+        for call in (
+            lambda: belfry.pairs(Z, S, Order.ANCESTOR),
+            lambda: belfry.pairs(Z, S, Relation.DIRECTLY),
+            lambda: belfry.listing(Z, S, Order.ANCESTOR),
+            lambda: Ticket.fresh(Order.ANCESTOR),
+            lambda: Ticket(Relation.INSIDE, Order.ANCESTOR),
+            lambda: Pieces(Z, S).pairs(Order.ANCESTOR),
+            lambda: Pieces(Z, S).listing(Order.ANCESTOR),
+        ):
+            with self.assertRaisesRegex(TypeError, "positional argument"):
+                call()
+
+    def test_by_the_other_enum_or_a_number(self):
+        for relation, order in (
+            (Order.ANCESTOR, Order.DESCENDANT), (Order.DESCENDANT, Order.DESCENDANT),
+            (1, Order.ANCESTOR), (0, Order.ANCESTOR), (None, Order.ANCESTOR),
+            (Relation.INSIDE, Relation.DIRECTLY), (Relation.INSIDE, 1), (Relation.INSIDE, None),
+        ):
+            cut, message = Pieces(Z, S), "must be of the type (Relation|Order), not"
+            for call, *lists in ((belfry.pairs, Z, S), (belfry.listing, Z, S), (cut.pairs,),
+                                 (cut.listing,), (Ticket,), (Ticket.fresh,)):
+                with self.subTest(relation=relation, order=order, call=call):
+                    with self.assertRaisesRegex(TypeError, message):
+                        call(*lists, relation=relation, order=order)
+
+    def test_all_pairs_come_in_the_order_asked_for(self):
+        self.assertEqual(starts(belfry.pairs(Z, S, order=Order.ANCESTOR)), [(2, 4), (2, 8), (3, 4)])
+
+START, END, LEVEL = 1, 2, 3
+
+
+def field_of(zones):
+    """A zone with `zones` zones side by side in it, and a sample in each of those."""
+    outer = (5, 1, 10 * zones + 20, 1)
+    inner = [(5, 10 * at + 10, 10 * at + 19, 2) for at in range(zones)]
+    return words([outer, *inner]), words((5, start + 4, start + 4, 3) for _, start, _, _ in inner)
+
+
+def by_piece(zones, samples):
+    """What "split it" once made users do: the pieces of both lists, one with one."""
+    step = 4 * belfry.MOST
+    ends = range(0, max(len(zones), len(samples)), step)
+    return [(zones[at:at + step], samples[at:at + step]) for at in ends]
+
+
+class ListsSplitAndJoinedPieceByPiece(unittest.TestCase):
+    def setUp(self):
+        self.zones, self.samples = field_of(4500)
+
+    def test_no_pair_is_lost(self):
+        self.assertEqual((len(self.zones) // 4, len(self.samples) // 4), (4501, 4500))
+        with self.assertRaisesRegex(Refused, "^2 LONG, list 0: .*Pieces"):
+            belfry.listing(self.zones, self.samples)
+        lost = [belfry.listing(*two) for two in by_piece(self.zones, self.samples)]
+        self.assertEqual(sum(map(len, lost)) // 8, 8595)
+        cut = Pieces(self.zones, self.samples)
+        found = cut.listing()
+        starts_of = [(10 * at + 14, zone) for at in range(4500) for zone in (1, 10 * at + 10)]
+        self.assertEqual(list(zip(found[5::8], found[1::8])), starts_of)
+        self.assertEqual(belfry.words(cut.pairs()), found)
+        self.assertEqual(len(cut.meeting()), 4)
+
+    def assert_fault(self, expected):
+        """Each piece passes with the piece that it was joined with, and the whole is refused."""
+        for two in by_piece(self.zones, self.samples):
+            self.assertEqual(belfry.verdict_two(*two).answer, Answer.TAKEN)
+        cut = Pieces(self.zones, self.samples)
+        self.assertEqual(cut.verdict(), expected)
+        for call in (cut.check, cut.listing, cut.meeting, lambda: next(cut.pairs())):
+            with self.assertRaises(Refused) as raised:
+                call()
+            refused = raised.exception
+            self.assertEqual((refused.number, refused.list, refused.index),
+                             (expected.answer, expected.list, expected.index))
+
+    def test_a_zone_that_crosses_the_last_one_before_the_cut_is_found(self):
+        self.zones[4 * 4095 + END] = self.zones[4 * 4096 + START]
+        self.assert_fault(Verdict(Answer.CROSS, 0, 4096))
+
+    def test_a_zone_that_crosses_the_first_one_is_found(self):
+        self.zones[4 * 4500 + END] = self.zones[END]
+        self.assert_fault(Verdict(Answer.CROSS, 0, 4500))
+
+    def test_a_sample_that_crosses_another_over_the_cut_is_found(self):
+        self.samples[4 * 4095 + END] = self.samples[4 * 4096 + START]
+        self.zones = self.zones[:4]
+        self.assert_fault(Verdict(Answer.CROSS, 1, 4096))
+
+    def test_a_level_that_is_too_low_after_the_cut_is_found(self):
+        self.zones[4 * 4097 + LEVEL] = self.zones[LEVEL]
+        self.assert_fault(Verdict(Answer.DEPTH, 0, 4097))
+
+    def test_a_wrong_order_at_the_cut_is_found(self):
+        self.zones[4 * 4096:4 * 4097] = self.zones[4 * 4095:4 * 4096]
+        self.assert_fault(Verdict(Answer.ORDER, 0, 4096))
+
+    def test_a_zone_and_a_sample_at_odds_in_different_pieces_are_found(self):
+        """The last sample is given the end of the first zone, and its own zone is taken away."""
+        self.samples[-4 + END] = self.zones[END]
+        del self.zones[-4:]
+        self.assert_fault(Verdict(Answer.JOINT))
+
+
+class APageWithRoomForNoPair(unittest.TestCase):
+    """Such a page is never done while a pair remains, so a loop "until done" didn't end."""
+
+    def test_it_is_an_error_and_writes_nothing(self):
+        for room in (0, 1, 7):
+            out, message = painted(room), f"room for a pair, 8 words, not {room}"
+            self.assertRaisesRegex(ValueError, message, belfry.page, Z, S, INSIDE, out)
+            self.assertRaisesRegex(ValueError, message, Pieces(Z, S).page, INSIDE, out)
+            self.assertEqual(out, painted(room))
+
+    def test_it_is_one_even_where_nothing_is_left(self):
+        last = ticket(0, 0, 1, 5, 8, 2)
+        self.assertRaisesRegex(ValueError, "room for a pair", belfry.page, Z, S, last, array("I"))
+
+    def test_it_is_one_for_whole_listings(self):
+        for room in (0, -1):
+            self.assertRaisesRegex(ValueError, "at least 1", belfry.pairs, Z, S, room=room)
+            self.assertRaisesRegex(ValueError, "at least 1", Pieces(Z, S).pairs, room=room)
+        self.assertRaises(TypeError, belfry.pairs, Z, S, room=1.5)
+
+    def test_small_pages_are_nobodys_default(self):
+        """Each page checks both lists, so a page of few pairs costs as much as one of 4,096."""
+        for call in (belfry.pairs, Pieces.pairs):
+            self.assertEqual(signature(call).parameters["room"].default, 4096)
+
+
+if __name__ == "__main__":
+    unittest.main()

@@ -1,0 +1,115 @@
+"""Random lists, marks, tables and books, most of them accepted or one number away from it, answered
+by the archive as by the naive model.
+"""
+import random
+import unittest
+from array import array
+from itertools import chain
+
+from support import (
+    LISTINGS, damaged, forest, listing, model, numbered, random_marks, random_tree, some_of,
+    two_lists, unnumbered, words,
+)
+
+import belfrychest as belfry
+from belfrychest import Answer, Refused
+
+
+class AgainstTheModel(unittest.TestCase):
+    def test_lists(self):
+        rng, answers = random.Random(3), set()
+        for _ in range(1000):
+            tree = random_tree(rng)
+            zones, samples = damaged(rng, some_of(rng, tree)), damaged(rng, some_of(rng, tree))
+            expected = two_lists(zones, samples)
+            self.assertEqual(belfry.verdict_two(words(zones), words(samples)), expected)
+            answers.add(expected.answer)
+            faulty = None if expected.list is None else (zones, samples)[expected.list]
+            blamed = [] if faulty is None else faulty[expected.index:]
+            part = belfry.faulty(words(zones), words(samples))
+            self.assertEqual(part.tolist(), words(blamed).tolist())
+            if expected.answer == Answer.TAKEN:
+                which = rng.choice(LISTINGS)
+                found = belfry.listing(words(zones), words(samples), **which)
+                self.assertEqual(list(belfry.node_pairs(found)), listing(zones, samples, **which))
+                self.assertEqual(belfry.links(words(zones)), words(forest(zones)))
+        self.assertEqual(answers, {Answer.TAKEN} | set(map(Answer, range(3, 9))))
+
+    def test_marks(self):
+        rng, answers = random.Random(4), set()
+        for _ in range(300):
+            marks = random_marks(rng, rng.randint(0, 12))
+            if rng.random() < 0.5:
+                marks[rng.randrange(len(marks))] = rng.choice((0, 1, 65536, 65537))
+            answer, rows = numbered(7, marks)
+            answers.add(answer)
+            found = self.answered(belfry.number, 7, array("I", marks))
+            self.assertEqual(found, (answer, words(rows)))
+        self.assertEqual(answers, {"TAKEN", "MARK", "STRAY", "UNCLOSED"})
+
+    def test_tables(self):
+        rng, answers = random.Random(5), set()
+        for _ in range(300):
+            rows = [list(row) for row in numbered(7, random_marks(rng, rng.randint(0, 12)))[1]]
+            if rng.random() < 0.5:
+                rng.choice(rows)[rng.randrange(5)] += rng.choice((1, -1))
+            rows = [tuple(row) for row in rows]
+            answer, marks = unnumbered(rows)
+            answers.add(answer)
+            expected = (rows[0][0], array("I", marks)) if answer == "TAKEN" else array("I")
+            self.assertEqual(self.answered(belfry.unnumber, words(rows)), (answer, expected))
+            tag = rng.randint(1, 3)
+            picked = words(row[:4] for row in rows if row[4] == tag)
+            self.assertEqual(belfry.pick(words(rows), tag), picked)
+        self.assertEqual(answers, {"TAKEN", "TABLE"})
+
+    def test_books(self):
+        rng = random.Random(6)
+        for _ in range(300):
+            tags = rng.sample(range(9), rng.randint(0, 3))
+            lists = {tag: damaged(rng, some_of(rng, random_tree(rng, 4))) for tag in tags}
+            ordered = sorted(lists.items())
+            entries = [(tag, len(nodes)) for tag, nodes in ordered]
+            nodes = words(node for _, part in ordered for node in part)
+            expected = model.write(entries, nodes.tolist())
+            self.assertEqual(self.placed(belfry.book_write, words(entries), nodes), expected)
+            given = {tag: words(part) for tag, part in lists.items()}
+            self.assertEqual(self.placed(belfry.write_book, given), expected)
+            self.check_reading(model.book(*ordered), ordered)
+
+    def check_reading(self, book, ordered):
+        answer, number, index, _ = model.read(book)
+        count = len(ordered) if answer == "TAKEN" else b""
+        self.assertEqual(self.placed(belfry.book_check, book), (answer, number, index, count))
+        if answer == "TAKEN":
+            found = {tag: part.tolist() for tag, part in belfry.book_lists(book).items()}
+            self.assertEqual(list(found.items()),
+                             [(tag, list(chain.from_iterable(part))) for tag, part in ordered])
+
+    def test_damaged_books(self):
+        """Books with some thousand nodes are left out: the model compares each node with each."""
+        for name, book in model.CASES.items():
+            if len(book) > 2000:
+                continue
+            with self.subTest(book=name):
+                answer, number, index, entries = model.read(book)
+                count = len(entries) if answer == "TAKEN" else b""
+                found = self.placed(belfry.book_check, book)
+                self.assertEqual(found, (answer, number, index, count))
+
+    def answered(self, function, *arguments):
+        answer, _, _, result = self.placed(function, *arguments)
+        return answer, result if answer == "TAKEN" else array("I")
+
+    def placed(self, function, *arguments):
+        """The answer's name, list and index, and what the call returned; no bytes where it was
+        refused. The model says 0 where no place is meant.
+        """
+        try:
+            return "TAKEN", 0, 0, function(*arguments)
+        except Refused as refused:
+            return refused.name, refused.list or 0, refused.index or 0, b""
+
+
+if __name__ == "__main__":
+    unittest.main()
