@@ -210,6 +210,14 @@ def farm_book(all_rows):
     return book((2, of("zone")), (3, of("sample")), (65536, of("text")))
 
 
+def farm_csv(all_rows):
+    """The lists of the farm's book as `python -m belfrychest` unpacks them."""
+    lines = ["tag,document,start,end,level"]
+    for tag, kind in (2, "zone"), (3, "sample"), (65536, "text"):
+        lines += [",".join(map(str, (tag, *r[:4]))) for r in all_rows if r[4] == kind]
+    return "\n".join([*lines, ""])
+
+
 def farm_text(all_rows, listing):
     said = ["farm.book: a farm of four fields, each a document, with its zones (tag 2), the samples taken in them (tag 3) and the samples' lab",
             "numbers, which are texts (tag 65536). River Meadow has a sample outside every zone (R3). Chalk Hill has one too (H1), a zone without a",
@@ -224,6 +232,16 @@ def farm_text(all_rows, listing):
         said.append(f"  {line:12}  {named[document, zone]}, {named[document, sample]}")
     said += [f"  {listing.splitlines()[-1]}", ""]
     return "\n".join(said)
+
+
+# A field in which one sample, 180 to 215, was drawn past the end of its zone, 160 to 210.
+
+REFUSED = book(
+    (2, [(12, 10, 290, 1), (12, 20, 140, 2), (12, 30, 90, 3), (12, 40, 70, 4), (12, 100, 130, 3),
+         (12, 150, 280, 2), (12, 160, 210, 3), (12, 220, 270, 3), (12, 230, 250, 4)]),
+    (3, [(12, 22, 28, 3), (12, 45, 50, 5), (12, 55, 65, 5), (12, 75, 85, 4), (12, 105, 125, 4),
+         (12, 165, 170, 4), (12, 180, 215, 4), (12, 232, 238, 5), (12, 240, 245, 5),
+         (12, 255, 265, 4), (12, 275, 278, 3)]))
 
 
 # The books of the figures. The name of each says what is the matter with it.
@@ -337,6 +355,8 @@ def main():
         (examples / f"{name}.book").write_bytes(b)
         (examples / f"{name}.txt").write_text(text)
         (examples / f"{name}.out").write_text(printed(b))
+    (examples / "farm.csv").write_text(farm_csv(farm_rows))
+    (examples / "refused.book").write_bytes(REFUSED)
     (program / "stdin").write_bytes(farm)
     (program / "stdout").write_text(printed(farm))
     (figures / "data").mkdir(exist_ok=True)
