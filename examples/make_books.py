@@ -3,7 +3,7 @@
 
 Run it in the repository's root: python3 examples/make_books.py
 
-The books are put together number by number, and what they answer is worked out here from the scope document's words alone, naively
+The books are put together number by number, and what they answer is worked out here from the scope's words alone, naively
 and pair by pair: nothing of the library is called. So the stored outputs say what the program has to print, and not what it printed.
 """
 import struct
@@ -130,14 +130,14 @@ def printed(b):
     return "".join(f"{d} {x} {y}\n" for d, y, x in pairs) + f"pairs {len(pairs)}\n"
 
 
-# The book of the scope document's figures: two zones and two samples.
+# The book of the scope's figures: two zones and two samples.
 
 Z = [(5, 2, 10, 2), (5, 3, 7, 3)]
 S = [(5, 4, 6, 4), (5, 8, 9, 3)]
 FIGURE = book((2, Z), (3, S))
 
 FIGURE_TEXT = """\
-figure.book: the scope document's example, 92 bytes.
+figure.book: the scope's example, 92 bytes.
 
 Document 5 has two zones (tag 2): one from 2 to 10, and inside it one from 3 to 7. It has two samples (tag 3): one from 4 to 6, which lies in
 both zones, and one from 8 to 9, which lies in the outer zone alone. The contents take 28 bytes, so the bodies start at 28 and at 60.

@@ -1,7 +1,7 @@
 /* Belfrychest for C99 and C++: it pairs every zone with the samples under it, and loses none.
  *
  * A node is four numbers: document, start, end, level. A list is an array of nodes. A listing joins
- * two lists: the ancestors (zones) and the descendants (samples). Document 01 says what each number
+ * two lists: the ancestors (zones) and the descendants (samples). docs/SCOPE.md says what each number
  * means; this header says what a caller has to know of each call.
  *
  * What the library does can be called in two ways:

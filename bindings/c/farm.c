@@ -1,4 +1,4 @@
-/* The farm of document 01, two zones and two samples. Prints all its pairs, and then what a call
+/* The farm of docs/SCOPE.md, two zones and two samples. Prints all its pairs, and then what a call
  * with the samples in the wrong order is refused with. */
 #include <stdio.h>
 

@@ -1,4 +1,4 @@
-"""The farm of document 01: its marks are numbered, its zones and samples picked and paired; then
+"""The farm of docs/SCOPE.md: its marks are numbered, its zones and samples picked and paired; then
 two samples change places, which is refused.
 """
 from array import array

@@ -1,4 +1,4 @@
-"""What the tests share: document 01's figures, random lists, and a naive model of its words."""
+"""What the tests share: the scope's figures, random lists, and a naive model of its words."""
 import os
 import subprocess
 import sys

@@ -1,7 +1,7 @@
 """The command line: each command, both outputs, every exit status, and the place of every fault.
 
 Most of it runs in this process; what only a process can show comes last. Where a fault and its
-partner are is worked out here too, naively, from document 01's words.
+partner are is worked out here too, naively, from the scope's words.
 """
 import csv
 import io

@@ -1,4 +1,4 @@
-"""Document 01's figures, every refusal, and the calls that write into the caller's memory."""
+"""The scope's figures, every refusal, and the calls that write into the caller's memory."""
 import pickle
 import unittest
 from array import array
@@ -13,7 +13,7 @@ from belfrychest import HINTS, NONE, Answer, Node, Page, Refused, Verdict
 
 
 class Figures(unittest.TestCase):
-    """Document 01, Figures to hold against it."""
+    """docs/SCOPE.md, Figures to hold against it."""
 
     def test_marks_are_numbered_and_come_back(self):
         self.assertEqual(belfry.number(5, MARKS), TABLE)

@@ -1,4 +1,4 @@
-//! Tests of the library from outside: a model of document 01, makers of random cases, the stored
+//! Tests of the library from outside: a model of docs/SCOPE.md, makers of random cases, the stored
 //! cases, and each call of the C interface held against the model.
 
 pub mod asking;

@@ -1,4 +1,4 @@
-//! The figures of document 01, word for word, of the library and of the model alike.
+//! The figures of docs/SCOPE.md, word for word, of the library and of the model alike.
 
 use belfrychest::raw::{self, Ticket};
 use outside::asking::{self, TAKEN};

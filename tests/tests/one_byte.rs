@@ -1,4 +1,4 @@
-//! All books that differ from the scope document's in one byte, against the model.
+//! All books that differ from the scope's in one byte, against the model.
 
 use belfrychest::raw;
 use outside::asking::{self, TAKEN};

@@ -158,7 +158,7 @@ def pairs(ancestors: Buffer, descendants: Buffer, *, relation: Relation = Relati
     Between two pairs the lists may be edited, and the next page sees it. When the listing ends,
     every pair that stood in the lists unaltered at each page has been handed out. Each pair handed
     out stood in the lists of its own page, and no two had the same document and the same two
-    starts. A node of which a word was changed is another node (document 01, Listings and tickets).
+    starts. A node of which a word was changed is another node (docs/SCOPE.md, Listings and tickets).
     A page that is refused raises `Refused` and ends the listing; to go on after a repair, call
     `page` and keep its tickets.
     """

@@ -34,7 +34,7 @@ PLACED = 1
 
 
 class Answer(IntEnum):
-    """The answers by number (document 01, Answer numbers)."""
+    """The answers by number (docs/SCOPE.md, Answer numbers)."""
 
     TAKEN = 0
     RAGGED = 1

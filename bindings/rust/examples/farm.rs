@@ -1,4 +1,4 @@
-//! The farm of document 01, two zones and two samples: all its pairs, then a check with the samples
+//! The farm of docs/SCOPE.md, two zones and two samples: all its pairs, then a check with the samples
 //! in the wrong order, which is refused.
 use belfrychest::{check_two, Listing, Node, Order, Pair, Refusal, Relation, PAGE_PAIRS};
 

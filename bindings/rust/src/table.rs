@@ -3,7 +3,7 @@
 /// The version of the library that this crate is made for.
 pub const VERSION: u32 = 1;
 
-/// What a call can answer, by the numbers of document 01, Answer numbers.
+/// What a call can answer, by the numbers of docs/SCOPE.md, Answer numbers.
 #[derive(Clone, Copy, Debug, PartialEq, Eq, Hash)]
 #[non_exhaustive]
 pub enum Answer {

@@ -1,4 +1,4 @@
-//! Every function of the binding on the farm of document 01, taken and refused; the iterator
+//! Every function of the binding on the farm of docs/SCOPE.md, taken and refused; the iterator
 //! against page calls; numbers against the C header.
 
 use belfrychest::*;

@@ -1,6 +1,7 @@
--- Words stored right after those that were written, or right before them, lengthen what is written;
--- so an output is filled word by word, from either end. A store one place off, one that reached beyond
--- the result, or a refusal that altered a word would fall here.
+-- Why it holds: Words stored right after those that were written, or right before them, lengthen
+-- what is written; so an output is filled word by word, from either end.
+-- What would break it: A store one place off, one that reached beyond the result, or a refusal that
+-- altered a word would be caught here.
 use mathlib.Core.Path.{_≡_, refl, sym, ap, _∙_}
 use mathlib.Core.Logic.{inl, inr}
 use mathlib.Core.Bool.{true}
@@ -30,7 +31,7 @@ module _ {A : Type 0} (words : A → List ℕ) (width : ℕ) (wide : (x : A) →
       ap (λ k. width * k) (sym (add-one (length xs))) ∙ mul-add width (length xs) 1 ∙ ap (λ k. width * length xs + k) (mul-one width) in
       omega arith
 
--- the words of items, one behind the other
+-- the words of items, one after the other
 module _ {A : Type 0} (words : A → List ℕ) where
   pub words-append : (xs ys : List A) → wordsIn words (xs ++ ys) ≡ wordsIn words xs ++ wordsIn words ys
   unfolding wordsIn flatMap
@@ -41,7 +42,7 @@ module _ {A : Type 0} (words : A → List ℕ) where
   unfolding wordsIn flatMap
   words-one-more xs x = words-append xs (x ∷ []) ∙ ap (λ zs. wordsIn words xs ++ zs) (append-nil (words x))
 
--- words stored, and others behind them
+-- words stored, and others after them
 pub sets-more : (us vs ws : List ℕ) (at next : ℕ) → next ≡ at + length us → sets (sets ws at us) next vs ≡ sets ws at (us ++ vs)
 sets-more [] vs ws at next q =
     let e : next ≡ at = omega arith in
@@ -65,17 +66,17 @@ sets-written us out h =
     let e : 0 + length us ≡ length us = omega arith in
     sets-eq us out 0 (omega arith) ∙ ap (λ k. us ++ drop k out) e
 
--- words stored behind others
+-- words stored after others
 pub sets-behind : (front rest vs : List ℕ) → length front + length vs ≤ length (front ++ rest)
     → sets (front ++ rest) (length front) vs ≡ front ++ vs ++ drop (length vs) rest
 sets-behind front rest vs h = rw (sets-eq vs (front ++ rest) (length front) h, take-append-seam front rest, drop-append-add front rest (length vs))
 
--- words written behind others that were written
+-- words written after others that were written
 pub written-behind : (us vs rest : List ℕ) → us ++ written vs (drop (length us) rest) ≡ written (us ++ vs) rest
 unfolding written
 written-behind us vs rest = rw (drop-drop (length vs) (length us) rest, length-append us vs) (sym (append-assoc us vs _))
 
--- words stored behind those that were written
+-- words stored after those that were written
 pub written-more : (us vs out : List ℕ) → length us + length vs ≤ length out → sets (written us out) (length us) vs ≡ written (us ++ vs) out
 unfolding written
 written-more us vs out h =
@@ -139,7 +140,8 @@ module _ (fault : ℕ) (result out : List ℕ) where
   unfolding outputOf
   refused-alters-nothing count h = (if-refused count 0 h, if-refused (written result out) out h)
 
-  -- and no call alters a word beyond its result: after the items that it counts, of `width` words each, come the words that were there,
+  -- and no call alters a word beyond its result: after the items that it counts, of `width` words
+  -- each, come the words that were there,
   pub beyond-unaltered : (width count words : ℕ) → length result ≡ width * count → words ≡ width * ifTaken fault result out count 0
       → drop words (outputOf fault result out) ≡ drop words out
   unfolding outputOf ifTaken written

@@ -1,5 +1,6 @@
--- Document 01, "Answer numbers": a call writes its result at the beginning of the output and alters no word beyond it; where the output is shorter
--- than the result, or the call has another fault, it alters none.
+-- docs/SCOPE.md, "Answer numbers": a call writes its result at the beginning of the output and
+-- alters no word beyond it; where the output is shorter than the result, or the call has another
+-- fault, it alters none.
 use Prim.Native.Nat.{ℕ}
 use mathlib.Core.Bool.{cond}
 use mathlib.Core.List.{List, _++_, flatMap}

@@ -1,4 +1,5 @@
--- What a check answers: document 01's number, the list that it names, and the faulty node's index; and what a call answers that counts what it wrote.
+-- What a check answers: the scope's number, the list that it names, and the faulty node's index;
+-- and what a call answers that counts what it wrote.
 use Prim.Native.Nat.{ℕ}
 use mathlib.Core.Bool.{Bool, not}
 use lib.Dec.{eqb}

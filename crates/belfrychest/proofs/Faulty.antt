@@ -1,6 +1,7 @@
--- A part that isn't empty starts at the node that the verdict names and goes to the end of the list
--- that it names; an empty one has no words. A place or a length with which C would read other words
--- would fall here.
+-- Why it holds: A part that isn't empty starts at the node that the verdict names and goes to the
+-- end of the list that it names; an empty one has no words.
+-- What would break it: A place or a length with which C would read other words would be caught
+-- here.
 use mathlib.Core.Path.{_≡_, refl}
 use mathlib.Core.Logic.{inl, inr}
 use mathlib.Core.Bool.{Bool, true, false, cond}

@@ -1,6 +1,7 @@
--- The words that come back stand for the ticket that the library returns, so each next call from C
--- is the library's next call. Words that stood for another ticket after any page, or that a refusal
--- altered, would fall here.
+-- Why it holds: The words that come back stand for the ticket that the library returns, so each
+-- next call from C is the library's next call.
+-- What would break it: Words that stood for another ticket after any page, or that a refusal
+-- altered, would be caught here.
 use mathlib.Core.Path.{_≡_, refl, ap, _∙_}
 use mathlib.Core.List.{List, [], _∷_, _++_}
 use borrow.Author.Tests.{ne-eqb}

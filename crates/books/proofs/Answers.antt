@@ -1,5 +1,6 @@
--- A body is checked node by node, and its length is settled by the contents; so a book draws CONTENTS or a node's own answer, or is taken.
--- RAGGED or LONG drawn by a body would fall here.
+-- Why it holds: A body is checked node by node, and its length is settled by the contents; so a
+-- book draws CONTENTS or a node's own answer, or is taken.
+-- What would break it: RAGGED or LONG drawn by a body would be caught here.
 use mathlib.Core.Path.{_≡_, refl}
 use mathlib.Core.Logic.{_⊎_, inl, inr}
 use mathlib.Core.Bool.{Bool, cond}

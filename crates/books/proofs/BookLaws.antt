@@ -1,5 +1,8 @@
--- A body that the contents name has sixteen bytes for each of its nodes and not too many, so its bytes are judged as its nodes are; the first
--- body that isn't accepted decides on the book. A body checked out of turn, or one that reaches beyond the book, would fall here.
+-- Why it holds: A body that the contents name has sixteen bytes for each of its nodes and not too
+-- many, so its bytes are judged as its nodes are; the first body that isn't accepted decides on the
+-- book.
+-- What would break it: A body checked out of turn, or one that reaches beyond the book, would be
+-- caught here.
 use mathlib.Core.Path.{_≡_, refl}
 use mathlib.Core.Logic.{inl, inr}
 use mathlib.Core.Bool.{true, false}

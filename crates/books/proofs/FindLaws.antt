@@ -1,6 +1,7 @@
--- A book that is refused has no list anywhere, and one that is taken has those that its contents
--- count, each the first of its tag, since tags ascend. A list found in a refused book, one after
--- the last, or another list of the same tag would fall here.
+-- Why it holds: A book that is refused has no list anywhere, and one that is taken has those that
+-- its contents count, each the first of its tag, since tags ascend.
+-- What would break it: A list found in a refused book, one after the last, or another list of the
+-- same tag would be caught here.
 use mathlib.Core.Path.{_≡_, refl, sym, ap, _∙_}
 use mathlib.Core.Bool.{true, false}
 use mathlib.Core.List.{List, [], _∷_, map}
@@ -61,7 +62,8 @@ pub book-faultless : (book : List ℕ) → bookVerdict book .answer ≡ TAKEN �
 unfolding bookVerdict
 book-faultless book t = parts-faultless (contentsFault book) (map (nodesOf book) (contentsOf book)) t
 
--- tags that strictly ascend: a list's tag is below all later ones, so each list is the first of its own tag
+-- tags that strictly ascend: a list's tag is below all later ones, so each list is the first of its
+-- own tag
 above-all : (e : Entry) (es : List Entry) → ascendb (e ∷ es) ≡ true → (i : ℕ) → i < length es → e .tag < getD es i (entry 0 0 0) .tag
 unfolding ascendb
 above-all e [] a i h = absurd (omega arith)

@@ -1,4 +1,4 @@
--- Document 01, "The field book": its bodies, and the answer for a book.
+-- docs/SCOPE.md, "The field book": its bodies, and the answer for a book.
 use Prim.Native.Nat.{ℕ, suc, _*_}
 use mathlib.Core.Bool.{cond}
 use mathlib.Core.List.{List, [], _∷_, map}
@@ -31,7 +31,8 @@ listAt book position = numbers (bodyOf book (entryAt book position))
 unfoldable pub nodesOf : List ℕ → Entry → List Node
 nodesOf book e = nodes (numbers (bodyOf book e))
 
--- the bodies in order, from a list's number on: the first that isn't accepted, with that number and the node's index
+-- the bodies in order, from a list's number on: the first that isn't accepted, with that number and
+-- the node's index
 unfoldable pub checkBodies : ℕ → List (List Node) → Verdict
 checkBodies list [] = taken
 checkBodies list (ns ∷ later) = cond (refusedb (checkNodes ns)) (inList list (checkNodes ns)) (checkBodies (suc list) later)

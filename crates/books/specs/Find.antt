@@ -1,4 +1,4 @@
--- Document 01, "The field book": a list of a book by its tag or by its place, or ABSENT.
+-- docs/SCOPE.md, "The field book": a list of a book by its tag or by its place, or ABSENT.
 use Prim.Native.Nat.{ℕ, _*_}
 use mathlib.Core.Bool.{Bool, cond}
 use mathlib.Core.List.{List}
@@ -21,7 +21,8 @@ tagAt tag es = firstAt (λ e. eqb (e .tag) tag) es
 abbrev pub found : Verdict → ℕ → ℕ → Found
 found v from bytes = record { verdict = v; from = from; bytes = bytes }
 
--- the list at a place: the book's own answer, then ABSENT, where the book has fewer lists than wanted; and where its body lies, nowhere on refusal
+-- the list at a place: the book's own answer, then ABSENT, where the book has fewer lists than
+-- wanted; and where its body lies, nowhere on refusal
 unfoldable pub verdictAt : List ℕ → ℕ → Verdict
 verdictAt book position =
     cond (refusedb (bookVerdict book)) (bookVerdict book)

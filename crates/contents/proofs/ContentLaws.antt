@@ -1,5 +1,7 @@
--- Three numbers more are one entry more, and the rules of all lists are those that each next list keeps to; so one walk along the entries settles
--- them. An entry read one number off, a list that no rule looks at, or a book that is longer than its lists would fall here.
+-- Why it holds: Three numbers more are one entry more, and the rules of all lists are those that
+-- each next list keeps to; so one walk along the entries settles them.
+-- What would break it: An entry read one number off, a list that no rule looks at, or a book that
+-- is longer than its lists would be caught here.
 use mathlib.Core.Path.{_≡_, refl, ap, sym, subst, _∙_}
 use mathlib.Core.Logic.{_⊎_, inl, inr}
 use mathlib.Core.Bool.{Bool, true, false, cond, not, _&&_, _||_}
@@ -89,7 +91,8 @@ module _ (book : List ℕ) where
   pub few-entries : (lists : ℕ) → length (take lists (entriesIn book)) ≤ lists
   few-entries lists = few-taken lists (entriesIn book) .0
 
-  -- the first so many entries from an index on begin with the one there, and behind the last there is none
+  -- the first so many entries from an index on begin with the one there, and after the last there
+  -- is none
   pub entry-from : (lists i : ℕ) → i < lists → i < entryCount book
       → drop i (take lists (entriesIn book)) ≡ entryAt book i ∷ drop (i + 1) (take lists (entriesIn book))
   unfolding entryAt

@@ -1,4 +1,4 @@
--- Document 01, "The field book": the table of contents and its rules.
+-- docs/SCOPE.md, "The field book": the table of contents and its rules.
 use Prim.Native.Nat.{ℕ, _+_, _*_, _-_, _/_}
 use mathlib.Core.Bool.{Bool, true, cond, not, _&&_, _||_}
 use mathlib.Core.List.{List, [], _∷_}
@@ -22,7 +22,8 @@ entry tag offset count = record { tag = tag; offset = offset; count = count }
 abbrev pub ENTRY-NUMBERS : ℕ
 ENTRY-NUMBERS = 3
 
--- the whole entries of the numbers, one after the other; numbers that make no whole entry are left over
+-- the whole entries of the numbers, one after the other; numbers that make no whole entry are left
+-- over
 unfoldable pub entries : List ℕ → List Entry
 entries [] = []
 entries (t ∷ []) = []
@@ -62,13 +63,15 @@ ascendb [] = true
 ascendb (e ∷ []) = true
 ascendb (e ∷ f ∷ es) = ltb (e .tag) (f .tag) && ascendb (f ∷ es)
 
--- the first body starts at a place, each next one where the last ended, and the book ends with the last
+-- the first body starts at a place, each next one where the last ended, and the book ends with the
+-- last
 unfoldable pub laidb : ℕ → List Entry → ℕ → Bool
 laidb at [] size = eqb at size
 laidb at (e ∷ es) size = eqb (e .offset) at && laidb (at + NODE-BYTES * e .count) es size
 
--- `lists` lists with these entries, in a book of `size` bytes, break a rule: more lists than 16, a count above 4,096, tags that don't ascend, or bodies
--- that don't lie right after the contents and one another up to the end; so the contents of a book that is cut short break one too
+-- `lists` lists with these entries, in a book of `size` bytes, break a rule: more lists than 16, a
+-- count above 4,096, tags that don't ascend, or bodies that don't lie right after the contents and
+-- one another up to the end; so the contents of a book that is cut short break one too
 unfoldable pub brokenb : ℕ → List Entry → ℕ → Bool
 brokenb lists es size =
     ltb MOST-LISTS lists

@@ -1,4 +1,5 @@
--- Document 01, "The field book": the rules of the contents, list by list, as the step along them answers.
+-- docs/SCOPE.md, "The field book": the rules of the contents, list by list, as the step along them
+-- answers.
 use Prim.Native.Nat.{ℕ, _+_, _*_}
 use mathlib.Core.Bool.{Bool, true, false, cond, not, _&&_, _||_}
 use lib.Dec.{ltb, leb, eqb}
@@ -19,7 +20,8 @@ contentsPlace begun tag end = record { begun = begun; tag = tag; end = end }
 unfoldable pub startOf : ℕ → ContentsPlace
 startOf lists = contentsPlace false 0 (contentsEnd lists)
 
--- the next list keeps the rules: its body starts where the last ended, it isn't too long, and its tag is above the last one's
+-- the next list keeps the rules: its body starts where the last ended, it isn't too long, and its
+-- tag is above the last one's
 unfoldable pub passesb : ContentsPlace → Entry → Bool
 passesb p e = eqb (e .offset) (p .end) && (leb (e .count) MOST-NODES && (not (p .begun) || ltb (p .tag) (e .tag)))
 
@@ -31,7 +33,7 @@ afterEntry p e = contentsPlace true (e .tag) (p .end + NODE-BYTES * e .count)
 unfoldable pub stepOf : ContentsPlace → Entry → Step
 stepOf p e = cond (passesb p e) (Reached (afterEntry p e)) (Refused CONTENTS)
 
--- document 01's number for each case of a step, for a book of `size` bytes whose lists end with it:
+-- the scope's number for each case of a step, for a book of `size` bytes whose lists end with it:
 -- a place reached is TAKEN where the last body ends with the book and CONTENTS where it doesn't,
 -- and a refusal is the number that it carries
 abbrev pub stepAnswer : Step → ℕ → ℕ

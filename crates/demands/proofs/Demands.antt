@@ -1,5 +1,6 @@
--- The customer's three demands: a clause is a comment line and the theorem that says it, proved by citing the layer that knows why.
--- `answer` and `output` are what `next_page` promises; `shown` is what its caller finds in the output. Whatever lost a sample would fall here.
+-- The customer's three demands: a clause is a comment line and the theorem that says it, proved by
+-- citing the layer that knows why. `answer` and `output` are what `next_page` promises; `shown` is
+-- what its caller finds in the output. Whatever lost a sample would fall here.
 use mathlib.Core.Path.{_≡_, refl, ap, _∙_}
 use mathlib.Core.Logic.{_↔_, _⊎_}
 use mathlib.Core.Bool.{true, false}
@@ -9,7 +10,7 @@ use native.Mathlib.Omega.{arith}
 use lib.ListN.{length, getD, drop}
 use Rattle.nodes.specs.declared.node.Node.{Node}
 use Rattle.answers.specs.Answer.{TAKEN, TABLE}
-use Rattle.laws.specs.Choose.{All, Pairs, In}
+use Rattle.laws.specs.Choose.{All, EveryTwo, In}
 use Rattle.nodes.specs.Node.{insideb, directlyb}
 use Rattle.nodes.specs.Words.{NODE-WORDS, nodes}
 use Rattle.answers.specs.Output.{written}
@@ -66,18 +67,20 @@ use Rattle.marks.proofs.Picking.{length-picked}
 use Rattle.marks.proofs.Returned.{number-taken, unnumber-taken, marks-return, table-returns}
 use Rattle.marks.proofs.RowLaws.{length-words}
 
--- Demand 1. A call takes any lists, ticket and output, is refused exactly as tabled, and alters nothing but what it hands out.
+-- Demand 1. A call takes any lists, ticket and output, is refused exactly as tabled, and alters
+-- nothing but what it hands out.
 module _ (t : Ticket) (c : Call) where
   -- its number isn't TAKEN
   abbrev Refused : Type 0
   Refused = answer t c .verdict .answer ≡ TAKEN → ⊥
 
-  -- the number, the list and the index are those of document 01's table
+  -- the number, the list and the index are those of the scope's table
   pub answered-as-tabled : answer t c .verdict ≡ checkTwo (c .ancestors) (c .descendants)
   unfolding pageOf
   answered-as-tabled = refl
 
-  -- it is refused exactly when a list has a fault of the table, or a node of one and a node of the other are at odds
+  -- it is refused exactly when a list has a fault of the table, or a node of one and a node of the
+  -- other are at odds
   pub refused-exactly-when : Refused ↔ (Faulty (c .ancestors) ⊎ (Faulty (c .descendants) ⊎ AtOdds (nodes (c .ancestors)) (nodes (c .descendants))))
   unfolding pageOf
   refused-exactly-when = refused-iff (c .ancestors) (c .descendants)
@@ -118,8 +121,9 @@ module _ (t : Ticket) (c : Call) where
   pub counts-what-it-shows : answer t c .count ≡ length (shown t c)
   counts-what-it-shows = count-shown t c
 
--- Demand 1, the other calls that write: `number`, `unnumber`, `pick`, `link_list` and `write_book` promise these outcomes and outputs. Of each of
--- them two things hold. A call whose answer isn't TAKEN counts nothing and alters no word of the output.
+-- Demand 1, the other calls that write: `number`, `unnumber`, `pick`, `link_list` and `write_book`
+-- promise these outcomes and outputs. Of each of them two things hold. A call whose answer isn't
+-- TAKEN counts nothing and alters no word of the output.
 abbrev AltersNothing : (answer count : ℕ) (out after : List ℕ) → Type 0
 AltersNothing answer count out after = (answer ≡ TAKEN → ⊥) → (count ≡ 0) × (after ≡ out)
 
@@ -231,7 +235,8 @@ pub nothing-in-a-text : (words : List ℕ) → checkWords words .answer ≡ TAKE
     → insideb n text ≡ false
 nothing-in-a-text words accepted text n m t = text-contains-nothing words accepted text n m t
 
--- Demand 2. The full listing of two accepted lists is every pair with the relation asked for, once each, in the order asked for.
+-- Demand 2. The full listing of two accepted lists is every pair with the relation asked for, once
+-- each, in the order asked for.
 module _ (ask : Asked) (c : Call) where
   -- a pair is listed exactly when both its nodes stand in their lists and the relation holds
   pub listed-exactly-when : (p : Pair) → In p (fullListing ask c)
@@ -246,19 +251,21 @@ module _ (ask : Asked) (c : Call) where
       (nothing-in-a-text (c .descendants) (two-taken-iff (c .ancestors) (c .descendants) .0 a .1) (p .ancestor) (p .descendant) (l .1) t)
 
   -- no pair is listed twice
-  pub no-pair-listed-twice : AcceptedCall c → Pairs (λ p q. p ≡ q → ⊥) (fullListing ask c)
+  pub no-pair-listed-twice : AcceptedCall c → EveryTwo (λ p q. p ≡ q → ⊥) (fullListing ask c)
   no-pair-listed-twice a = let l = lists-ascend c a in listed-once ask (nodes (c .ancestors)) (nodes (c .descendants)) (l .0) (l .1)
 
   -- each later pair's key stands above each earlier one's
-  pub listed-in-order : AcceptedCall c → Pairs (λ p q. aboveb (sortKey (ask .order) q) (sortKey (ask .order) p) ≡ true) (fullListing ask c)
+  pub listed-in-order : AcceptedCall c → EveryTwo (λ p q. aboveb (sortKey (ask .order) q) (sortKey (ask .order) p) ≡ true) (fullListing ask c)
   listed-in-order a = let l = lists-ascend c a in listing-ascends ask (nodes (c .ancestors)) (nodes (c .descendants)) (l .0) (l .1)
 
-  -- what is listed is what a call hands out: with a fresh ticket and room for the full listing, exactly that, and it is done
+  -- what is listed is what a call hands out: with a fresh ticket and room for the full listing,
+  -- exactly that, and it is done
   pub listing-is-handed-out : AcceptedCall c → length (fullListing ask c) ≤ room (c .out)
       → (shown (freshTicket ask) c ≡ fullListing ask c) × (answer (freshTicket ask) c .done ≡ true)
   listing-is-handed-out a l = whole-listing ask c a l
 
-  -- and page by page, whatever the rooms: calls on the same lists hand out the full listing, in its order, once a call is done
+  -- and page by page, whatever the rooms: calls on the same lists hand out the full listing, in its
+  -- order, once a call is done
   pub pages-are-the-listing : AcceptedCall c → (cs : List Call) → All (λ k. SameLists k c) cs
       → answer (ticketThrough (freshTicket ask) cs) c .done ≡ true
       → shownThrough (freshTicket ask) (cs ++ c ∷ []) ≡ fullListing ask c
@@ -270,7 +277,8 @@ module _ (ask : Asked) (c : Call) where
       → answer (ticketThrough (freshTicket ask) cs) c .done ≡ true
   pages-come-to-an-end a cs s enough = ends-through ask c a cs s enough
 
--- Demand 2, marks. Numbering and writing back marks return each other: `number` and `unnumber` promise these outcomes and outputs.
+-- Demand 2, marks. Numbering and writing back marks return each other: `number` and `unnumber`
+-- promise these outcomes and outputs.
 module _ (document : ℕ) (marks : List ℕ) (taken : checkMarks marks ≡ TAKEN) where
   -- accepted marks are numbered into the words of their table,
   pub marks-are-numbered : (out : List ℕ) → length (tableWords document marks) ≤ length out
@@ -293,7 +301,8 @@ module _ (document : ℕ) (marks : List ℕ) (taken : checkMarks marks ≡ TAKEN
       → (insideb (y .node) (x .node) ≡ true) ↔ ((x .node .start < y .node .start) × (y .node .start < x .node .end))
   inside-exactly-between x y i j = inside-between document marks taken x y i j
 
-  -- and directly inside exactly when x is the element that y stands in: nothing that contains y is inside it
+  -- and directly inside exactly when x is the element that y stands in: nothing that contains y is
+  -- inside it
   pub directly-exactly-in : (x y : Row) → In x (tableOf document marks) → In y (tableOf document marks)
       → (directlyb (y .node) (x .node) ≡ true) ↔ ((insideb (y .node) (x .node) ≡ true)
       × ((z : Row) → In z (tableOf document marks) → insideb (y .node) (z .node) ≡ true → insideb (z .node) (x .node) ≡ true → ⊥))
@@ -317,11 +326,13 @@ module _ (table : List ℕ) where
       × (numberOutput (documentOf (rows table)) (tableMarks table) out ≡ written table out)
   taken-table-comes-back h out l = table-returns table out h l
 
-  -- and TABLE is answered exactly when the words make whole rows, not too many, and no accepted marks have this table
+  -- and TABLE is answered exactly when the words make whole rows, not too many, and no accepted
+  -- marks have this table
   pub refused-as-no-table : (checkTable table ≡ TABLE) ↔ ((rowFault table ≡ TAKEN) × (Numbering (rows table) → ⊥))
   refused-as-no-table = refused-exact table
 
--- Demand 2, books. Writing and reading a book return each other: `write_book` promises this answer and output, `check_book` this verdict.
+-- Demand 2, books. Writing and reading a book return each other: `write_book` promises this answer
+-- and output, `check_book` this verdict.
 module _ (entries list : List ℕ) (tags : All (λ n. n < 4294967296) entries) (words : All (λ n. n < 4294967296) list)
     (accepted : checkWanted entries list .answer ≡ TAKEN) where
   -- accepted lists are written into the bytes of their book,
@@ -367,16 +378,18 @@ module _ (book : List ℕ) (accepted : bookVerdict book .answer ≡ TAKEN) where
       × (keptBody book (entryAt book position .tag) ≡ bodyOf book (entryAt book position))
   each-list-is-found position h = (tag-found book accepted position h, body-at book accepted position h)
 
--- Demand 3. A listing followed from a fresh ticket, each call with the ticket that the last one returned and with lists edited at will in between.
+-- Demand 3. A listing followed from a fresh ticket, each call with the ticket that the last one
+-- returned and with lists edited at will in between.
 module _ (ask : Asked) where
-  -- once an accepted call is done, every related pair that stood unaltered in the lists of each accepted call has been handed out
+  -- once an accepted call is done, every related pair that stood unaltered in the lists of each
+  -- accepted call has been handed out
   pub no-pair-lost : (cs : List Call) (c : Call) → AcceptedCall c → answer (ticketThrough (freshTicket ask) cs) c .done ≡ true
       → (p : Pair) → askedb ask p ≡ true → All (λ k. AcceptedCall k → StandsIn p k) cs → StandsIn p c
       → In p (shownThrough (freshTicket ask) (cs ++ c ∷ []))
   no-pair-lost cs c a d p r s m = none-lost ask cs c a d p r s m
 
   -- no pair is handed out twice, nor two with the same document and starts
-  pub no-pair-handed-out-twice : (cs : List Call) → Pairs (λ p q. SameStarts p q → ⊥) (shownThrough (freshTicket ask) cs)
+  pub no-pair-handed-out-twice : (cs : List Call) → EveryTwo (λ p q. SameStarts p q → ⊥) (shownThrough (freshTicket ask) cs)
   no-pair-handed-out-twice cs = none-twice ask cs
 
 module _ (t : Ticket) (c : Call) where

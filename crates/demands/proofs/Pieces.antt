@@ -7,7 +7,7 @@ use mathlib.Core.Logic.{_↔_, _⊎_}
 use mathlib.Core.Bool.{true, false}
 use mathlib.Core.List.{List, [], _∷_}
 use lib.ListN.{length, take}
-use Rattle.laws.specs.Choose.{All, Pairs, In}
+use Rattle.laws.specs.Choose.{All, EveryTwo, In}
 use Rattle.nodes.specs.Words.{nodes}
 use Rattle.lists.specs.Two.{jointb}
 use Rattle.paging.specs.Page.{Spot}
@@ -43,7 +43,7 @@ module _ (ask : Asked) (as′ ds : List (List ℕ)) (no-ancestor-cut : All Whole
   -- where the whole lists draw none of the answers 3 to 7,
   module _ (ancestors-good : DrawsNone (whole as′)) (descendants-good : DrawsNone (whole ds)) where
     -- no pair comes twice, nor do two with the same document and starts,
-    pub no-pair-of-pieces-twice : Pairs (λ p q. SameStarts p q → ⊥) (piecePairs ask as′ ds)
+    pub no-pair-of-pieces-twice : EveryTwo (λ p q. SameStarts p q → ⊥) (piecePairs ask as′ ds)
     no-pair-of-pieces-twice = none-twice ask as′ ds no-ancestor-cut no-descendant-cut ancestors-good descendants-good
 
     -- each pair among the first n of the whole listing past a place is among the first n of its own
@@ -126,21 +126,21 @@ module _ (relation : Relation) where
 module _ (ws : List (List ℕ)) (fit : All Fits ws) where
   -- the whole list draws none of the answers 3 to 7 exactly when each piece is taken, any two are
   -- taken together, and every node of the later one stands after every node of the earlier one
-  pub pieces-checked : DrawsNone (whole ws) ↔ (All Taken ws × Pairs (λ v w. TakenTogether v w × StandsAfter w v) ws)
+  pub pieces-checked : DrawsNone (whole ws) ↔ (All Taken ws × EveryTwo (λ v w. TakenTogether v w × StandsAfter w v) ws)
   pieces-checked = whole-checked ws fit
 
   -- The borders. Where each piece has a node,
   module _ (nodes-there : All HasNode ws) where
     -- it is enough for the order that the first node of each piece stands after the last node of
     -- the piece before it,
-    pub borders-are-enough : All Taken ws → Pairs (λ v w. StandsAfter w v) ws ↔ EachNext (λ v w. StartsAfter w v) ws
+    pub borders-are-enough : All Taken ws → EveryTwo (λ v w. StandsAfter w v) ws ↔ EachNext (λ v w. StartsAfter w v) ws
     borders-are-enough taken = borders-enough ws taken nodes-there
 
     -- and two pieces need no check together where the earlier one ends in a lower document than the
     -- later one starts in
     pub pieces-checked-by-borders : DrawsNone (whole ws) ↔ (All Taken ws
         × EachNext (λ v w. StartsAfter w v) ws
-        × Pairs (λ v w. (lastNode v .document < firstNode w .document) ⊎ TakenTogether v w) ws)
+        × EveryTwo (λ v w. (lastNode v .document < firstNode w .document) ⊎ TakenTogether v w) ws)
     pieces-checked-by-borders = borders-checked ws fit nodes-there
 
 -- Documents. A cut between two documents needs no check:

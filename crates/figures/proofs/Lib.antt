@@ -1,2 +1,2 @@
--- The theorem about document 01's figures.
+-- The theorem about the scope's figures.
 pub mod Table

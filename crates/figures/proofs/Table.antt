@@ -1,5 +1,7 @@
--- Document 01's [P] figures hold: antt computes the test over the whole table, and one lemma reads the equations off it.
--- A row that states anything else than what the definitions compute is refused here.
+-- Why it holds: The scope's [P] figures hold: antt computes the test over the whole table, and
+-- one lemma reads the equations off it. A row that states anything else than what the definitions
+-- compute is refused here.
+-- What would break it:
 use mathlib.Core.Path.{_≡_, refl}
 use mathlib.Core.Bool.{true}
 use mathlib.Core.List.{List, [], _∷_, flatMap}
@@ -50,6 +52,6 @@ unfolding figures equalb heldb checkWords wordFault raggedb longb nodes checkNod
     linksIn linkedOf linksOutput upTo firstOf nodeIn indices innermostb parentOf childOf siblingb nextOf linkOf linksOf linkWords
 computed = refl
 
--- each row's numbers are those that document 01 states
+-- each row's numbers are those that docs/SCOPE.md states
 pub figures-hold : All (λ r. r .found ≡ r .stated) figures
 figures-hold = held figures computed

@@ -1,4 +1,4 @@
--- Document 01, "Figures to hold against it": the cases marked [P], as rows of one table.
+-- docs/SCOPE.md, "Figures to hold against it": the cases marked [P], as rows of one table.
 use Prim.Native.Nat.{ℕ, _*_}
 use mathlib.Core.Bool.{Bool, true, false, cond, _&&_}
 use mathlib.Core.List.{List, [], _∷_, _++_, map}
@@ -25,7 +25,7 @@ use Rattle.marks.specs.Table.{ROW-WORDS}
 use Rattle.forest.specs.Linked.{linkedOf, linksOutput}
 use Rattle.forest.specs.Links.{NONE, LINK-WORDS}
 
--- a figure: what the definitions compute, and what document 01 states
+-- a figure: what the definitions compute, and what docs/SCOPE.md states
 pub record Figure : Type 0 where
   pub found : List ℕ
   pub stated : List ℕ
@@ -62,7 +62,8 @@ abbrev pub starts : List (ℕ × ℕ) → List ℕ
 starts [] = []
 starts (p ∷ ps) = p .0 ∷ p .1 ∷ starts ps
 
--- what a page call shows, as numbers: the answer, how many pairs, the pairs by their starts, and done as 1 or 0
+-- what a page call shows, as numbers: the answer, how many pairs, the pairs by their starts, and
+-- done as 1 or 0
 abbrev pub shows : ℕ → List (ℕ × ℕ) → ℕ → List ℕ
 shows answer pairs done = answer ∷ length pairs ∷ starts pairs ++ (done ∷ [])
 
@@ -73,7 +74,8 @@ notDone pairs = shows TAKEN pairs 0
 abbrev pub done : List (ℕ × ℕ) → List ℕ
 done pairs = shows TAKEN pairs 1
 
--- what a call shows by the definitions, and what a sequence does in which each call takes the ticket that the last one returned
+-- what a call shows by the definitions, and what a sequence does in which each call takes the
+-- ticket that the last one returned
 abbrev pub seen : Ticket → Call → List ℕ
 seen t c =
     answer t c .verdict .answer ∷ answer t c .count
@@ -97,21 +99,23 @@ abbrev pub placeNumbers : Place → List ℕ
 placeNumbers Fresh = []
 placeNumbers (After k) = numbersOf k
 
--- a refused page call with room 1 and a ticket in document 5: the answer, no pair, not done, and the ticket's place again
+-- a refused page call with room 1 and a ticket in document 5: the answer, no pair, not done, and
+-- the ticket's place again
 abbrev pub refused : Relation → Order → ℕ → ℕ → Nodes → Nodes → ℕ → Figure
 refused relation order leader follower ancestors descendants stated =
     let t = ticketAt (asked relation order) (After (keyWith 5 leader follower)) in
     let c = call 1 ancestors descendants in
     record { found = seen t c ++ placeNumbers (answer t c .ticket .place); stated = shows stated [] 0 ++ (5 ∷ leader ∷ follower ∷ []) }
 
--- document 01's Z and S, the nodes of tags 2 and 3 in its example
+-- the scope's Z and S, the nodes of tags 2 and 3 in its example
 abbrev pub Z : Nodes
 Z = (2, 10, 2) ∷ (3, 7, 3) ∷ []
 
 abbrev pub S : Nodes
 S = (4, 6, 4) ∷ (8, 9, 3) ∷ []
 
--- marks of document 5 numbered into an output of as many rows: the answer, how many rows, and the output
+-- marks of document 5 numbered into an output of as many rows: the answer, how many rows, and the
+-- output
 abbrev pub numbered : List ℕ → ℕ → List ℕ
 numbered marks room =
     let out : List ℕ = replicate (ROW-WORDS * room) 0 in
@@ -150,7 +154,7 @@ links list stated =
     let r = linkedOf (words list) out in
     record { found = r .verdict .answer ∷ r .count ∷ linksOutput (words list) out; stated = TAKEN ∷ length list ∷ stated }
 
--- document 01's eleven marks and their six rows
+-- the scope's eleven marks and their six rows
 abbrev pub elevenMarks : List ℕ
 elevenMarks = 1 ∷ 2 ∷ 2 ∷ 3 ∷ TEXT ∷ 0 ∷ 0 ∷ 3 ∷ 0 ∷ 0 ∷ 0 ∷ []
 
@@ -168,7 +172,8 @@ figures =
     ∷ one ((2, 2, 64) ∷ []) TAKEN 0
     ∷ one ((2, 2, 65) ∷ []) LEVEL 0
     ∷ two ((1, 9, 1) ∷ []) ((4, 12, 2) ∷ []) JOINT
-    -- shortcut 1, joining only with the innermost open zone, loses 2-4; shortcut 2, leaving a zone when the ancestors run out, loses 2-8
+    -- shortcut 1, joining only with the innermost open zone, loses 2-4; shortcut 2, leaving a zone
+    -- when the ancestors run out, loses 2-8
     ∷ page Inside Descendant (3 ∷ []) Z S (done ((2, 4) ∷ (3, 4) ∷ (2, 8) ∷ []))
     -- shortcut 4, printing ancestor order in the order found, gives the row above
     ∷ page Inside Ancestor (3 ∷ []) Z S (done ((2, 4) ∷ (2, 8) ∷ (3, 4) ∷ []))
@@ -178,11 +183,13 @@ figures =
     ∷ page Inside Descendant (3 ∷ []) Z Z (done ((2, 3) ∷ []))
     ∷ refused Inside Descendant 4 2 ((1, 9, 1) ∷ []) ((4, 12, 2) ∷ []) JOINT
     ∷ page Inside Descendant (1 ∷ []) [] [] (done [])
-    -- shortcut 3, "directly" as "innermost in the list": the list of ancestors has no node of level 3
+    -- shortcut 3, "directly" as "innermost in the list": the list of ancestors has no node of level
+    -- 3
     ∷ page Inside Descendant (1 ∷ []) ((2, 10, 2) ∷ []) ((4, 6, 4) ∷ []) (done ((2, 4) ∷ []))
     ∷ page Directly Descendant (1 ∷ []) ((2, 10, 2) ∷ []) ((4, 6, 4) ∷ []) (done [])
     ∷ page Directly Ancestor (1 ∷ []) ((2, 10, 2) ∷ []) ((4, 6, 4) ∷ []) (done [])
-    -- shortcut 5, an index as the place reached: after a removal 2-8 is lost, after an insertion it comes twice
+    -- shortcut 5, an index as the place reached: after a removal 2-8 is lost, after an insertion it
+    -- comes twice
     ∷ calls Inside Descendant (call 2 Z S ∷ call 2 Z ((8, 9, 3) ∷ []) ∷ []) (notDone ((2, 4) ∷ (3, 4) ∷ []) ++ done ((2, 8) ∷ []))
     ∷ calls Inside Ancestor (call 2 Z S ∷ call 2 Z ((4, 6, 4) ∷ (5, 5, 5) ∷ (8, 9, 3) ∷ []) ∷ [])
     (notDone ((2, 4) ∷ (2, 8) ∷ []) ++ done ((3, 4) ∷ (3, 5) ∷ []))

@@ -1,2 +1,2 @@
--- Document 01's figures that are proved about the definitions.
+-- The scope's figures that are proved about the definitions.
 pub mod Figures

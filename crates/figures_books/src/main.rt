@@ -1,4 +1,4 @@
-// Document 01's figures of the field book and of the printing program: each argument names a book,
+// The scope's figures of the field book and of the printing program: each argument names a book,
 // and for each this program prints what opening it answers, where its lists lie, what writing its
 // parts anew answers, and what the printing program prints of it.
 mod again;

@@ -1,4 +1,4 @@
-// Document 01's figures that aren't marked [P], but for those of the book: empty lists, and lists
+// The scope's figures that aren't marked [P], but for those of the book: empty lists, and lists
 // of 4,096 nodes, of one node more and of one word more. For each the program prints what the calls
 // answer.
 use answers::answer::name_of;

@@ -1,5 +1,7 @@
--- The check of one list names the ancestors and carries index 0 when it is taken; what the call answers follows from its fault and its room.
--- A refusal that counted nodes, or room compared with anything but the result, would fall here.
+-- Why it holds: The check of one list names the ancestors and carries index 0 when it is taken;
+-- what the call answers follows from its fault and its room.
+-- What would break it: A refusal that counted nodes, or room compared with anything but the result,
+-- would be caught here.
 use mathlib.Core.Path.{_≡_, sym, ap, _∙_}
 use mathlib.Core.List.{List}
 use Prim.Native.Nat.{ℕ, _/_, _≤_, _<_}

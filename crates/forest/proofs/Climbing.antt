@@ -1,8 +1,9 @@
--- The first node of a document has no parent and no elder (the elder is the last sibling before a
--- node). For any other the node before is the parent, if that hasn't ended. Or else the way up from
--- there leads through nodes that contain all that was passed: it misses no container, and what was
--- passed last is the last node with the parent that is found, the elder. A climb that skipped a
--- parent, or an elder that is not the last, would fall here.
+-- Why it holds: The first node of a document has no parent and no elder (the elder is the last
+-- sibling before a node). For any other the node before is the parent, if that hasn't ended. Or
+-- else the way up from there leads through nodes that contain all that was passed: it misses no
+-- container, and what was passed last is the last node with the parent that is found, the elder.
+-- What would break it: A climb that skipped a parent, or an elder that is not the last, would be
+-- caught here.
 use mathlib.Core.Path.{_≡_, refl, sym, ap, _∙_}
 use mathlib.Core.Logic.{inl, inr}
 use mathlib.Core.Bool.{true, false}

@@ -1,6 +1,7 @@
--- An accepted list ascends, and of two nodes of one document the later is inside the earlier or
--- starts after its end; so what contains a node contains all that stand between the two. A list in
--- which a node could stand between another and its container would fall here.
+-- Why it holds: An accepted list ascends, and of two nodes of one document the later is inside the
+-- earlier or starts after its end; so what contains a node contains all that stand between the two.
+-- What would break it: A list in which a node could stand between another and its container would
+-- be caught here.
 use mathlib.Core.Path.{_≡_}
 use mathlib.Core.Logic.{inl, inr, ⊎-elim}
 use mathlib.Core.Bool.{true, false}
@@ -13,7 +14,7 @@ use lib.ListN.{length}
 use borrow.Author.Tests.{ltb-true, ltb-false}
 use Rattle.nodes.specs.declared.node.Node.{Node}
 use Rattle.answers.specs.Answer.{TAKEN}
-use Rattle.laws.specs.Choose.{All, Pairs}
+use Rattle.laws.specs.Choose.{All, EveryTwo}
 use Rattle.nodes.specs.Node.{insideb}
 use Rattle.nodes.specs.Words.{MOST-NODES, node, nodes, nodeAt}
 use Rattle.nodes.proofs.NodeLaws.{within, inside-self, after-read, after-starts}
@@ -23,13 +24,13 @@ use Rattle.lists.specs.Check.{checkWords}
 use Rattle.lists.proofs.Faults.{Sound}
 use Rattle.lists.proofs.Taken.{Fine, fine-settles, nested-read, words-taken-iff}
 use Rattle.forest.specs.Links.{nodeIn}
-use Rattle.laws.proofs.Choices.{all-at, pairs-at}
+use Rattle.laws.proofs.Choices.{all-at, every-two-at}
 
 -- what is known of an accepted list
 pub record AcceptedList (ns : List Node) : Type 0 where
   pub short : length ns ≤ MOST-NODES
   pub sound : All Sound ns
-  pub fine : Pairs Fine ns
+  pub fine : EveryTwo Fine ns
 
 pub accepted-list : (ws : List ℕ) → checkWords ws .answer ≡ TAKEN → AcceptedList (nodes ws)
 accepted-list ws h = let t = words-taken-iff ws .0 h in record { short = omega (arith, length-nodes ws, t .1); sound = t .2; fine = t .3 }
@@ -46,7 +47,7 @@ module _ (ns : List Node) (ok : AcceptedList ns) where
 
   fine-at : (e i : ℕ) → e < i → i < length ns → Fine (nodeIn ns e) (nodeIn ns i)
   unfolding nodeIn
-  fine-at e i k l = pairs-at Fine ns e i (node 0 0 0 0) k l (ok .fine)
+  fine-at e i k l = every-two-at Fine ns e i (node 0 0 0 0) k l (ok .fine)
 
   -- documents ascend
   pub documents : (e i : ℕ) → e ≤ i → i < length ns → nodeIn ns e .document ≤ nodeIn ns i .document

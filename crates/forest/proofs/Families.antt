@@ -1,5 +1,7 @@
--- Theorems for the reader, over any accepted list: the parent is the innermost node that contains a node, and first child and next lead through
--- exactly its children. A definition of the links that missed a container, a child or a sibling would fall here.
+-- Why it holds: Theorems for the reader, over any accepted list: the parent is the innermost node
+-- that contains a node, and first child and next lead through exactly its children.
+-- What would break it: A definition of the links that missed a container, a child or a sibling
+-- would be caught here.
 use mathlib.Core.Path.{_≡_, refl, sym, ap, _∙_}
 use mathlib.Core.Logic.{_⊎_, inl, inr}
 use mathlib.Core.Bool.{Bool, true, false, _&&_}
@@ -65,7 +67,8 @@ module _ (list : List ℕ) (taken : checkWords list .answer ≡ TAKEN) where
     pub parent-earlier : (parentOf ns i ≡ NONE → ⊥) → parentOf ns i < i
     parent-earlier h = parent-before ns ok i l h
 
-    -- from the first child on, following next leads to all children in their order, and to no other node
+    -- from the first child on, following next leads to all children in their order, and to no other
+    -- node
     pub children-followed : followed ns (length ns) (childOf ns i) ≡ keep (λ j. eqb (parentOf ns j) i) (indices ns)
     unfolding childOf
     children-followed =
@@ -96,7 +99,8 @@ module _ (list : List ℕ) (taken : checkWords list .answer ≡ TAKEN) where
   unfolding childOf indices
   childless i h j k = eqb-false (parentOf ns j) i (none-found (λ m. eqb (parentOf ns m) i) (length ns) short h j k)
 
-  -- from the next one on, following next leads to all later nodes with the same parent in the same document, in their order, and to no other
+  -- from the next one on, following next leads to all later nodes with the same parent in the same
+  -- document, in their order, and to no other
   pub siblings-followed : (i : ℕ) → followed ns (length ns) (nextOf ns i) ≡ keep (λ j. ltb i j && siblingb ns i j) (indices ns)
   unfolding nextOf
   siblings-followed i = follow-from ns short (siblingb ns i) alike (length ns) (suc i) (omega arith)

@@ -1,5 +1,7 @@
--- The first and the last number that pass a test are found along the numbers below a bound, and where none passes the answer is NONE, which none
--- of them is. A search that ran one number short, or took NONE for a number, would fall here.
+-- Why it holds: The first and the last number that pass a test are found along the numbers below a
+-- bound, and where none passes the answer is NONE, which none of them is.
+-- What would break it: A search that ran one number short, or took NONE for a number, would be
+-- caught here.
 use mathlib.Core.Path.{_≡_, refl, sym, ap, subst, _∙_}
 use mathlib.Core.Logic.{_⊎_, inl, inr}
 use mathlib.Core.Bool.{Bool, true, false, cond}
@@ -42,7 +44,7 @@ pub record Last (test : ℕ → Bool) (bound r : ℕ) : Type 0 where
   pub last : (j : ℕ) → j < bound → ((r ≡ NONE → ⊥) → r < j) → test j ≡ false
 
 module _ (test : ℕ → Bool) where
-  -- a search goes on behind a list only where it found nothing there
+  -- a search goes on after a list only where it found nothing there
   stays : (xs ys : List ℕ) → (firstOf test xs ≡ NONE → ⊥) → firstOf test (xs ++ ys) ≡ firstOf test xs
   unfolding firstOf
   stays [] ys h = absurd (h refl)

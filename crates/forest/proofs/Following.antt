@@ -1,5 +1,6 @@
--- A list of ascending numbers that pass a test begins with the first that does, and goes on with those behind it; so following `next` meets them all.
--- A `next` that left out a sibling, or met one twice, would fall here.
+-- Why it holds: A list of ascending numbers that pass a test begins with the first that does, and
+-- goes on with those after it; so following `next` meets them all.
+-- What would break it: A `next` that left out a sibling, or met one twice, would be caught here.
 use mathlib.Core.Path.{_≡_, refl, sym, ap, _∙_}
 use mathlib.Core.Logic.{inl, inr}
 use mathlib.Core.Bool.{Bool, true, _&&_}
@@ -30,7 +31,7 @@ module _ (f g : ℕ → Bool) where
   keep-alike [] h = refl
   keep-alike (x ∷ xs) h = rw (h .0, keep-alike xs (h .1))
 
--- what is kept is the first that passes, and what is kept behind it
+-- what is kept is the first that passes, and what is kept after it
 keep-first : (test : ℕ → Bool) (n r : ℕ) → First test n r → (r ≡ NONE → ⊥)
     → keep test (upTo n) ≡ r ∷ keep (λ m. ltb r m && test m) (upTo n)
 unfolding upTo keep
@@ -48,7 +49,7 @@ keep-first test (suc n) r f h =
           λ t. front t ++ last t
     ])
 
--- behind a number that isn't below another, the other is no bound
+-- after a number that isn't below another, the other is no bound
 behind : (a j m : ℕ) → a ≤ j → (b : Bool) → (ltb j m && b) ≡ (ltb j m && (leb a m && b))
 behind a j m l b =
     elim (either (ltb j m)) [ inl h ↦ rw (h, le-leb a m (omega (arith, ltb-true j m h))) refl | inr h ↦ rw h refl ]
@@ -63,7 +64,8 @@ module _ (ns : List Node) (short : length ns ≤ NONE) where
   unfolding followed
   follow-step steps i h = rw (ne-eqb i NONE h)
 
-  -- where those that pass a test are siblings of one another and of no other node, following them from the first on meets them all
+  -- where those that pass a test are siblings of one another and of no other node, following them
+  -- from the first on meets them all
   pub follow-from : (test : ℕ → Bool)
       → ((j m : ℕ) → j < length ns → m < length ns → test j ≡ true → siblingb ns j m ≡ test m)
       → (steps a : ℕ) → length ns ≤ a + steps

@@ -1,6 +1,6 @@
--- Three words more are one node's links more, so a link of a node stands at three times its index
--- and one store alters it alone. A link stored one word off, or over another node's, would fall
--- here.
+-- Why it holds: Three words more are one node's links more, so a link of a node stands at three
+-- times its index and one store alters it alone.
+-- What would break it: A link stored one word off, or over another node's, would be caught here.
 use mathlib.Core.Path.{_≡_, refl, sym, ap, _∙_}
 use mathlib.Core.Logic.{inl, inr}
 use mathlib.Core.Bool.{false}
@@ -53,7 +53,7 @@ module _ (f : ℕ → Link) where
         | inr m ↦ List·getD-append (words f k) (linkWords (f k)) 0 (3 * j) (omega (arith, words-length k)) ∙ words-parent k j m
       ])
 
--- a store behind some words
+-- a store after some words
 set-behind : (xs ys : List ℕ) (m c v : ℕ) → m ≡ length xs + c → set (xs ++ ys) m v ≡ xs ++ set ys c v
 set-behind [] ys m c v q = ap (λ k. set ys k v) (omega arith)
 set-behind (x ∷ xs) ys m c v q =

@@ -1,6 +1,7 @@
--- One node more gives its elder a next one, or else its parent a first child, and alters no other
--- link: before the elder each sibling has its next one already, and where there is an elder the
--- parent has its first child. A node named twice, or by the wrong kin, would fall here.
+-- Why it holds: One node more gives its elder a next one, or else its parent a first child, and
+-- alters no other link: before the elder each sibling has its next one already, and where there is
+-- an elder the parent has its first child.
+-- What would break it: A node named twice, or by the wrong kin, would be caught here.
 use mathlib.Core.Path.{_≡_, sym, _∙_}
 use mathlib.Core.Bool.{true, false, _&&_}
 use mathlib.Core.List.{List}

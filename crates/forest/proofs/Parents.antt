@@ -1,5 +1,7 @@
--- Of two nodes that contain a third the later is inside the earlier, so the innermost is the last one that contains it.
--- A parent that is not the innermost, or one given to a node that nothing contains, would fall here.
+-- Why it holds: Of two nodes that contain a third the later is inside the earlier, so the innermost
+-- is the last one that contains it.
+-- What would break it: A parent that is not the innermost, or one given to a node that nothing
+-- contains, would be caught here.
 use mathlib.Core.Path.{_≡_, sym, ap, subst, _∙_}
 use mathlib.Core.Logic.{inl, inr}
 use mathlib.Core.Bool.{Bool, true, not}

@@ -1,4 +1,5 @@
--- Document 01, "The containment forest": what the call answers and writes: the list's checks, then ROOM.
+-- docs/SCOPE.md, "The containment forest": what the call answers and writes: the list's checks,
+-- then ROOM.
 use Prim.Native.Nat.{ℕ}
 use mathlib.Core.List.{List}
 use lib.ListN.{length}
@@ -14,7 +15,8 @@ unfoldable pub linksIn : List ℕ → List ℕ
 linksIn list = wordsIn linkWords (linksOf (nodes list))
 
 module _ (list out : List ℕ) where
-  -- the list's own answer with the faulty node's index, then ROOM, which carries index 0 as TAKEN does; and how many nodes got their links
+  -- the list's own answer with the faulty node's index, then ROOM, which carries index 0 as TAKEN
+  -- does; and how many nodes got their links
   unfoldable pub linkedOf : Counted
   linkedOf =
       let checked = checkWords list in

@@ -1,6 +1,7 @@
--- The answer is ABSENT unless both tags are there, and then ROOM unless both lists fit; where they
--- do, all their numbers are copied. A list that is cut short, or words that a refusal leaves
--- changed, would fall here.
+-- Why it holds: The answer is ABSENT unless both tags are there, and then ROOM unless both lists
+-- fit; where they do, all their numbers are copied.
+-- What would break it: A list that is cut short, or words that a refusal leaves changed, would be
+-- caught here.
 use mathlib.Core.Path.{_≡_, refl, sym, ap, _∙_}
 use mathlib.Core.Bool.{true, false}
 use mathlib.Core.List.{List}

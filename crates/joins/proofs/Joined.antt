@@ -1,5 +1,6 @@
--- In a checked book each list lies under its own tag and has at most 4,096 nodes, so it is copied
--- whole. A list that was cut short, or another list's words, would fall here.
+-- Why it holds: In a checked book each list lies under its own tag and has at most 4,096 nodes, so
+-- it is copied whole.
+-- What would break it: A list that was cut short, or another list's words, would be caught here.
 use mathlib.Core.Path.{_≡_, refl, ap}
 use mathlib.Core.Bool.{false}
 use mathlib.Core.List.{List}
@@ -67,8 +68,8 @@ module _ (book : List ℕ) (good : bookVerdict book .answer ≡ TAKEN) where
         × (take (copyOf lengthsOf .descendants) (copyOf secondAfter) ≡ listAt book j)
     words-copied = rw (lists-copied .0, lists-copied .1, lists-copied .2) (written-begins (listAt book i) first, written-begins (listAt book j) second)
 
--- where one of the tags isn't there, no word is copied, and the answer is ABSENT, which names no list
--- and no node
+-- where one of the tags isn't there, no word is copied, and the answer is ABSENT, which names no
+-- list and no node
 module _ (book : List ℕ) (lists ancestors descendants : ℕ) (none : thereb book lists ancestors descendants ≡ false)
     (first second : List ℕ) where
   pub none-copied : (lengthsOf book lists ancestors descendants first second ≡ refused ABSENT)

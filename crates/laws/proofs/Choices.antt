@@ -1,5 +1,6 @@
--- `any` and `keep` go along a list once, so each fact is one short recursion.
--- Nothing here knows a node; a test that passed over an element would fall here.
+-- Why it holds: `any` and `keep` go along a list once, so each fact is one short recursion.
+-- What would break it: Nothing here knows a node; a test that passed over an element would be
+-- caught here.
 use mathlib.Core.Path.{_≡_, refl, ap, sym, subst, _∙_}
 use mathlib.Core.Logic.{_⊎_, inl, inr}
 use mathlib.Core.Bool.{Bool, true, false}
@@ -8,7 +9,7 @@ use Prim.Native.Nat.{ℕ, zero, suc, _≤_, _<_}
 use native.Mathlib.Nat.{not-suc-le-zero}
 use native.Mathlib.Omega.{arith}
 use lib.ListN.{length, getD, take, drop}
-use Rattle.laws.specs.Choose.{All, Pairs, In, any, keep}
+use Rattle.laws.specs.Choose.{All, EveryTwo, In, any, keep}
 use Rattle.laws.proofs.Tests.{either, never, or-read, or-none}
 
 module _ {A : Type 0} where
@@ -119,24 +120,24 @@ module _ {A : Type 0} where
   keep-past test (x ∷ xs) = elim (either (test x)) [ inl h ↦ rw h (h, keep-past test xs) | inr h ↦ rw h (keep-past test xs) ]
 
   -- what holds of every earlier and later element holds of those kept
-  pub keep-pairs : (R : A → A → Type 0) (test : A → Bool) (xs : List A) → Pairs R xs → Pairs R (keep test xs)
+  pub keep-every-two : (R : A → A → Type 0) (test : A → Bool) (xs : List A) → EveryTwo R xs → EveryTwo R (keep test xs)
   unfolding keep
-  keep-pairs R test [] h = tt
-  keep-pairs R test (x ∷ xs) h =
+  keep-every-two R test [] h = tt
+  keep-every-two R test (x ∷ xs) h =
       elim (either (test x)) [
-        | inl t ↦ rw t (keep-all-of (R x) test xs (h .0), keep-pairs R test xs (h .1))
-        | inr t ↦ rw t (keep-pairs R test xs (h .1))
+        | inl t ↦ rw t (keep-all-of (R x) test xs (h .0), keep-every-two R test xs (h .1))
+        | inr t ↦ rw t (keep-every-two R test xs (h .1))
       ]
 
   -- what follows for every pair follows for a list of pairs
-  pub pairs-map : {R S : A → A → Type 0} → ((x y : A) → R x y → S x y) → (xs : List A) → Pairs R xs → Pairs S xs
-  pairs-map f [] h = tt
-  pairs-map f (x ∷ xs) h = (all-map (f x) xs (h .0), pairs-map f xs (h .1))
+  pub every-two-map : {R S : A → A → Type 0} → ((x y : A) → R x y → S x y) → (xs : List A) → EveryTwo R xs → EveryTwo S xs
+  every-two-map f [] h = tt
+  every-two-map f (x ∷ xs) h = (all-map (f x) xs (h .0), every-two-map f xs (h .1))
 
   -- of two elements of a list they are the same, or one comes earlier
-  pub pairs-in : (R : A → A → Type 0) (xs : List A) (x y : A) → Pairs R xs → In x xs → In y xs → (x ≡ y) ⊎ (R x y ⊎ R y x)
-  pairs-in R [] x y h m n = absurd (List·Memᴰ·not-nil m)
-  pairs-in R (z ∷ xs) x y h m n =
+  pub every-two-in : (R : A → A → Type 0) (xs : List A) (x y : A) → EveryTwo R xs → In x xs → In y xs → (x ≡ y) ⊎ (R x y ⊎ R y x)
+  every-two-in R [] x y h m n = absurd (List·Memᴰ·not-nil m)
+  every-two-in R (z ∷ xs) x y h m n =
       elim (List·Memᴰ·cases-cons m) [
         | inl p ↦ elim (List·Memᴰ·cases-cons n) [
           | inl q ↦ inl (p ∙ sym q)
@@ -144,7 +145,7 @@ module _ {A : Type 0} where
         ]
         | inr p ↦ elim (List·Memᴰ·cases-cons n) [
           | inl q ↦ inr (inr (subst (λ u. R u x) (sym q) (all-in (R z) xs (h .0) p)))
-          | inr q ↦ pairs-in R xs x y (h .1) p q
+          | inr q ↦ every-two-in R xs x y (h .1) p q
         ]
       ]
 
@@ -159,11 +160,11 @@ module _ {A : Type 0} where
   at-all P (x ∷ xs) d f = (f zero (omega arith), at-all P xs d (λ i l. f (suc i) (omega arith)))
 
   -- what holds of every earlier and later element holds of those at two indices
-  pub pairs-at : (R : A → A → Type 0) (xs : List A) (k i : ℕ) (d : A) → k < i → i < length xs → Pairs R xs → R (getD xs k d) (getD xs i d)
-  pairs-at R [] k i d l m h = absurd (not-suc-le-zero m)
-  pairs-at R (x ∷ xs) k zero d l m h = absurd (not-suc-le-zero l)
-  pairs-at R (x ∷ xs) zero (suc i) d l m h = all-at (R x) xs i d (omega arith) (h .0)
-  pairs-at R (x ∷ xs) (suc k) (suc i) d l m h = pairs-at R xs k i d (omega arith) (omega arith) (h .1)
+  pub every-two-at : (R : A → A → Type 0) (xs : List A) (k i : ℕ) (d : A) → k < i → i < length xs → EveryTwo R xs → R (getD xs k d) (getD xs i d)
+  every-two-at R [] k i d l m h = absurd (not-suc-le-zero m)
+  every-two-at R (x ∷ xs) k zero d l m h = absurd (not-suc-le-zero l)
+  every-two-at R (x ∷ xs) zero (suc i) d l m h = all-at (R x) xs i d (omega arith) (h .0)
+  every-two-at R (x ∷ xs) (suc k) (suc i) d l m h = every-two-at R xs k i d (omega arith) (omega arith) (h .1)
 
   -- the first n elements are no more than n, nor than the list has
   pub few-taken : (n : ℕ) (xs : List A) → (length (take n xs) ≤ n) × (length (take n xs) ≤ length xs)
@@ -176,12 +177,12 @@ module _ {A : Type 0} where
   all-append P [] ys h k = k
   all-append P (x ∷ xs) ys h k = (h .0, all-append P xs ys (h .1) k)
 
-  pub pairs-append : (R : A → A → Type 0) (xs ys : List A) → Pairs R xs → Pairs R ys → All (λ x. All (R x) ys) xs → Pairs R (xs ++ ys)
-  pairs-append R [] ys h k m = k
-  pairs-append R (x ∷ xs) ys h k m = (all-append (R x) xs ys (h .0) (m .0), pairs-append R xs ys (h .1) k (m .1))
+  pub every-two-append : (R : A → A → Type 0) (xs ys : List A) → EveryTwo R xs → EveryTwo R ys → All (λ x. All (R x) ys) xs → EveryTwo R (xs ++ ys)
+  every-two-append R [] ys h k m = k
+  every-two-append R (x ∷ xs) ys h k m = (all-append (R x) xs ys (h .0) (m .0), every-two-append R xs ys (h .1) k (m .1))
 
   -- what holds of two elements that pass holds of all pairs where all pass
-  pub pairs-passed : (P : A → Type 0) (R : A → A → Type 0) (xs : List A) → All P xs → Pairs (λ x y. P x → P y → R x y) xs → Pairs R xs
+  pub pairs-passed : (P : A → Type 0) (R : A → A → Type 0) (xs : List A) → All P xs → EveryTwo (λ x y. P x → P y → R x y) xs → EveryTwo R xs
   pairs-passed P R [] h k = tt
   pairs-passed P R (x ∷ xs) h k = (all-both (λ y p f. f (h .0) p) xs (h .1) (k .0), pairs-passed P R xs (h .1) (k .1))
 
@@ -191,10 +192,10 @@ module _ {A : Type 0} where
   all-drop P (suc k) [] h = tt
   all-drop P (suc k) (x ∷ xs) h = all-drop P k xs (h .1)
 
-  pub pairs-drop : (R : A → A → Type 0) (k : ℕ) (xs : List A) → Pairs R xs → Pairs R (drop k xs)
-  pairs-drop R zero xs h = h
-  pairs-drop R (suc k) [] h = tt
-  pairs-drop R (suc k) (x ∷ xs) h = pairs-drop R k xs (h .1)
+  pub every-two-drop : (R : A → A → Type 0) (k : ℕ) (xs : List A) → EveryTwo R xs → EveryTwo R (drop k xs)
+  every-two-drop R zero xs h = h
+  every-two-drop R (suc k) [] h = tt
+  every-two-drop R (suc k) (x ∷ xs) h = every-two-drop R k xs (h .1)
 
   -- what passes a test that holds of the list
   pub any-some : {P : Type 0} (test : A → Bool) (xs : List A) → any test xs ≡ true → ((x : A) → In x xs → test x ≡ true → P) → P

@@ -1,5 +1,6 @@
--- `firstAt` counts what fails before the first that passes, so a search that has passed k elements has k to add to what the rest says.
--- An element passed over, or a count one off, would fall here.
+-- Why it holds: `firstAt` counts what fails before the first that passes, so a search that has
+-- passed k elements has k to add to what the rest says.
+-- What would break it: An element passed over, or a count one off, would be caught here.
 use Prim.Native.Nat.{ℕ, zero, suc, _+_, _≤_, _<_, zero-le, compare·suc-suc}
 use mathlib.Core.Path.{_≡_, refl}
 use mathlib.Core.Bool.{Bool, true, false}

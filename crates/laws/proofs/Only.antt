@@ -1,5 +1,6 @@
--- A contract is an equation with a definition, and two things that equal a third are equal.
--- A contract that left a field open would have no such equation to give to this law.
+-- Why it holds: A contract is an equation with a definition, and two things that equal a third are
+-- equal. A contract that left a field open would have no such equation to give to this law.
+-- What would break it:
 use mathlib.Core.Path.{_≡_, sym, _∙_}
 
 -- the one law by which no second answer satisfies a contract

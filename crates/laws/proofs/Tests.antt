@@ -1,5 +1,7 @@
--- Bools are read and made part by part, so that a test of several parts becomes plain facts about numbers.
--- Nothing here knows a node; a wrong reading of `&&` or `||` would fall here first.
+-- Why it holds: Bools are read and made part by part, so that a test of several parts becomes plain
+-- facts about numbers.
+-- What would break it: Nothing here knows a node; a wrong reading of `&&` or `||` would be caught
+-- here first.
 use mathlib.Core.Path.{_≡_, refl, sym, subst, _∙_}
 use mathlib.Core.Logic.{_⊎_, inl, inr}
 use mathlib.Core.Bool.{Bool, true, false, cond, not, _&&_, _||_}

@@ -1,5 +1,5 @@
--- Whether some element of a list passes a test, the elements that do, and where the first of them stands; what all elements or all pairs
--- of a list have in common.
+-- Whether some element of a list passes a test, the elements that do, and where the first of them
+-- stands; what all elements or all pairs of a list have in common.
 use Prim.Native.Nat.{ℕ, zero, suc}
 use mathlib.Core.Bool.{Bool, false, cond, _||_}
 use mathlib.Core.List.{List, [], _∷_, List·Memᴰ}
@@ -24,9 +24,9 @@ All P [] = Unit {0}
 All P (x ∷ xs) = P x × All P xs
 
 -- R holds of every earlier and later element
-abbrev pub Pairs : {A : Type 0} → (A → A → Type 0) → List A → Type 0
-Pairs R [] = Unit {0}
-Pairs R (x ∷ xs) = All (R x) xs × Pairs R xs
+abbrev pub EveryTwo : {A : Type 0} → (A → A → Type 0) → List A → Type 0
+EveryTwo R [] = Unit {0}
+EveryTwo R (x ∷ xs) = All (R x) xs × EveryTwo R xs
 
 -- x stands in the list
 abbrev pub In : {A : Type 0} → A → List A → Type 0

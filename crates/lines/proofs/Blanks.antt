@@ -1,5 +1,5 @@
--- A word without its blanks is made letter by letter, and is no longer than the word.
--- A blank kept, or a letter left out, falls here.
+-- Why it holds: A word without its blanks is made letter by letter, and is no longer than the word.
+-- What would break it: A blank kept, or a letter left out, would be caught here.
 use mathlib.Core.Path.{_≡_, refl, _∙_}
 use mathlib.Core.Logic.{inl, inr}
 use mathlib.Core.Bool.{not}
@@ -24,7 +24,7 @@ unfilled-few (b ∷ letters) =
     let few = unfilled-few letters in
     elim (either (not (eqb b BLANK))) [ inl h ↦ rw h (omega arith) | inr h ↦ rw h (omega arith) ]
 
--- the next letter is put behind, and a blank is not
+-- the next letter is put after, and a blank is not
 module _ (letters : List ℕ) (i : ℕ) (l : i < length letters) where
   one-letter : unfilled (take (i + 1) letters) ≡ unfilled (take i letters) ++ unfilled (getD letters i 0 ∷ [])
   unfolding unfilled

@@ -1,6 +1,6 @@
--- A number of three digits or more has those of its hundredth and then two more, and a number below
--- a power of ten has no more digits than the power has zeros. A digit left out, or one of another
--- number, falls here.
+-- Why it holds: A number of three digits or more has those of its hundredth and then two more, and
+-- a number below a power of ten has no more digits than the power has zeros.
+-- What would break it: A digit left out, or one of another number, would be caught here.
 use mathlib.Core.Path.{_≡_, refl, sym, ap, _∙_}
 use mathlib.Core.Logic.{inl, inr}
 use mathlib.Core.List.{[], _∷_, _++_, append-assoc}

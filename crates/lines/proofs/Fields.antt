@@ -1,5 +1,7 @@
--- A field is a number in decimal and a byte behind it; the lines are fields and words, parted by that byte.
--- A line longer than its room, or a field in another's place, falls here.
+-- Why it holds: A field is a number in decimal and a byte after it; the lines are fields and words,
+-- parted by that byte.
+-- What would break it: A line longer than its room, or a field in another's place, would be caught
+-- here.
 use mathlib.Core.Path.{_≡_, sym, subst}
 use mathlib.Core.List.{List, [], _∷_, _++_, append-assoc}
 use Prim.Native.Nat.{ℕ, _+_, _≤_, _<_}
@@ -35,7 +37,7 @@ line-few x y p q r =
       length-append (one ++ BLANK ∷ two ++ BLANK ∷ three) (LINE-FEED ∷ []),
     )
 
--- a field is put behind a byte that parts it from what was put before
+-- a field is put after a byte that parts it from what was put before
 pub put-field : {before : List ℕ} {at : ℕ} {after : List ℕ} {to : ℕ} (us : List ℕ) (a : ℕ) → Put before at (us ++ a ∷ []) after to
     → {after′ : List ℕ} {to′ : ℕ} (n b : ℕ) → (to′ ≡ to + length (decimal n ++ b ∷ [])) × (after′ ≡ sets after to (decimal n ++ b ∷ []))
     → Put before at (us ++ a ∷ decimal n ++ b ∷ []) after′ to′

@@ -1,5 +1,6 @@
--- Two nodes more are one pair more, so an index of the pairs is twice that index of the nodes, and the lines grow pair by pair.
--- A pair of other nodes, or a line one pair off, falls here.
+-- Why it holds: Two nodes more are one pair more, so an index of the pairs is twice that index of
+-- the nodes, and the lines grow pair by pair.
+-- What would break it: A pair of other nodes, or a line one pair off, would be caught here.
 use mathlib.Core.Path.{_≡_, refl, sym, ap, _∙_}
 use mathlib.Core.List.{List, [], _∷_, _++_, flatMap}
 use Prim.Native.Nat.{ℕ, zero, suc, _+_, _*_, _/_, _≤_, _<_}
@@ -59,7 +60,8 @@ lines-more pairs i x y h p q =
     ∙ ap (λ pair. take i (pairsIn ns) ++ pair ∷ []) e)
     ∙ words-one-more pairLine (take i (pairsIn ns)) (pairWith x y)
 
--- the first pairs are those that the text has room for, where it has room for no more or there are no more
+-- the first pairs are those that the text has room for, where it has room for no more or there are
+-- no more
 module _ (pairs text : List ℕ) (i : ℕ) where
   pub lines-fit : i ≡ length text / LINE-BYTES → firstLines pairs i ≡ linesFor pairs text
   unfolding linesFor

@@ -1,5 +1,6 @@
--- A text put right behind another makes one text, put where the first was; so the lines are put together piece by piece.
--- A piece put one place off, or over the one before it, falls here.
+-- Why it holds: A text put right after another makes one text, put where the first was; so the
+-- lines are put together piece by piece.
+-- What would break it: A piece put one place off, or over the one before it, would be caught here.
 use mathlib.Core.Path.{_≡_, refl, ap, subst, _∙_}
 use mathlib.Core.List.{List, [], _∷_, _++_}
 use Prim.Native.Nat.{ℕ, suc, _+_, _≤_}
@@ -9,7 +10,7 @@ use lib.Seq.{sets, set-comm, append-snoc}
 use Rattle.answers.specs.Output.{written}
 use Rattle.answers.proofs.OutputLaws.{sets-more, sets-written}
 
--- a text put at a place of a buffer: what the buffer is then, and the place behind it
+-- a text put at a place of a buffer: what the buffer is then, and the place after it
 pub record Put (before : List ℕ) (at : ℕ) (us after : List ℕ) (to : ℕ) : Type 0 where
   pub place : to ≡ at + length us
   pub shows : after ≡ sets before at us
@@ -23,7 +24,7 @@ pub put-told : {before : List ℕ} {at : ℕ} {us after : List ℕ} {to : ℕ} �
     → (to ≡ at + length us) × (after ≡ sets before at us)
 put-told p = (p .place, p .shows)
 
--- the next text is put right behind
+-- the next text is put right after
 pub put-next : {before : List ℕ} {at : ℕ} {us after : List ℕ} {to : ℕ} → Put before at us after to → (vs : List ℕ) {after′ : List ℕ} {to′ : ℕ}
     → (to′ ≡ to + length vs) × (after′ ≡ sets after to vs) → Put before at (us ++ vs) after′ to′
 put-next {before} {at} {us} p vs e = record {
@@ -31,7 +32,7 @@ put-next {before} {at} {us} p vs e = record {
   shows = e .1 ∙ (λ k. sets (p .shows k) (p .place k) vs) ∙ sets-more us vs before at (at + length us) refl;
 }
 
--- it is put right behind a byte that parts it from what was put before
+-- it is put right after a byte that parts it from what was put before
 pub put-parted : {before : List ℕ} {at : ℕ} {after : List ℕ} {to : ℕ} (us : List ℕ) (a : ℕ) → Put before at (us ++ a ∷ []) after to
     → (vs : List ℕ) {after′ : List ℕ} {to′ : ℕ} → (to′ ≡ to + length vs) × (after′ ≡ sets after to vs) → Put before at (us ++ a ∷ vs) after′ to′
 put-parted {before} {at} us a p vs {after′} {to′} e = subst (λ ws. Put before at ws after′ to′) (append-snoc us a vs) (put-next p vs e)

@@ -1,6 +1,7 @@
--- A table has the two digits of each number below a hundred if a test of all of them passes, which
--- is computed. A wrong digit in the table, or one in another's place, falls where the table is
--- lent.
+-- Why it holds: A table has the two digits of each number below a hundred if a test of all of them
+-- passes, which is computed. A wrong digit in the table, or one in another's place, falls where the
+-- table is lent.
+-- What would break it:
 use mathlib.Core.Path.{_≡_}
 use mathlib.Core.Logic.{inl, inr}
 use mathlib.Core.Bool.{Bool, true, _&&_}

@@ -1,4 +1,4 @@
--- Document 01, "The printing program": the lines that it prints, as ASCII bytes.
+-- docs/SCOPE.md, "The printing program": the lines that it prints, as ASCII bytes.
 use Prim.Native.Nat.{ℕ, zero, suc, _+_, _/_, _%_}
 use Prim.Native.String.{String}
 use mathlib.Core.Bool.{cond, not}
@@ -51,7 +51,8 @@ pairLine p =
 abbrev pub LINE-BYTES : ℕ
 LINE-BYTES = 33
 
--- the lines of the pairs that words make, of as many as a text has room for however long their lines are
+-- the lines of the pairs that words make, of as many as a text has room for however long their
+-- lines are
 unfoldable pub linesFor : List ℕ → List ℕ → List ℕ
 linesFor pairs text = wordsIn pairLine (take (length text / LINE-BYTES) (pairsIn (nodes pairs)))
 

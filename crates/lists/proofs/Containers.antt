@@ -1,5 +1,7 @@
--- Two nodes that contain one node aren't apart, so in a taken list the later is nested in the earlier, and their levels rise from 1 to below its own.
--- If levels could stay or fall on the way in, no bound on the stack of open nodes would hold.
+-- Why it holds: Two nodes that contain one node aren't apart, so in a taken list the later is
+-- nested in the earlier, and their levels rise from 1 to below its own. If levels could stay or
+-- fall on the way in, no bound on the stack of open nodes would hold.
+-- What would break it:
 use mathlib.Core.Path.{_≡_}
 use mathlib.Core.Logic.{inl, inr, ⊎-elim}
 use mathlib.Core.Bool.{true, false}
@@ -9,7 +11,7 @@ use native.Mathlib.Omega.{arith}
 use lib.ListN.{length}
 use Rattle.nodes.specs.declared.node.Node.{Node}
 use Rattle.answers.specs.Answer.{TAKEN}
-use Rattle.laws.specs.Choose.{All, Pairs, In, keep}
+use Rattle.laws.specs.Choose.{All, EveryTwo, In, keep}
 use Rattle.nodes.specs.Node.{insideb, MOST-LEVELS}
 use Rattle.nodes.specs.Words.{nodes}
 use Rattle.laws.proofs.Choices.{all-map, all-both, all-in}
@@ -32,7 +34,7 @@ climbs : (e f : Node) → Fine e f → f .start ≤ f .end → e .document ≡ f
 climbs e f g span d s = ⊎-elim (λ q. omega arith) (λ q. nested-read f e q .1) (fine-settles f e span g d)
 
 -- each pair of a taken list lies so, whichever of the two comes first
-all-between : (ns : List Node) → All Sound ns → Pairs Fine ns → All (λ n. All (Between 1 n) ns) ns
+all-between : (ns : List Node) → All Sound ns → EveryTwo Fine ns → All (λ n. All (Between 1 n) ns) ns
 all-between [] s p = tt
 all-between (m ∷ ns) s p =
     let outer : All (λ n. Between 1 n m) ns =
@@ -43,7 +45,7 @@ all-between (m ∷ ns) s p =
 
 module _ (n : Node) (span : n .start ≤ n .end) where
   -- each node that contains n takes a level of its own
-  levels : (b : ℕ) (ns : List Node) → b ≤ n .level → Pairs Fine ns → All (Between b n) ns → length (keep (insideb n) ns) + b ≤ n .level
+  levels : (b : ℕ) (ns : List Node) → b ≤ n .level → EveryTwo Fine ns → All (Between b n) ns → length (keep (insideb n) ns) + b ≤ n .level
   unfolding keep
   levels b [] l p h = omega arith
   levels b (e ∷ ns) l p h =

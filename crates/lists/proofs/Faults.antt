@@ -1,5 +1,6 @@
--- The tests of `fault`, read one by one: what a node has where one doesn't apply.
--- A limit one off, or a test tried out of its turn, would fall here first.
+-- Why it holds: The tests of `fault`, read one by one: what a node has where one doesn't apply.
+-- What would break it: A limit one off, or a test tried out of its turn, would be caught here
+-- first.
 use mathlib.Core.Path.{_≡_, refl}
 use mathlib.Core.Logic.{_↔_}
 use mathlib.Core.Bool.{Bool, true, false, cond, not, _&&_}

@@ -1,5 +1,7 @@
--- Sixteen bytes more are one node more, so bytes are RAGGED or LONG just if the words that they make are, or if they make none.
--- A limit taken from the bytes or from the words instead of the nodes would fall here.
+-- Why it holds: Sixteen bytes more are one node more, so bytes are RAGGED or LONG just if the words
+-- that they make are, or if they make none.
+-- What would break it: A limit taken from the bytes or from the words instead of the nodes would be
+-- caught here.
 use mathlib.Core.Path.{_≡_, ap, _∙_}
 use mathlib.Core.Logic.{_↔_, inl, inr}
 use mathlib.Core.List.{List}
@@ -9,7 +11,7 @@ use lib.Dec.{eqb}
 use lib.ListN.{length}
 use borrow.Author.Tests.{eq-eqb, ne-eqb, lt-ltb, eqb-true}
 use Rattle.answers.specs.Answer.{TAKEN, RAGGED, LONG}
-use Rattle.laws.specs.Choose.{All, Pairs}
+use Rattle.laws.specs.Choose.{All, EveryTwo}
 use Rattle.nodes.specs.Words.{NODE-WORDS, MOST-NODES, nodes, count}
 use Rattle.laws.proofs.Tests.{either}
 use Rattle.numbers.specs.Little.{NUMBER-BYTES, NODE-BYTES, numbers}
@@ -50,7 +52,7 @@ module _ (bs : List ℕ) where
 
   -- bytes are taken if they make whole nodes, not too many, and the list of these is taken
   pub bytes-taken-iff : (checkBytes bs .answer ≡ TAKEN)
-      ↔ ((length bs % NODE-BYTES ≡ 0) × (length bs / NODE-BYTES ≤ MOST-NODES) × All Sound (nodes (numbers bs)) × Pairs Fine (nodes (numbers bs)))
+      ↔ ((length bs % NODE-BYTES ≡ 0) × (length bs / NODE-BYTES ≤ MOST-NODES) × All Sound (nodes (numbers bs)) × EveryTwo Fine (nodes (numbers bs)))
   unfolding checkBytes
   bytes-taken-iff = (
     λ t. elim (either (eqb (length bs % NUMBER-BYTES) 0)) [

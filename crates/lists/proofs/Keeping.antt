@@ -1,5 +1,7 @@
--- The open nodes lie one inside the other, so what the head of the chain tells holds of all, and a node that ended is open at no later one.
--- Were one open node lost or one ended node kept in its place, `stands-pop` or `top-tells` would fall.
+-- Why it holds: The open nodes lie one inside the other, so what the head of the chain tells holds
+-- of all, and a node that ended is open at no later one.
+-- What would break it: Were one open node lost or one ended node kept in its place, `stands-pop` or
+-- `top-tells` would fall.
 use mathlib.Core.Path.{_≡_, refl, ap, _∙_}
 use mathlib.Core.Logic.{_⊎_, inl, inr}
 use mathlib.Core.Bool.{Bool, true, false, cond, not, _||_}
@@ -87,7 +89,8 @@ top-tells n span (e ∷ s) ch = elim (either (openb n e)) [ inl o ↦ opened o (
         → cond (crossb (e ∷ s) n) CROSS (cond (depthb (e ∷ s) n) DEPTH TAKEN) ≡ headFault (unended n (e ∷ s)) n
     ended o h = rw (o, not-so (λ i. never (inside-open n e span i) o)) h
 
--- the chain of open nodes, as a walk along a list keeps it: it stands for all nodes before, and its head is the node before
+-- the chain of open nodes, as a walk along a list keeps it: it stands for all nodes before, and its
+-- head is the node before
 pub record Kept (before s : List Node) : Type 0 where
   pub stands : Stands (λ n. orderb before n ≡ false) before s
   pub last : (n : Node) → orderb before n ≡ orderb s n
@@ -136,7 +139,8 @@ head-taken n (e ∷ s) h =
     let q = skip (not (ltb (e .level) (n .level))) _ _ .0 (p .1) in
     (not-none _ (p .0), ltb-true _ _ (not-none _ (q .0)))
 
--- where the chain tells of nothing wrong, the level is right, the node stands after the head, and what is left tells of nothing wrong
+-- where the chain tells of nothing wrong, the level is right, the node stands after the head, and
+-- what is left tells of nothing wrong
 record Clean (s : List Node) (n : Node) : Type 0 where
   level : 1 ≤ n .level
   next : orderb s n ≡ false

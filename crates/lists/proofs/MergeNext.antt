@@ -1,5 +1,7 @@
--- The next node of a merge stands at the head of one list or of both, and each return takes that one off.
--- A head taken from the wrong list, or left there, falls at its case.
+-- Why it holds: The next node of a merge stands at the head of one list or of both, and each return
+-- takes that one off.
+-- What would break it: A head taken from the wrong list, or left there, would be caught at its
+-- case.
 use mathlib.Core.Path.{_≡_, refl, sym, ap, _∙_}
 use mathlib.Core.Bool.{true, false}
 use mathlib.Core.Logic.{⊎-elim}
@@ -23,7 +25,8 @@ four-on : (ws : List ℕ) (i a b c d : ℕ) → a ≡ suc i → b ≡ suc a → 
 four-on ws i a b c d p q r s h =
     rw (s, ← drop-cons ws c 0 h, r, ← drop-cons ws b 0 (omega arith), q, ← drop-cons ws a 0 (omega arith), p) (drop-cons ws i 0 (omega arith))
 
--- so the nodes from there on begin with the one whose words start there, and at the end there is none
+-- so the nodes from there on begin with the one whose words start there, and at the end there is
+-- none
 head-from : (ws : List ℕ) (i : ℕ) → i + 3 < length ws → nodes (drop i ws) ≡ nodeFrom ws i ∷ nodes (drop (i + 4) ws)
 unfolding nodes nodeFrom
 head-from ws i h = ap nodes (four-on ws i (i + 1) (i + 2) (i + 3) (i + 4) (omega arith) (omega arith) (omega arith) (omega arith) h)

@@ -1,5 +1,7 @@
--- A merge looks at the two heads only, so each of its tests settles the next node and what is left to merge.
--- A merge that dropped a node, or took the later head first, would fall here.
+-- Why it holds: A merge looks at the two heads only, so each of its tests settles the next node and
+-- what is left to merge.
+-- What would break it: A merge that dropped a node, or took the later head first, would be caught
+-- here.
 use mathlib.Core.Path.{_≡_, refl}
 use mathlib.Core.Bool.{true, false}
 use mathlib.Core.List.{List, [], _∷_}

@@ -1,5 +1,7 @@
--- Each node of a merge stands before all that is left of both lists, so the pairs of the merge are those of each list and those across.
--- If JOINT took a pair that one list could not hold, or a merge lost a node, the two sides would part here.
+-- Why it holds: Each node of a merge stands before all that is left of both lists, so the pairs of
+-- the merge are those of each list and those across. If JOINT took a pair that one list could not
+-- hold, or a merge lost a node, the two sides would part here.
+-- What would break it:
 use mathlib.Core.Path.{_≡_, sym}
 use mathlib.Core.Logic.{_↔_, _⊎_, inl, inr, ⊎-elim}
 use mathlib.Core.Bool.{true, false}
@@ -16,7 +18,7 @@ use Rattle.nodes.proofs.NodeLaws.{within, apart-read, apart-turned, after-trans
 use Rattle.lists.specs.Check.{checkNodes}
 use Rattle.lists.specs.Private.Merge.{merge, mergeInto}
 use Rattle.lists.specs.Two.{agreeb, oddsb, jointb}
-use Rattle.laws.specs.Choose.{All, Pairs}
+use Rattle.laws.specs.Choose.{All, EveryTwo}
 use Rattle.lists.proofs.MergeSteps.{merge-left, merge-both, merge-right}
 use Rattle.lists.proofs.Faults.{Sound}
 use Rattle.lists.proofs.Taken.{Fine, nested-read, agree-apart, agree-nested, agree-nests, agree-read, taken-iff}
@@ -133,7 +135,7 @@ even-more : (y : Node) (xs ys : List Node) → All (Fine y) xs → Even xs ys �
 even-more y xs ys h k = all-both (λ x f r. (even-turned y x (fine-even y x f), r)) xs h k
 
 -- both lists are parts of the merge, and a pair across is one of its pairs or one node
-merged-pairs : {xs ys ms : List Node} → Merged xs ys ms → Pairs Fine ms → Pairs Fine xs × Pairs Fine ys × Even xs ys
+merged-pairs : {xs ys ms : List Node} → Merged xs ys ms → EveryTwo Fine ms → EveryTwo Fine xs × EveryTwo Fine ys × Even xs ys
 merged-pairs no-first h = (tt, h, tt)
 merged-pairs (no-second {x = x} {xs = xs}) h = (h, tt, all-of (λ x. tt) (x ∷ xs))
 merged-pairs (left {x = x} {y = y} {ys = ys} a m) h =
@@ -155,7 +157,7 @@ ahead e n ns a h o = (even-fine e n a (o .0), all-both (λ m f k. even-fine e m 
 
 -- each node that a merge takes stands before all that is left of both lists
 pairs-merged : {xs ys ms : List Node} → Merged xs ys ms → All Sound xs → All Sound ys
-    → Pairs Fine xs → Pairs Fine ys → Even xs ys → Pairs Fine ms
+    → EveryTwo Fine xs → EveryTwo Fine ys → Even xs ys → EveryTwo Fine ms
 pairs-merged no-first s t h k o = k
 pairs-merged no-second s t h k o = h
 pairs-merged (left {x = x} {y = y} {ys = ys} a m) s t h k o =

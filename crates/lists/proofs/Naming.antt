@@ -1,5 +1,7 @@
--- The check of two lists has four answers, told apart by the checks of each and by whether any of their nodes are at odds.
--- A wrong list named, or JOINT where the lists agree, falls at its case.
+-- Why it holds: The check of two lists has four answers, told apart by the checks of each and by
+-- whether any of their nodes are at odds.
+-- What would break it: A wrong list named, or JOINT where the lists agree, would be caught at its
+-- case.
 use mathlib.Core.Path.{_≡_, refl}
 use mathlib.Core.Logic.{inl, inr}
 use mathlib.Core.Bool.{Bool, true, false, cond}

@@ -1,5 +1,6 @@
--- The answer for two lists goes from one test to the next while nothing is wrong, so TAKEN means that every test has passed.
--- A test left out, or one whose answer were TAKEN, would fall here.
+-- Why it holds: The answer for two lists goes from one test to the next while nothing is wrong, so
+-- TAKEN means that every test has passed.
+-- What would break it: A test left out, or one whose answer were TAKEN, would be caught here.
 use mathlib.Core.Path.{_≡_, refl}
 use mathlib.Core.Logic.{_↔_, inl, inr}
 use mathlib.Core.Bool.{Bool, true, false, cond}

@@ -1,5 +1,7 @@
--- A check that doesn't take a list has stopped at a test, and the test tells the nodes that draw its answer; a taken list has no such nodes.
--- An answer drawn by nothing that document 01 names, or a fault of its table that draws no answer, would fall here.
+-- Why it holds: A check that doesn't take a list has stopped at a test, and the test tells the
+-- nodes that draw its answer; a taken list has no such nodes.
+-- What would break it: An answer drawn by nothing that docs/SCOPE.md names, or a fault of its table
+-- that draws no answer, would be caught here.
 use mathlib.Core.Path.{_≡_, refl, sym, subst}
 use mathlib.Core.Logic.{_↔_, _⊎_, inl, inr, ⊎-elim}
 use mathlib.Core.Bool.{true, false}
@@ -23,7 +25,7 @@ use Rattle.lists.specs.Refusal.Neighbours.{here as next-here, later as n
 use Rattle.lists.specs.Refusal.Follows.{here, later}
 use Rattle.lists.specs.Refusal.Faulty.{ragged, long, level, span, order, cross, depth}
 use Rattle.lists.specs.Two.{nestedb, agreeb, oddsb, jointb, checkTwo}
-use Rattle.laws.specs.Choose.{All, Pairs, In}
+use Rattle.laws.specs.Choose.{All, EveryTwo, In}
 use Rattle.lists.proofs.Faults.{Sound, crosses, rises}
 use Rattle.lists.proofs.Merging.{joint-iff}
 use Rattle.lists.proofs.Pairing.{two-taken-iff}
@@ -31,7 +33,7 @@ use Rattle.lists.proofs.Taken.{Fine, nested-read, fine-settles, whole-w
 
 module _ {e n : Node} where
   -- what holds of all pairs holds of one
-  pair-in : (R : Node → Node → Type 0) {ns : List Node} → Pairs R ns → Follows e n ns → R e n
+  pair-in : (R : Node → Node → Type 0) {ns : List Node} → EveryTwo R ns → Follows e n ns → R e n
   pair-in R h (here {x = x} {ns = ns} p m) = subst (λ z. R z n) (sym p) (all-in (R x) ns (h .0) m)
   pair-in R h (later b) = pair-in R (h .1) b
 
@@ -151,7 +153,7 @@ module _ (words : List ℕ) where
         let s = sound (behind-in b) in
         ⊎-elim (λ p. omega arith) (λ p. omega (arith, nested-read n e p)) (settled e n b (sym (w .document)))
 
--- a list is refused exactly if its words or nodes have a fault of document 01's table
+-- a list is refused exactly if its words or nodes have a fault of the scope's table
 pub list-refused-iff : (words : List ℕ) → (checkWords words .answer ≡ TAKEN → ⊥) ↔ Faulty words
 list-refused-iff words = (λ h. words-found words h, λ f t. unfaulty words t f)
 
@@ -182,7 +184,8 @@ odds-make o =
     let s : sameb (o .x) (o .y) ≡ false = not-so (λ h. o .not-same (same-read (o .x) (o .y) h)) in
     rw (eq-eqb (o .x .document) (o .y .document) (o .document), s, o .not-apart, o .not-nested .0, o .not-nested .1)
 
--- two lists are refused exactly if one of them is, or a node of one and a node of the other are at odds
+-- two lists are refused exactly if one of them is, or a node of one and a node of the other are at
+-- odds
 pub refused-iff : (ancestors descendants : List ℕ) → (checkTwo ancestors descendants .answer ≡ TAKEN → ⊥)
     ↔ (Faulty ancestors ⊎ (Faulty descendants ⊎ AtOdds (nodes ancestors) (nodes descendants)))
 refused-iff ancestors descendants = (

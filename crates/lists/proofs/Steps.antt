@@ -1,5 +1,7 @@
--- Each return of a step is one case of `topFault` or `headFault`, reached by the tests that went before it.
--- A test left out, or tried in another order than document 01's, falls at the case that it changes.
+-- Why it holds: Each return of a step is one case of `topFault` or `headFault`, reached by the
+-- tests that went before it.
+-- What would break it: A test left out, or tried in another order than the scope's, would be
+-- caught at the case that it changes.
 use mathlib.Core.Path.{_≡_, refl, sym, ap, subst, _∙_}
 use mathlib.Core.Bool.{true, false}
 use mathlib.Core.List.{List, _∷_}
@@ -20,7 +22,8 @@ use Rattle.lists.specs.Private.Walk.{listPlace, firsts, opened, unended,
 use Rattle.lists.proofs.Faults.{Sound, level-sound, span-sound}
 use Rattle.lists.proofs.WalkLaws.{head-at, top-at, length-firsts, chain-length, first-unended, first-next}
 
--- a node that is deeper than the head of a chain is at most as deep as the deepest level, so the chain has room for it
+-- a node that is deeper than the head of a chain is at most as deep as the deepest level, so the
+-- chain has room for it
 room : (k : ℕ) (ws : List ℕ) (n e : Node) → 0 < k → e ≡ nodeAt ws (k - 1) → Chain (firsts k (nodes ws)) → e .level < n .level
     → n .level ≤ MOST-LEVELS → k < MOST-LEVELS
 room k ws n e h q ch below above =

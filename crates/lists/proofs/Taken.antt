@@ -1,5 +1,7 @@
--- A list is taken if no node has a fault after those before it, and along an ascending list each fault is a fault of one node or of one pair.
--- A check that looked at fewer pairs than all, or took a pair that crosses, would fall here.
+-- Why it holds: A list is taken if no node has a fault after those before it, and along an
+-- ascending list each fault is a fault of one node or of one pair.
+-- What would break it: A check that looked at fewer pairs than all, or took a pair that crosses,
+-- would be caught here.
 use mathlib.Core.Path.{_≡_, refl, sym}
 use mathlib.Core.Logic.{_↔_, _⊎_, inl, inr, ⊎-elim}
 use mathlib.Core.Bool.{true, false, cond}
@@ -21,7 +23,7 @@ use Rattle.lists.specs.Check.{checkFrom, checkNodes, raggedb, longb, wor
 use Rattle.lists.specs.Fault.{levelb, spanb, orderb, crossb, depthb, fault}
 use Rattle.lists.specs.Two.{nestedb, agreeb}
 use Rattle.answers.specs.Verdict.{ANCESTORS, verdict}
-use Rattle.laws.specs.Choose.{All, Pairs}
+use Rattle.laws.specs.Choose.{All, EveryTwo}
 use Rattle.lists.proofs.Faults.{Sound, skip, level-sound, span-sound, crosses, rises}
 
 -- of an earlier node e and a later one n, n stands after e, and within one document they agree
@@ -31,7 +33,7 @@ pub record Fine (e n : Node) : Type 0 where
 
 -- of a list with the last node first, each stands after all that follow
 abbrev pub Descends : List Node → Type 0
-Descends before = Pairs (λ n e. afterb n e ≡ true) before
+Descends before = EveryTwo (λ n e. afterb n e ≡ true) before
 
 pub nested-read : (y x : Node) → nestedb y x ≡ true → (insideb y x ≡ true) × (x .level < y .level)
 unfolding nestedb
@@ -139,7 +141,7 @@ goes-on f index v = (
 -- the nodes are fine among themselves, and after a list before them
 record Follows (before ns : List Node) : Type 0 where
   sound : All Sound ns
-  pairs : Pairs Fine ns
+  pairs : EveryTwo Fine ns
   after : All (λ n. All (λ e. Fine e n) before) ns
 
 check-follows : (before : List Node) (index : ℕ) (ns : List Node) → Descends before
@@ -166,7 +168,7 @@ follows-check before index (n ∷ later) r =
           (record { sound = r .sound .1; pairs = r .pairs .1; after = all-both (λ m f g. (f, g)) later (r .pairs .0) (r .after .1) }),
     )
 
-pub taken-iff : (ns : List Node) → (checkNodes ns .answer ≡ TAKEN) ↔ (All Sound ns × Pairs Fine ns)
+pub taken-iff : (ns : List Node) → (checkNodes ns .answer ≡ TAKEN) ↔ (All Sound ns × EveryTwo Fine ns)
 unfolding checkNodes
 taken-iff ns = (
   λ h. let r = check-follows [] 0 ns tt h in (r .sound, r .pairs),
@@ -187,7 +189,7 @@ unfolding checkWords
 words-check ws = goes-on (wordFault ws) 0 (checkNodes (nodes ws))
 
 pub words-taken-iff : (ws : List ℕ)
-    → (checkWords ws .answer ≡ TAKEN) ↔ ((length ws % NODE-WORDS ≡ 0) × (count ws ≤ MOST-NODES) × All Sound (nodes ws) × Pairs Fine (nodes ws))
+    → (checkWords ws .answer ≡ TAKEN) ↔ ((length ws % NODE-WORDS ≡ 0) × (count ws ≤ MOST-NODES) × All Sound (nodes ws) × EveryTwo Fine (nodes ws))
 words-taken-iff ws = (
   λ h. let p = words-check ws .0 h in
       let w = whole-words ws .0 (p .0) in

@@ -1,5 +1,6 @@
--- The first nodes of a list, the last one first, gain and lose their head with the count, so popping and pushing are the count's steps.
--- A node read or written one place off falls here.
+-- Why it holds: The first nodes of a list, the last one first, gain and lose their head with the
+-- count, so popping and pushing are the count's steps.
+-- What would break it: A node read or written one place off would be caught here.
 use mathlib.Core.Path.{_≡_, refl, sym, ap, subst, _∙_}
 use mathlib.Core.Bool.{true, false, not}
 use mathlib.Core.Logic.{inl, inr, ⊎-elim}
@@ -32,7 +33,7 @@ unfolding firsts
 length-firsts zero ns = refl
 length-firsts (suc k) ns = ap suc (length-firsts k ns)
 
--- a node stored at or behind index k leaves the first k as they are
+-- a node stored at or after index k leaves the first k as they are
 firsts-set : (k : ℕ) (ns : List Node) (i : ℕ) (n : Node) → k ≤ i → firsts k (set ns i n) ≡ firsts k ns
 unfolding firsts
 firsts-set zero ns i n h = refl
@@ -83,7 +84,8 @@ unfolding firsts unended
 head-none zero ws n h = refl
 head-none (suc k) ws n h = absurd (not-suc-le-zero h)
 
--- the top of a stack of n's document is open where it ends at n's start or later, and has ended where it doesn't
+-- the top of a stack of n's document is open where it ends at n's start or later, and has ended
+-- where it doesn't
 module _ (u : ℕ) (ws : List ℕ) (n e : Node) (h : 0 < u) (m : u % 4 ≡ 0) (q : e ≡ nodeAt ws (u / 4 - 1))
     (a : InDocument (n .document) (opened u ws)) where
   by-top : InDocument (n .document) (e ∷ opened (u - 4) ws)

@@ -1,5 +1,7 @@
--- A walk keeps the chain of open nodes and leaves to check what the whole check leaves, so its last answer is the whole check's.
--- A step that passed a faulty node, or named another index, would fall at `passed-on` or `stopped`.
+-- Why it holds: A walk keeps the chain of open nodes and leaves to check what the whole check
+-- leaves, so its last answer is the whole check's.
+-- What would break it: A step that passed a faulty node, or named another index, would be caught at
+-- `passed-on` or `stopped`.
 use mathlib.Core.Path.{_≡_, refl, sym, ap, _∙_, subst}
 use mathlib.Core.List.{List, [], _∷_}
 use Prim.Native.Nat.{ℕ, _+_}
@@ -18,7 +20,8 @@ use Rattle.lists.specs.Step.{verdictOf}
 use Rattle.lists.specs.Private.Walk.{opened, Fits, SteppedPast}
 use Rattle.lists.proofs.Keeping.{Kept, kept-none, kept-next, fault-told}
 
--- a walk with the chain s, at an index, with the rest of the nodes before it, where the check of all nodes says whole
+-- a walk with the chain s, at an index, with the rest of the nodes before it, where the check of
+-- all nodes says whole
 pub record Walk (s : List Node) (index : ℕ) (rest : List Node) (whole : Verdict) : Type 0 where
   pub before : List Node
   pub kept : Kept before s

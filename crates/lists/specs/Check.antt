@@ -1,4 +1,4 @@
--- Document 01, "Answer numbers": the answer for one list.
+-- docs/SCOPE.md, "Answer numbers": the answer for one list.
 use Prim.Native.Nat.{ℕ, suc, _%_}
 use mathlib.Core.Bool.{Bool, cond, not}
 use mathlib.Core.List.{List, [], _∷_}
@@ -12,7 +12,8 @@ use Rattle.answers.specs.declared.verdict.Verdict.{Verdict}
 use Rattle.lists.specs.Fault.{fault}
 use Rattle.answers.specs.Verdict.{ANCESTORS, verdict, taken}
 
--- the first node in list order at which something is wrong, with its index; the nodes before come with the last one first
+-- the first node in list order at which something is wrong, with its index; the nodes before come
+-- with the last one first
 unfoldable pub checkFrom : List Node → ℕ → List Node → Verdict
 checkFrom before index [] = taken
 checkFrom before index (n ∷ later) =
@@ -37,6 +38,7 @@ wordFault words = cond (raggedb words) RAGGED (cond (longb words) LONG TAKEN)
 unfoldable pub checkWords : List ℕ → Verdict
 checkWords words = cond (eqb (wordFault words) TAKEN) (checkNodes (nodes words)) (verdict (wordFault words) ANCESTORS 0)
 
--- the answer for a list that lies in bytes: that for its words; bytes that don't make whole words don't make whole nodes
+-- the answer for a list that lies in bytes: that for its words; bytes that don't make whole words
+-- don't make whole nodes
 unfoldable pub checkBytes : List ℕ → Verdict
 checkBytes bytes = cond (eqb (length bytes % NUMBER-BYTES) 0) (checkWords (numbers bytes)) (verdict RAGGED ANCESTORS 0)

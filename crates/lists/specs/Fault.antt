@@ -1,4 +1,5 @@
--- Document 01, "Answer numbers", rows 3 to 7: what is wrong at a node, given all the nodes before it, the last one first.
+-- docs/SCOPE.md, "Answer numbers", rows 3 to 7: what is wrong at a node, given all the nodes before
+-- it, the last one first.
 use Prim.Native.Nat.{ℕ}
 use mathlib.Core.Bool.{Bool, false, cond, not, _&&_, _||_}
 use mathlib.Core.List.{List, [], _∷_}

@@ -1,4 +1,5 @@
--- Document 01, "Answer numbers", rows 1 to 8, said by the nodes that draw an answer and not by a check.
+-- docs/SCOPE.md, "Answer numbers", rows 1 to 8, said by the nodes that draw an answer and not by a
+-- check.
 use Prim.Native.Nat.{ℕ, _%_, _≤_, _<_}
 use mathlib.Core.Path.{_≡_}
 use mathlib.Core.Logic.{_⊎_}
@@ -31,11 +32,13 @@ pub data Faulty (words : List ℕ) : Type 0 where
   span : (n : Node) → In n (nodes words) → n .end < n .start → Faulty words
   -- of two neighbours the second doesn't stand after the first
   order : (e n : Node) → Neighbours e n (nodes words) → afterb n e ≡ false → Faulty words
-  -- of two nodes of one document the earlier reaches to the later one, which isn't inside it, or is without a higher level
+  -- of two nodes of one document the earlier reaches to the later one, which isn't inside it, or is
+  -- without a higher level
   cross : (e n : Node) → Follows e n (nodes words) → e .document ≡ n .document → n .start ≤ e .end → insideb n e ≡ false → Faulty words
   depth : (e n : Node) → Follows e n (nodes words) → insideb n e ≡ true → n .level ≤ e .level → Faulty words
 
--- a node of one list and a node of the other, of one document, are neither identical, nor apart, nor one inside the other with a higher level
+-- a node of one list and a node of the other, of one document, are neither identical, nor apart,
+-- nor one inside the other with a higher level
 pub record AtOdds (xs ys : List Node) : Type 0 where
   pub x : Node
   pub y : Node

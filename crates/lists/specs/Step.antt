@@ -1,4 +1,4 @@
--- What a step of the check answers: document 01's number and values for each of its two cases.
+-- What a step of the check answers: the scope's number and values for each of its two cases.
 use Rattle.answers.specs.declared.verdict.Verdict.{Verdict}
 use Rattle.answers.specs.Verdict.{taken}
 use Rattle.lists.specs.declared.walk.Step.{Step}

@@ -1,4 +1,5 @@
--- Document 01, "Answer numbers", row 8 and the paragraph below the table: the answer for two lists.
+-- docs/SCOPE.md, "Answer numbers", row 8 and the paragraph below the table: the answer for two
+-- lists.
 use Prim.Native.Nat.{ℕ}
 use mathlib.Core.Bool.{Bool, cond, not, _&&_, _||_}
 use mathlib.Core.List.{List}
@@ -16,7 +17,8 @@ use Rattle.answers.specs.Verdict.{ANCESTORS, DESCENDANTS, verdict, taken, refus
 unfoldable pub nestedb : Node → Node → Bool
 nestedb y x = insideb y x && ltb (x .level) (y .level)
 
--- x and y, of one document, are apart, or one is inside the other where the inner one's level is higher
+-- x and y, of one document, are apart, or one is inside the other where the inner one's level is
+-- higher
 unfoldable pub agreeb : Node → Node → Bool
 agreeb x y = apartb x y || (nestedb x y || nestedb y x)
 

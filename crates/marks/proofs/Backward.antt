@@ -1,5 +1,7 @@
--- Going back over taken marks, each close is kept until its opening comes, and each row is stored right before those already written.
--- A row stored over another, or one that came with another's end or level, would fall at `back-on`.
+-- Why it holds: Going back over taken marks, each close is kept until its opening comes, and each
+-- row is stored right before those already written.
+-- What would break it: A row stored over another, or one that came with another's end or level,
+-- would be caught at `back-on`.
 use mathlib.Core.Path.{_≡_, refl, sym, ap, _∙_}
 use mathlib.Core.Logic.{inl, inr}
 use mathlib.Core.List.{List, [], _∷_, _++_, flatMap}
@@ -76,7 +78,7 @@ length-output document position kept p mark out =
       | inr h ↦ rw h (length-sets out (5 * (p .rows - 1)) (rowWords (rowHere document position kept (p .depth) mark)))
     ]
 
--- how many elements are open behind the first so many marks
+-- how many elements are open after the first so many marks
 pub openAt : List ℕ → ℕ → ℕ
 openAt marks zero = 0
 openAt marks (suc k) = openAfter (openAt marks k) (getD marks k 0)
@@ -117,7 +119,8 @@ count-rest (mark ∷ marks) (suc k) =
       | opens h t ↦ rw (count-node mark marks h) (omega arith)
     ]
 
--- a walk back to a position, which keeps the closes of the elements open there and has written the rows that begin behind it
+-- a walk back to a position, which keeps the closes of the elements open there and has written the
+-- rows that begin after it
 pub record Back (document : ℕ) (marks out₀ : List ℕ) (position : ℕ) (kept : List ℕ) (p : MarkPlace) (out : List ℕ) : Type 0 where
   pub long : length kept ≡ MOST-LEVELS
   pub same : length out ≡ length out₀

@@ -1,5 +1,8 @@
--- Of two rows of a numbered document the later starts behind the earlier one's end or lies inside it, and each level above a row has an element
--- around it; so containment is where the marks stand. A row that ended at another's close, or a level left out, would fall here.
+-- Why it holds: Of two rows of a numbered document the later starts after the earlier one's end or
+-- lies inside it, and each level above a row has an element around it; so containment is where the
+-- marks stand.
+-- What would break it: A row that ended at another's close, or a level left out, would be caught
+-- here.
 use mathlib.Core.Path.{_≡_, refl, sym, subst, ap, _∙_}
 use mathlib.Core.Logic.{_↔_, _⊎_, inl, inr, ⊎-elim}
 use mathlib.Core.Bool.{true}
@@ -9,10 +12,10 @@ use native.Mathlib.Omega.{arith}
 use lib.Dec.{leb, eqb}
 use borrow.Author.Tests.{leb-true, leb-false, eqb-true, eqb-false}
 use Rattle.answers.specs.Answer.{TAKEN}
-use Rattle.laws.specs.Choose.{All, Pairs, In}
+use Rattle.laws.specs.Choose.{All, EveryTwo, In}
 use Rattle.nodes.specs.Node.{insideb, directlyb}
 use Rattle.nodes.specs.Words.{node}
-use Rattle.laws.proofs.Choices.{all-in, pairs-in}
+use Rattle.laws.proofs.Choices.{all-in, every-two-in}
 use Rattle.nodes.proofs.NodeLaws.{within, inside-make, directly-inside, directly-make}
 use Rattle.laws.proofs.Tests.{either}
 use Rattle.marks.specs.declared.row.Row.{Row}
@@ -31,7 +34,7 @@ pub record Around (rs : List Row) (level : ℕ) (y : Row) : Type 0 where
 further : (r y : Row) (rs : List Row) (level : ℕ) → Around rs level y → Around (r ∷ rs) level y
 further r y rs level a = record { outer = a .outer; stands = List·Memᴰ·tail (a .stands); level-of = a .level-of; contains = a .contains }
 
--- a close that is looked for from an opening or a text on comes behind it
+-- a close that is looked for from an opening or a text on comes after it
 close-behind : (inner position mark : ℕ) (marks : List ℕ) → (mark ≡ CLOSE → ⊥) → position < closeAt inner position (mark ∷ marks)
 close-behind inner position mark marks h =
     elim (kind-of mark) [
@@ -67,7 +70,8 @@ opened-contains : (x y : Row) → Settled x y → y .node .start < x .node .end 
 opened-contains x y s l =
     ⊎-elim (λ p. absurd (omega arith)) (λ p. inside-make (y .node) (x .node) (s .document) (s .start) (p .0)) (s .ends)
 
--- around a row stands an element of each level above its own: one of the rows, or one that was open before them and is still open at the row
+-- around a row stands an element of each level above its own: one of the rows, or one that was open
+-- before them and is still open at the row
 all-around : (document position depth : ℕ) (marks : List ℕ) → faultFrom position depth marks ≡ TAKEN → (y : Row) (level : ℕ)
     → In y (rowsFrom document position depth marks) → level < y .node .level
     → Around (rowsFrom document position depth marks) level y ⊎ Open level depth position marks y
@@ -97,7 +101,8 @@ all-around document position depth (mark ∷ marks) f y level m l =
     rest : List Row
     rest = rowsFrom document (position + 1) (openAfter depth mark) marks
 
-    -- of the elements that are open behind an opening, the one that it opens is around the row, or one that was open before it still is
+    -- of the elements that are open after an opening, the one that it opens is around the row, or
+    -- one that was open before it still is
     in-opening : (mark ≡ CLOSE → ⊥) → (mark ≡ TEXT → ⊥) → In y rest → Open level (depth + 1) (position + 1) marks y
         → Around rest level y ⊎ ((insideb (y .node) (head .node) ≡ true) × (level ≡ depth + 1)) ⊎ Open level depth position (mark ∷ marks) y
     in-opening h k n o =
@@ -107,7 +112,7 @@ all-around document position depth (mark ∷ marks) f y level m l =
               let e : level ≡ depth + 1 = omega (arith, o .0) in
               let t : y .node .start < endOf position mark marks =
               rw (end-opens position mark marks k) (subst (λ j. y .node .start < closeAt j (position + 1) marks) (omega arith) (o .1)) in
-              let all = subst (Pairs Settled) (rows-node document position depth mark marks h) (all-settled document position depth (mark ∷ marks) f) in
+              let all = subst (EveryTwo Settled) (rows-node document position depth mark marks h) (all-settled document position depth (mark ∷ marks) f) in
               let s = all-in (Settled head) rest (all .0) n in
               inr (inl (opened-contains head y s t, e))
         ]
@@ -136,7 +141,7 @@ module _ (document : ℕ) (marks : List ℕ) (taken : checkMarks marks ≡ TAKEN
   unfolding tableOf
   table-made = all-made document 1 0 marks (check-read marks taken .1)
 
-  pub table-settled : Pairs Settled (tableOf document marks)
+  pub table-settled : EveryTwo Settled (tableOf document marks)
   unfolding tableOf
   table-settled = all-settled document 1 0 marks (check-read marks taken .1)
 
@@ -147,7 +152,7 @@ module _ (document : ℕ) (marks : List ℕ) (taken : checkMarks marks ≡ TAKEN
 
   module _ (x y : Row) (x-in : In x (tableOf document marks)) (y-in : In y (tableOf document marks)) where
     settled : (x ≡ y) ⊎ (Settled x y ⊎ Settled y x)
-    settled = pairs-in Settled (tableOf document marks) x y table-settled x-in y-in
+    settled = every-two-in Settled (tableOf document marks) x y table-settled x-in y-in
 
     -- y is inside x exactly when its opening or text mark stands between x's opening and its close
     pub inside-between : (insideb (y .node) (x .node) ≡ true) ↔ ((x .node .start < y .node .start) × (y .node .start < x .node .end))
@@ -190,7 +195,8 @@ module _ (document : ℕ) (marks : List ℕ) (taken : checkMarks marks ≡ TAKEN
         ]
       ]
 
-  -- y is directly inside x exactly when x is the element that y stands in: it contains y, and nothing that contains y is inside it
+  -- y is directly inside x exactly when x is the element that y stands in: it contains y, and
+  -- nothing that contains y is inside it
   pub directly-stands : (x y : Row) → In x (tableOf document marks) → In y (tableOf document marks)
       → (directlyb (y .node) (x .node) ≡ true) ↔ ((insideb (y .node) (x .node) ≡ true)
       × ((z : Row) → In z (tableOf document marks) → insideb (y .node) (z .node) ≡ true → insideb (z .node) (x .node) ≡ true → ⊥))

@@ -1,5 +1,7 @@
--- A table tells its marks, so TABLE is answered just where no accepted marks have the rows, and numbering and its way back undo one another, word for
--- word. A table refused though marks have it, or one taken back into marks that number otherwise, would fall here.
+-- Why it holds: A table tells its marks, so TABLE is answered just where no accepted marks have the
+-- rows, and numbering and its way back undo one another, word for word.
+-- What would break it: A table refused though marks have it, or one taken back into marks that
+-- number otherwise, would be caught here.
 use mathlib.Core.Path.{_≡_, refl, sym}
 use mathlib.Core.Logic.{_↔_, inl, inr}
 use mathlib.Core.Bool.{true, not}

@@ -1,5 +1,7 @@
--- Of accepted marks only the last closes the root, so the first row's end is their number, and every mark that is no close is the tag of the row that
--- starts at its position. Were a row's start or the root's end one off, the marks would come back shifted or cut short, and it would fall here.
+-- Why it holds: Of accepted marks only the last closes the root, so the first row's end is their
+-- number, and every mark that is no close is the tag of the row that starts at its position.
+-- What would break it: Were a row's start or the root's end one off, the marks would come back
+-- shifted or cut short, and it would be caught here.
 use mathlib.Core.Path.{_≡_, refl, sym, ap, _∙_}
 use mathlib.Core.Logic.{inl, inr}
 use mathlib.Core.Bool.{true}
@@ -62,7 +64,8 @@ root-closes inner position depth (mark ∷ marks) d p h =
         (omega (arith, none-follow (position + 1) (openAfter depth mark) marks (omega arith) (omega (arith, open-closes depth mark k)) f))
     closed (suc i) e k f on = rw (close-closes i position mark marks k) (omega (arith, on i (omega (arith, open-closes depth mark k))))
 
--- the first row of accepted marks is the root's: it ends at the last of them, and tells the document
+-- the first row of accepted marks is the root's: it ends at the last of them, and tells the
+-- document
 root : (document : ℕ) (marks : List ℕ) → faultFrom 1 0 marks ≡ TAKEN
     → (0 < length (rowsFrom document 1 0 marks)) × (rowIn (rowsFrom document 1 0 marks) 0 .node .end ≡ length marks)
     × (rowIn (rowsFrom document 1 0 marks) 0 .node .document ≡ document)

@@ -1,5 +1,7 @@
--- Behind a mark the closes kept are those of the elements open there; a close adds its own position, and an opening takes the innermost's as its
--- end. A close kept at another place than its element's, or an end read from another element's close, would fall here.
+-- Why it holds: After a mark the closes kept are those of the elements open there; a close adds its
+-- own position, and an opening takes the innermost's as its end.
+-- What would break it: A close kept at another place than its element's, or an end read from
+-- another element's close, would be caught here.
 use mathlib.Core.Path.{_≡_, refl, sym, ap, _∙_}
 use mathlib.Core.List.{List, _∷_}
 use Prim.Native.Nat.{ℕ, zero, suc, _+_, _-_, _≤_, _<_}
@@ -29,7 +31,7 @@ module _ (depth mark : ℕ) where
   unfolding openBefore
   before-opens h k = rw (ne-eqb mark CLOSE h, ne-eqb mark TEXT k)
 
-  -- an opening or a text closes nothing, so no more elements are open before it than behind
+  -- an opening or a text closes nothing, so no more elements are open before it than after
   pub before-low : (mark ≡ CLOSE → ⊥) → openBefore depth mark ≤ depth
   before-low h =
       elim (kind-of mark) [

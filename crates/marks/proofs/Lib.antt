@@ -1,9 +1,12 @@
--- Theorems for the reader: `Marked` says that rows stand where their marks do, `Contained` what is inside what, `Picked` that the lists of any two
--- tags are accepted together, `Exact` when a table is refused, `Returned` that numbering and its way back return each other, and `Only` that no
--- second answer satisfies a public contract. Laws for the code: `MarkLaws` is what each definition says of each kind of mark, `RowLaws` how rows
--- lie in words, `Passing` what the walk along the marks tells, `Keeping` which closes are kept on the way back, `Backward` how the rows are
--- written, `Inverse` that a table tells its marks, `ReadBack` why the walk back along a table settles it, `Tagging` how its marks are written,
--- `Picking` what is picked row by row, `Outcomes` what a call answers; `Numbered` is how any two rows of a document lie.
+-- Theorems for the reader: `Marked` says that rows stand where their marks do, `Contained` what is
+-- inside what, `Picked` that the lists of any two tags are accepted together, `Exact` when a table
+-- is refused, `Returned` that numbering and its way back return each other, and `Only` that no
+-- second answer satisfies a public contract. Laws for the code: `MarkLaws` is what each definition
+-- says of each kind of mark, `RowLaws` how rows lie in words, `Passing` what the walk along the
+-- marks tells, `Keeping` which closes are kept on the way back, `Backward` how the rows are
+-- written, `Inverse` that a table tells its marks, `ReadBack` why the walk back along a table
+-- settles it, `Tagging` how its marks are written, `Picking` what is picked row by row, `Outcomes`
+-- what a call answers; `Numbered` is how any two rows of a document lie.
 pub mod Backward
 pub mod Contained
 pub mod Exact

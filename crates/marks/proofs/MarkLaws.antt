@@ -1,5 +1,7 @@
--- A mark is a close, a text or an opening, and each definition about marks says one thing of each of the three.
--- A mark counted as two kinds, a close that opened something or a faulty mark passed over would fall here.
+-- Why it holds: A mark is a close, a text or an opening, and each definition about marks says one
+-- thing of each of the three.
+-- What would break it: A mark counted as two kinds, a close that opened something or a faulty mark
+-- passed over would be caught here.
 use mathlib.Core.Path.{_≡_, refl}
 use mathlib.Core.Logic.{inl, inr}
 use mathlib.Core.Bool.{false, _||_}

@@ -1,5 +1,7 @@
--- A row's end is the position of a close that comes after it, and the closes of elements inside one another come in turn; so of two rows the
--- later starts behind the earlier one's end, or ends before it and stands deeper. A close taken for another's, or a level one off, would fall here.
+-- Why it holds: A row's end is the position of a close that comes after it, and the closes of
+-- elements inside one another come in turn; so of two rows the later starts after the earlier one's
+-- end, or ends before it and stands deeper.
+-- What would break it: A close taken for another's, or a level one off, would be caught here.
 use mathlib.Core.Path.{_≡_, refl}
 use mathlib.Core.Logic.{_⊎_, inl, inr, ⊎-elim}
 use mathlib.Core.List.{List, [], _∷_}
@@ -8,7 +10,7 @@ use native.Mathlib.Numerals.{add-one}
 use native.Mathlib.Omega.{arith}
 use lib.ListN.{length}
 use Rattle.answers.specs.Answer.{TAKEN}
-use Rattle.laws.specs.Choose.{All, Pairs}
+use Rattle.laws.specs.Choose.{All, EveryTwo}
 use Rattle.nodes.specs.Node.{MOST-LEVELS}
 use Rattle.laws.proofs.Choices.{all-map, all-both}
 use Rattle.laws.proofs.Tests.{either}
@@ -117,7 +119,8 @@ all-made document position depth (mark ∷ marks) f =
           all-map (later-made document position) (rowsFrom document (position + 1) (openAfter depth mark) marks) later,
         )
 
--- a row begins behind the close of an element that is open, or ends before that close and stands deeper than the element
+-- a row begins after the close of an element that is open, or ends before that close and stands
+-- deeper than the element
 abbrev Beside : ℕ → ℕ → Row → Type 0
 Beside close level r = (close < r .node .start) ⊎ ((r .node .end < close) × (level < r .node .level))
 
@@ -157,14 +160,15 @@ all-beside document position depth inner (mark ∷ marks) f l =
         let e : depth - 1 - inner ≡ depth - suc inner = omega arith in
         rw (close-closes inner position mark marks h) (rw e at (later inner (omega arith)))
 
--- of two rows of one document the later one starts later; it starts behind the earlier one's end, or ends before it and stands deeper
+-- of two rows of one document the later one starts later; it starts after the earlier one's end, or
+-- ends before it and stands deeper
 pub record Settled (x y : Row) : Type 0 where
   pub document : y .node .document ≡ x .node .document
   pub start : x .node .start < y .node .start
   pub ends : (x .node .end < y .node .start) ⊎ ((y .node .end < x .node .end) × (x .node .level < y .node .level))
 
 pub all-settled : (document position depth : ℕ) (marks : List ℕ) → faultFrom position depth marks ≡ TAKEN
-    → Pairs Settled (rowsFrom document position depth marks)
+    → EveryTwo Settled (rowsFrom document position depth marks)
 unfolding rowsFrom
 all-settled document position depth [] f = tt
 all-settled document position depth (mark ∷ marks) f =

@@ -1,5 +1,6 @@
--- A walk that reaches the end has met no fault and counted each mark that isn't a close, and one that is refused names the first fault.
--- A mark passed over, or a row counted twice, would fall here.
+-- Why it holds: A walk that reaches the end has met no fault and counted each mark that isn't a
+-- close, and one that is refused names the first fault.
+-- What would break it: A mark passed over, or a row counted twice, would be caught here.
 use mathlib.Core.Path.{_≡_, refl, sym, ap, _∙_, subst}
 use mathlib.Core.Logic.{inl, inr}
 use mathlib.Core.Bool.{cond}
@@ -45,7 +46,7 @@ length-table document position depth (mark ∷ marks) =
     let later = length-table document (position + 1) (openAfter depth mark) marks in
     elim (either (closeb mark)) [ inl h ↦ rw h later | inr h ↦ rw h (ap suc later) ]
 
--- the rows of a place behind a mark
+-- the rows of a place after a mark
 rows-after : (p : MarkPlace) (mark : ℕ) (marks : List ℕ) → afterMark p mark .rows + rowCount marks ≡ p .rows + rowCount (mark ∷ marks)
 unfolding afterMark
 rows-after p mark marks =
@@ -80,7 +81,8 @@ module _ (marks : List ℕ) (r : Step) (e : r ≡ walked 1 (markPlace 0 0) marks
       let t = subst (Told (faultFrom 1 0 marks) (0 + rowCount marks)) (sym e ∙ h) (told 1 (markPlace 0 0) marks) in
       (ap answerIn h ∙ t .0, t .1)
 
--- a walk that has passed so many marks leaves to walk what the whole walk leaves, and has no more open or begun than it has passed
+-- a walk that has passed so many marks leaves to walk what the whole walk leaves, and has no more
+-- open or begun than it has passed
 pub record Walk (count : ℕ) (p : MarkPlace) (rest : List ℕ) (whole : Step) : Type 0 where
   pub depth : p .depth ≤ count
   pub rows : p .rows ≤ count

@@ -1,5 +1,7 @@
--- Any two rows of a numbered document are apart or lie one inside the other at a deeper level, and picking leaves rows out without changing one.
--- So a tag's list is accepted and any two agree; numbers that made a list CROSS or two lists JOINT would fall here.
+-- Why it holds: Any two rows of a numbered document are apart or lie one inside the other at a
+-- deeper level, and picking leaves rows out without changing one.
+-- What would break it: So a tag's list is accepted and any two agree; numbers that made a list
+-- CROSS or two lists JOINT would be caught here.
 use mathlib.Core.Path.{_≡_, sym, subst, ap, _∙_}
 use mathlib.Core.Logic.{_⊎_, inl, inr, ⊎-elim}
 use mathlib.Core.Bool.{false}
@@ -10,10 +12,10 @@ use lib.Dec.{eqb}
 use lib.ListN.{length}
 use Rattle.nodes.specs.declared.node.Node.{Node}
 use Rattle.answers.specs.Answer.{TAKEN}
-use Rattle.laws.specs.Choose.{All, Pairs, In, keep}
+use Rattle.laws.specs.Choose.{All, EveryTwo, In, keep}
 use Rattle.nodes.specs.Words.{nodes}
 use Rattle.answers.specs.Output.{wordsIn}
-use Rattle.laws.proofs.Choices.{all-map, each-in, keep-all-of, keep-pairs, pairs-in, pairs-map}
+use Rattle.laws.proofs.Choices.{all-map, each-in, keep-all-of, keep-every-two, every-two-in, every-two-map}
 use Rattle.nodes.proofs.NodeLaws.{inside-make, apart-ahead, after-start}
 use Rattle.nodes.proofs.WordLaws.{nodes-of-words, length-words}
 use Rattle.lists.specs.Check.{checkWords}
@@ -37,7 +39,7 @@ all-nodes : (P : Node → Type 0) (rs : List Row) → All (λ r. P (r .node)) rs
 all-nodes P [] h = tt
 all-nodes P (r ∷ rs) h = (h .0, all-nodes P rs (h .1))
 
-pairs-nodes : (R : Node → Node → Type 0) (rs : List Row) → Pairs (λ x y. R (x .node) (y .node)) rs → Pairs R (map (λ r. r .node) rs)
+pairs-nodes : (R : Node → Node → Type 0) (rs : List Row) → EveryTwo (λ x y. R (x .node) (y .node)) rs → EveryTwo R (map (λ r. r .node) rs)
 pairs-nodes R [] h = tt
 pairs-nodes R (r ∷ rs) h = (all-nodes (R (r .node)) rs (h .0), pairs-nodes R rs (h .1))
 
@@ -46,10 +48,10 @@ module _ (tag : ℕ) where
   unfolding nodesWith
   all-picked P rs h = all-nodes P (keep (λ r. eqb (r .tag) tag) rs) (keep-all-of (λ r. P (r .node)) (λ r. eqb (r .tag) tag) rs h)
 
-  pairs-picked : (R : Node → Node → Type 0) (rs : List Row) → Pairs (λ x y. R (x .node) (y .node)) rs → Pairs R (nodesWith tag rs)
+  every-two-picked : (R : Node → Node → Type 0) (rs : List Row) → EveryTwo (λ x y. R (x .node) (y .node)) rs → EveryTwo R (nodesWith tag rs)
   unfolding nodesWith
-  pairs-picked R rs h =
-      pairs-nodes R (keep (λ r. eqb (r .tag) tag) rs) (keep-pairs (λ x y. R (x .node) (y .node)) (λ r. eqb (r .tag) tag) rs h)
+  every-two-picked R rs h =
+      pairs-nodes R (keep (λ r. eqb (r .tag) tag) rs) (keep-every-two (λ x y. R (x .node) (y .node)) (λ r. eqb (r .tag) tag) rs h)
 
 settled-fine : (x y : Row) → Settled x y → Fine (x .node) (y .node)
 settled-fine x y s = record {
@@ -59,7 +61,7 @@ settled-fine x y s = record {
       (s .ends);
 }
 
--- two rows of which each is the other, or one settled behind the other, are not at odds
+-- two rows of which each is the other, or one settled after the other, are not at odds
 none-odd : (x y : Row) → (x ≡ y) ⊎ (Settled x y ⊎ Settled y x) → oddsb (x .node) (y .node) ≡ false
 none-odd x y (inl e) = subst (λ z. oddsb (x .node) (z .node) ≡ false) e (even-self (x .node))
 none-odd x y (inr (inl s)) = fine-even (x .node) (y .node) (settled-fine x y s)
@@ -85,7 +87,7 @@ module _ (document : ℕ) (marks : List ℕ) (taken : checkMarks marks ≡ TAKEN
         omega arith,
         omega arith,
         subst (All Sound) (sym (picked-nodes tag)) (all-picked tag Sound table (all-map sound table (table-made document marks taken))),
-        subst (Pairs Fine) (sym (picked-nodes tag)) (pairs-picked tag Fine table (pairs-map settled-fine table (table-settled document marks taken))),
+        subst (EveryTwo Fine) (sym (picked-nodes tag)) (every-two-picked tag Fine table (every-two-map settled-fine table (table-settled document marks taken))),
       )
     where
       sound : (r : Row) → Made document 1 r → Sound (r .node)
@@ -108,4 +110,4 @@ module _ (document : ℕ) (marks : List ℕ) (taken : checkMarks marks ≡ TAKEN
       with-all x i =
           let settled = table-settled document marks taken in
           all-picked t (λ y. oddsb (x .node) y ≡ false) table
-          (all-map (λ y (j : In y table). none-odd x y (pairs-in Settled table x y settled i j)) table (each-in table))
+          (all-map (λ y (j : In y table). none-odd x y (every-two-in Settled table x y settled i j)) table (each-in table))

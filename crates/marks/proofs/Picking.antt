@@ -1,5 +1,6 @@
--- Of one row more either the node is picked or nothing is, so what is picked grows row by row and never outgrows the whole.
--- A row of another tag picked, or one passed over, would fall here.
+-- Why it holds: Of one row more either the node is picked or nothing is, so what is picked grows
+-- row by row and never outgrows the whole.
+-- What would break it: A row of another tag picked, or one passed over, would be caught here.
 use mathlib.Core.Path.{_≡_, refl, sym, ap, _∙_}
 use mathlib.Core.Logic.{inl, inr}
 use mathlib.Core.List.{List, [], _∷_, _++_, append-nil}
@@ -79,7 +80,7 @@ module _ (tag : ℕ) (table : List ℕ) (index : ℕ) where
     pub firsts-no : (r .tag ≡ tag → ⊥) → firstsWith tag table (index + 1) ≡ firstsWith tag table index
     firsts-no k = ap (nodesWith tag) one-more ∙ picked-no tag (take index (rows table)) r k
 
--- a node put behind those that were written
+-- a node put after those that were written
 pub put-behind : (ns : List Node) (n : Node) (out₀ out : List ℕ) (found : ℕ) → found ≡ length ns → found < count out
     → length out ≡ length out₀ → out ≡ written (wordsIn wordsOf ns) out₀ → putNode out found n ≡ written (wordsIn wordsOf (ns ++ (n ∷ []))) out₀
 unfolding putNode wordsOf

@@ -1,5 +1,7 @@
--- Walked back from the root's end, the rows tell one mark after the other: the last row left starts at the position, or a close stands there. So the
--- walk ends with no row left just where the rows are a table, and a row that differs from its mark's, in any of its five words, would fall here.
+-- Why it holds: Walked back from the root's end, the rows tell one mark after the other: the last
+-- row left starts at the position, or a close stands there.
+-- What would break it: So the walk ends with no row left just where the rows are a table, and a row
+-- that differs from its mark's, in any of its five words, would be caught here.
 use mathlib.Core.Path.{_≡_, refl, sym, ap, _∙_}
 use mathlib.Core.Logic.{inl, inr}
 use mathlib.Core.Bool.{true, _||_}
@@ -26,7 +28,8 @@ use Rattle.marks.proofs.Inverse.{tell-some, tell-last, tell-document, s
 use Rattle.marks.proofs.Keeping.{before-closes, open-back, kept-none, kept-before, rows-here, open-forth, length-kept}
 use Rattle.marks.proofs.MarkLaws.{closes, is-text, opens, kind-of, open-closes, open-text, open-opens, rows-closes, rows-node, closes-some, InPlace, in-place, place-in, fault-read, fault-make, end-read, end-make, check-read, check-make}
 
--- a mark fits the last of the rows left: there is room to keep a close, and any other mark is in its place and has that row
+-- a mark fits the last of the rows left: there is room to keep a close, and any other mark is in
+-- its place and has that row
 pub record Fits (rs : List Row) (document position : ℕ) (kept : List ℕ) (q : MarkPlace) (mark : ℕ) : Type 0 where
   pub room : mark ≡ CLOSE → q .depth < MOST-LEVELS
   pub inner : (mark ≡ CLOSE → ⊥) → (mark ≡ TEXT → ⊥) → 0 < q .depth
@@ -90,7 +93,8 @@ right-place rs document position kept q mark f =
       | inr c ↦ f .right (eqb-false _ _ c)
     ]
 
--- the rows behind the first so many are those of marks that are taken from behind a position on, where so many elements are open
+-- the rows after the first so many are those of marks that are taken from after a position on,
+-- where so many elements are open
 record Part (rs : List Row) (document p depth count : ℕ) (marks : List ℕ) : Type 0 where
   fault : faultFrom (p + 1) depth marks ≡ TAKEN
   behind : drop count rs ≡ rowsFrom document (p + 1) depth marks
@@ -185,7 +189,7 @@ sound rs document (suc p) kept q marks count e a k l h =
     (length-kept kept (suc p) (q .depth) mark ∙ l)
     (r .1)
 
--- the place behind marks, the last one first
+-- the place after marks, the last one first
 placeOf : List ℕ → MarkPlace
 placeOf [] = markPlace 0 0
 placeOf (mark ∷ marks) = afterMark (placeOf marks) mark
@@ -203,7 +207,7 @@ module _ (rs : List Row) (document p : ℕ) (q : MarkPlace) (mark : ℕ) (marks 
   here : InPlace (suc p) (q .depth) mark × (faultFrom (suc p + 1) (openAfter (q .depth) mark) marks ≡ TAKEN)
   here = fault-read (suc p) (q .depth) mark marks (rw (add-one p) at (b .part .fault))
 
-  -- the first row behind is a node's own
+  -- the first row after is a node's own
   own : (mark ≡ CLOSE → ⊥) → drop (q .rows) rs
       ≡ row (node document (suc p) (endOf (suc p) mark marks) (q .depth + 1)) mark ∷ rowsFrom document (suc p + 1) (openAfter (q .depth) mark) marks
   own n = (rw (add-one p) at (b .part .behind)) ∙ rows-node document (suc p) (q .depth) mark marks n

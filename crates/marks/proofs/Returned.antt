@@ -1,6 +1,6 @@
--- With room for it, numbering writes a table and the way back writes the marks that the table came
--- from, so either call returns what the other was given. A count, a document or a word that did not
--- come back would fall here.
+-- Why it holds: With room for it, numbering writes a table and the way back writes the marks that
+-- the table came from, so either call returns what the other was given.
+-- What would break it: A count, a document or a word that did not come back would be caught here.
 use mathlib.Core.Path.{_≡_, _∙_, sym}
 use mathlib.Core.List.{List}
 use Prim.Native.Nat.{ℕ, _≤_}

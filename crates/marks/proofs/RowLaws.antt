@@ -1,5 +1,6 @@
--- Five words more are one row more, so an index of the rows is five times that index of the words.
--- A row read one word off, or cut at another width, falls here.
+-- Why it holds: Five words more are one row more, so an index of the rows is five times that index
+-- of the words.
+-- What would break it: A row read one word off, or cut at another width, would be caught here.
 use mathlib.Core.Path.{_≡_, refl, ap, sym, _∙_}
 use mathlib.Core.List.{List, [], _∷_, flatMap}
 use Prim.Native.Nat.{ℕ, zero, suc, _+_, _*_, _/_, _%_, _≤_, _<_}
@@ -47,7 +48,7 @@ row-words (d ∷ s ∷ e ∷ l ∷ t ∷ ws) (suc i) h =
     (sym (beyond d s e l t ws {k = 5 * i + 3} {m = 5 * suc i + 3} (omega arith)) k))
     (sym (beyond d s e l t ws {k = 5 * i + 4} {m = 5 * suc i + 4} (omega arith)) k)
 
--- the rows from an index on begin with the one there, and behind the last there is none
+-- the rows from an index on begin with the one there, and after the last there is none
 pub rows-from : (ws : List ℕ) (i : ℕ) → i < length ws / ROW-WORDS → drop i (rows ws) ≡ rowIn (rows ws) i ∷ drop (i + 1) (rows ws)
 unfolding rowIn
 rows-from ws i h = rw (add-one i) (drop-cons (rows ws) i (row (node 0 0 0 0) 0) (omega (arith, length-rows ws)))

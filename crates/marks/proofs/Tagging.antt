@@ -1,5 +1,6 @@
--- Every row of a table starts at one of its marks, so the tags stay within the closes put before, and the output holds the marks and what it held
--- behind them. A tag put before the first mark, or behind the last, would fall here.
+-- Why it holds: Every row of a table starts at one of its marks, so the tags stay within the closes
+-- put before, and the output holds the marks and what it held after them.
+-- What would break it: A tag put before the first mark, or after the last, would be caught here.
 use mathlib.Core.Path.{_≡_, refl, sym, ap, _∙_}
 use mathlib.Core.Logic.{inl, inr}
 use mathlib.Core.Bool.{true}
@@ -19,7 +20,7 @@ use Rattle.marks.specs.Mark.{CLOSE, closeb, openAfter}
 use Rattle.marks.specs.Table.{rowsFrom, tableOf, rowIn}
 use Rattle.marks.proofs.Inverse.{tell-last, numbered-read}
 
--- one close more behind those put
+-- one close more after those put
 pub close-more : (put : ℕ) (out : List ℕ) → put < length out
     → set (written (replicate put CLOSE) out) put CLOSE ≡ written (replicate (put + 1) CLOSE) out
 unfolding written

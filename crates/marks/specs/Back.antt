@@ -1,4 +1,4 @@
--- Document 01, "Marks and tables": a table back into marks.
+-- docs/SCOPE.md, "Marks and tables": a table back into marks.
 use Prim.Native.Nat.{ℕ, _-_}
 use mathlib.Core.Path.{_≡_}
 use mathlib.Core.Bool.{Bool, true, false, cond, _&&_}
@@ -16,7 +16,8 @@ unfoldable pub tagged : List Row → List ℕ → List ℕ
 tagged [] marks = marks
 tagged (r ∷ rs) marks = tagged rs (set marks (r .node .start - 1) (r .tag))
 
--- the marks that a table tells of: up to the first row's end, each row's tag at its start and a close everywhere else
+-- the marks that a table tells of: up to the first row's end, each row's tag at its start and a
+-- close everywhere else
 unfoldable pub marksOf : List Row → List ℕ
 marksOf rs = tagged rs (replicate (rowIn rs 0 .node .end) CLOSE)
 
@@ -41,7 +42,8 @@ sameRowsb [] (y ∷ ys) = false
 sameRowsb (x ∷ xs) [] = false
 sameRowsb (x ∷ xs) (y ∷ ys) = sameRowb x y && sameRowsb xs ys
 
--- the marks that a table tells of are accepted and have this table; where they don't, no accepted marks do (`Exact: table-exact`)
+-- the marks that a table tells of are accepted and have this table; where they don't, no accepted
+-- marks do (`Exact: table-exact`)
 unfoldable pub numberedb : List Row → Bool
 numberedb rs = eqb (checkMarks (marksOf rs)) TAKEN && sameRowsb (tableOf (documentOf rs) (marksOf rs)) rs
 

@@ -1,4 +1,4 @@
--- Document 01, "Marks and tables": what a mark does, and the checks on marks.
+-- docs/SCOPE.md, "Marks and tables": what a mark does, and the checks on marks.
 use Prim.Native.Nat.{ℕ, _+_, _-_}
 use mathlib.Core.Bool.{Bool, cond, not, _&&_, _||_}
 use mathlib.Core.List.{List, [], _∷_}
@@ -8,7 +8,8 @@ use Rattle.answers.specs.Answer.{TAKEN, LONG, MARK, STRAY, DEEP, UNCLOSED}
 use Rattle.nodes.specs.Node.{MOST-LEVELS}
 use Rattle.nodes.specs.Words.{MOST-NODES}
 
--- the mark that closes an element, and the mark that is a text; each number between them opens an element of that tag
+-- the mark that closes an element, and the mark that is a text; each number between them opens an
+-- element of that tag
 abbrev pub CLOSE : ℕ
 CLOSE = 0
 
@@ -25,7 +26,8 @@ textb mark = eqb mark TEXT
 unfoldable pub openAfter : ℕ → ℕ → ℕ
 openAfter depth mark = cond (closeb mark) (depth - 1) (cond (textb mark) depth (depth + 1))
 
--- STRAY: a close or a text with nothing open, or an opening after the root has closed: nothing is open, and it isn't the first mark
+-- STRAY: a close or a text with nothing open, or an opening after the root has closed: nothing is
+-- open, and it isn't the first mark
 unfoldable pub strayb : ℕ → ℕ → ℕ → Bool
 strayb position depth mark = eqb depth 0 && ((closeb mark || textb mark) || ltb 1 position)
 
@@ -33,14 +35,16 @@ strayb position depth mark = eqb depth 0 && ((closeb mark || textb mark) || ltb 
 unfoldable pub deepb : ℕ → ℕ → Bool
 deepb depth mark = not (closeb mark) && ltb MOST-LEVELS (depth + 1)
 
--- what is wrong with the mark at a position, if `depth` elements are open before it: MARK, a mark above 65,536, then STRAY, then DEEP
+-- what is wrong with the mark at a position, if `depth` elements are open before it: MARK, a mark
+-- above 65,536, then STRAY, then DEEP
 unfoldable pub markFault : ℕ → ℕ → ℕ → ℕ
 markFault position depth mark =
     cond (ltb TEXT mark) MARK
     (cond (strayb position depth mark) STRAY
     (cond (deepb depth mark) DEEP TAKEN))
 
--- UNCLOSED: the marks end with an element open, or there are none, so that the next position is still the first
+-- UNCLOSED: the marks end with an element open, or there are none, so that the next position is
+-- still the first
 unfoldable pub unclosedb : ℕ → ℕ → Bool
 unclosedb position depth = ltb 0 depth || eqb position 1
 
@@ -50,6 +54,7 @@ faultFrom position depth [] = cond (unclosedb position depth) UNCLOSED TAKEN
 faultFrom position depth (mark ∷ marks) =
     cond (eqb (markFault position depth mark) TAKEN) (faultFrom (position + 1) (openAfter depth mark) marks) (markFault position depth mark)
 
--- what is wrong with a list of marks: LONG, then the first faulty mark, then UNCLOSED; the first mark has position 1
+-- what is wrong with a list of marks: LONG, then the first faulty mark, then UNCLOSED; the first
+-- mark has position 1
 unfoldable pub checkMarks : List ℕ → ℕ
 checkMarks marks = cond (ltb MOST-NODES (length marks)) LONG (faultFrom 1 0 marks)

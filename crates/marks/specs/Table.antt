@@ -1,4 +1,5 @@
--- Document 01, "Marks and tables": the rows of a document's nodes, in start order, and the words of a table.
+-- docs/SCOPE.md, "Marks and tables": the rows of a document's nodes, in start order, and the words
+-- of a table.
 use Prim.Native.Nat.{ℕ, _+_, _-_, _%_, _/_, _≤_, _<_}
 use mathlib.Core.Path.{_≡_}
 use mathlib.Core.Bool.{cond, not, _&&_}
@@ -22,12 +23,13 @@ closeAt inner position [] = position
 closeAt inner position (mark ∷ marks) =
     cond (closeb mark && eqb inner 0) position (closeAt (openAfter inner mark) (position + 1) marks)
 
--- where the node ends that a mark at a position begins: a text there, and an element at its close among the marks that follow
+-- where the node ends that a mark at a position begins: a text there, and an element at its close
+-- among the marks that follow
 unfoldable pub endOf : ℕ → ℕ → List ℕ → ℕ
 endOf position mark marks = cond (textb mark) position (closeAt 0 (position + 1) marks)
 
--- the rows of the nodes that begin from a position on, where `depth` elements are open; a node's level
--- is one more
+-- the rows of the nodes that begin from a position on, where `depth` elements are open; a node's
+-- level is one more
 unfoldable pub rowsFrom : ℕ → ℕ → ℕ → List ℕ → List Row
 rowsFrom document position depth [] = []
 rowsFrom document position depth (mark ∷ marks) =
@@ -38,15 +40,16 @@ rowsFrom document position depth (mark ∷ marks) =
 unfoldable pub tableOf : ℕ → List ℕ → List Row
 tableOf document marks = rowsFrom document 1 0 marks
 
--- a mark is the one at a position, among the marks from another position on; there is a mark at that
--- position, so that the default of `getD` is never read
+-- a mark is the one at a position, among the marks from another position on; there is a mark at
+-- that position, so that the default of `getD` is never read
 pub record MarkAt (from : ℕ) (marks : List ℕ) (position mark : ℕ) : Type 0 where
   pub reached : from ≤ position
   pub present : position < from + length marks
   pub read : getD marks (position - from) 0 ≡ mark
 
 -- a row stands where its marks do, among the marks from a position on: its tag is the mark at its
--- start and not a close, a text ends where it starts, and an element ends after its start, at a close
+-- start and not a close, a text ends where it starts, and an element ends after its start, at a
+-- close
 pub record Marked (from : ℕ) (marks : List ℕ) (r : Row) : Type 0 where
   pub tag-at : MarkAt from marks (r .node .start) (r .tag)
   pub no-close : r .tag ≡ CLOSE → ⊥
@@ -78,6 +81,7 @@ rows (d ∷ s ∷ e ∷ l ∷ t ∷ words) = row (node d s e l) t ∷ rows words
 unfoldable pub rowIn : List Row → ℕ → Row
 rowIn rs index = getD rs index (row (node 0 0 0 0) 0)
 
--- what is wrong with the words of a table, whatever the rows are: they don't make whole rows, or there are more than 4,096
+-- what is wrong with the words of a table, whatever the rows are: they don't make whole rows, or
+-- there are more than 4,096
 unfoldable pub rowFault : List ℕ → ℕ
 rowFault words = cond (not (eqb (length words % ROW-WORDS) 0)) RAGGED (cond (ltb MOST-NODES (length words / ROW-WORDS)) LONG TAKEN)

@@ -1,5 +1,7 @@
--- Each test of two nodes is a test of their numbers; here it becomes the facts about those numbers, and only here is `insideb` opened.
--- A changed test of document 01 is proved again here and nowhere else.
+-- Why it holds: Each test of two nodes is a test of their numbers; here it becomes the facts about
+-- those numbers, and only here is `insideb` opened. A changed test of docs/SCOPE.md is proved again
+-- here and nowhere else.
+-- What would break it:
 use mathlib.Core.Path.{_≡_, refl, sym, _∙_}
 use mathlib.Core.Logic.{_⊎_, inl, inr, ⊎-elim}
 use mathlib.Core.Bool.{true, false}

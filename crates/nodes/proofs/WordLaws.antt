@@ -1,5 +1,7 @@
--- Four words more are one node more, so an index of the nodes is four times that index of the words.
--- A node read one word off, or written over its neighbour, falls here.
+-- Why it holds: Four words more are one node more, so an index of the nodes is four times that
+-- index of the words.
+-- What would break it: A node read one word off, or written over its neighbour, would be caught
+-- here.
 use mathlib.Core.Path.{_≡_, refl, ap, sym, _∙_}
 use mathlib.Core.List.{List, [], _∷_, flatMap}
 use Prim.Native.Nat.{ℕ, zero, suc, _+_, _*_, _-_, _%_, _≤_, _<_}
@@ -78,7 +80,7 @@ pub nodes-put : (ws : List ℕ) (i : ℕ) (n : Node) → i < count ws → nodes 
 unfolding putNode
 nodes-put ws i n h = rw (lt-ltb i (count ws) h) (stored ws i n h)
 
--- the nodes from an index on begin with the one there, and behind the last there is none
+-- the nodes from an index on begin with the one there, and after the last there is none
 pub nodes-from : (ws : List ℕ) (i : ℕ) → i < count ws → drop i (nodes ws) ≡ nodeAt ws i ∷ drop (i + 1) (nodes ws)
 unfolding nodeAt
 nodes-from ws i h = rw (add-one i) (drop-cons (nodes ws) i (node 0 0 0 0) (omega (arith, length-nodes ws)))
@@ -86,7 +88,7 @@ nodes-from ws i h = rw (add-one i) (drop-cons (nodes ws) i (node 0 0 0 0) (omega
 pub nodes-behind : (ws : List ℕ) (i : ℕ) → count ws ≤ i → drop i (nodes ws) ≡ []
 nodes-behind ws i h = drop-of-length-le (nodes ws) {i = i} (omega (arith, length-nodes ws))
 
--- the nodes behind a node's words, and those before them
+-- the nodes after a node's words, and those before them
 behind-four : (d s e l : ℕ) (ws : List ℕ) {k m : ℕ} → m ≡ suc (suc (suc (suc k))) → drop m (d ∷ s ∷ e ∷ l ∷ ws) ≡ drop k ws
 behind-four d s e l ws q = rw q
 

@@ -1,4 +1,5 @@
--- Document 01, "Nodes and lists": a list of nodes is a list of words, four a node, node after node.
+-- docs/SCOPE.md, "Nodes and lists": a list of nodes is a list of words, four a node, node after
+-- node.
 use Prim.Native.Nat.{ℕ, _*_, _/_}
 use mathlib.Core.Bool.{cond}
 use mathlib.Core.List.{List, [], _∷_}

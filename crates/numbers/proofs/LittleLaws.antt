@@ -1,5 +1,7 @@
--- Four bytes more are one number more, as four words more are one node more; so the laws of nodes in words are those of numbers in bytes.
--- A number read one byte off, or with its bytes in another order, falls here.
+-- Why it holds: Four bytes more are one number more, as four words more are one node more; so the
+-- laws of nodes in words are those of numbers in bytes.
+-- What would break it: A number read one byte off, or with its bytes in another order, would be
+-- caught here.
 use mathlib.Core.Path.{_≡_, refl, ap, sym, _∙_}
 use mathlib.Core.List.{List, [], _∷_, _++_, map, flatMap}
 use Prim.Native.Nat.{ℕ, _+_, _*_, _/_, _%_, _≤_, _<_}
@@ -43,7 +45,7 @@ pub number-behind : (bs : List ℕ) (i : ℕ) → numberCount bs ≤ i → numbe
 unfolding numberAt
 number-behind bs i h = List·getD-eq-default (numbers bs) 0 (omega (arith, length-numbers bs))
 
--- the numbers behind so many, and those before them
+-- the numbers after so many, and those before them
 pub numbers-drop : (bs : List ℕ) (k : ℕ) → numbers (drop (4 * k) bs) ≡ drop k (numbers bs)
 numbers-drop bs k = by-fours (drop (4 * k) bs) ∙ ap (map four) (nodes-drop bs k) ∙ map-drop four k (nodes bs) ∙ ap (drop k) (sym (by-fours bs))
 
@@ -58,7 +60,8 @@ numbers-append (a ∷ b ∷ []) ys h = absurd (omega arith)
 numbers-append (a ∷ b ∷ c ∷ []) ys h = absurd (omega arith)
 numbers-append (a ∷ b ∷ c ∷ d ∷ xs) ys h = ap (λ ns. little a b c d ∷ ns) (numbers-append xs ys (omega arith))
 
--- a number is put together of its four digits to the base 256, and the digits are read off one by one
+-- a number is put together of its four digits to the base 256, and the digits are read off one by
+-- one
 digits : (n one two three : ℕ) → one ≡ n / 256 → two ≡ one / 256 → three ≡ two / 256 → three < 256
     → n % 256 + 256 * (one % 256) + 65536 * (two % 256) + 16777216 * (three % 256) ≡ n
 digits n one two three p q r h = omega arith
@@ -66,7 +69,8 @@ digits n one two three p q r h = omega arith
 digit : (a m n : ℕ) → a < 256 → n ≡ a + 256 * m → n % 256 ≡ a
 digit a m n h e = omega arith
 
--- a number written as bytes is read as the same number, and bytes read as a number are written as the same bytes
+-- a number written as bytes is read as the same number, and bytes read as a number are written as
+-- the same bytes
 pub number-of-bytes : (n : ℕ) → n < 4294967296 → little (n % 256) (n / 256 % 256) (n / 65536 % 256) (n / 16777216 % 256) ≡ n
 unfolding little
 number-of-bytes n h = digits n (n / 256) (n / 65536) (n / 16777216) refl (omega arith) (omega arith) (omega arith)

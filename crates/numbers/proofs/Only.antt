@@ -1,5 +1,7 @@
--- Each public contract is an equation with a definition, and two things that equal a third are equal; so no second answer satisfies it.
--- `Post` is what a function's `ensures` says of its result and of what it was lent; a contract that left a byte open would fall here.
+-- Why it holds: Each public contract is an equation with a definition, and two things that equal a
+-- third are equal; so no second answer satisfies it.
+-- What would break it: `Post` is what a function's `ensures` says of its result and of what it was
+-- lent; a contract that left a byte open would be caught here.
 use mathlib.Core.Path.{_≡_}
 use denote.Ref.{now, ptr}
 use Rattle.laws.proofs.Only.{only}

@@ -1,5 +1,7 @@
--- Whether what was lent reaches as far as the part's first byte is the definition's own test.
--- A part that lies a byte too far on, or in another block, would fall here.
+-- Why it holds: Whether what was lent reaches as far as the part's first byte is the definition's
+-- own test.
+-- What would break it: A part that lies a byte too far on, or in another block, would be caught
+-- here.
 use mathlib.Core.Path.{_≡_}
 use Prim.Native.Nat.{ℕ, _+_, _≤_, _<_}
 use native.Mathlib.Omega.{arith}

@@ -1,4 +1,4 @@
--- Document 01, "The field book": all numbers are 32-bit little-endian.
+-- docs/SCOPE.md, "The field book": all numbers are 32-bit little-endian.
 use Prim.Native.Nat.{ℕ, _+_, _*_, _/_, _%_}
 use mathlib.Core.Bool.{cond}
 use mathlib.Core.List.{List, [], _∷_}
@@ -23,7 +23,8 @@ little a b c d = a + 256 * b + 65536 * c + 16777216 * d
 unfoldable pub bytesOf : ℕ → List ℕ
 bytesOf n = n % 256 ∷ n / 256 % 256 ∷ n / 65536 % 256 ∷ n / 16777216 % 256 ∷ []
 
--- the whole numbers of the bytes, one after the other; bytes that make no whole number are left over
+-- the whole numbers of the bytes, one after the other; bytes that make no whole number are left
+-- over
 unfoldable pub numbers : List ℕ → List ℕ
 numbers [] = []
 numbers (a ∷ []) = []

@@ -1,5 +1,7 @@
--- What a call hands out ascends past its place, and what it leaves behind lies past the place that it reaches, so the place tells the two apart.
--- Were the place not the last item's, or an equal key taken for one past the place, an item would be lost or come twice, and this would fall.
+-- Why it holds: What a call hands out ascends past its place, and what it leaves after lies past
+-- the place that it reaches, so the place tells the two apart.
+-- What would break it: Were the place not the last item's, or an equal key taken for one past the
+-- place, an item would be lost or come twice, and this would fall.
 use mathlib.Core.Path.{_≡_, refl, subst}
 use mathlib.Core.Logic.{_⊎_, inl, inr, ⊎-elim}
 use mathlib.Core.Bool.{Bool, true, false}
@@ -10,8 +12,8 @@ use native.Mathlib.Omega.{arith}
 use lib.ListN.{length, take, length-take}
 use lib.Seq.{take-all}
 use borrow.Author.Tests.{eqb-true, eqb-false}
-use Rattle.laws.specs.Choose.{All, Pairs, In, keep}
-use Rattle.laws.proofs.Choices.{all-in, all-map, each-in, take-all-of, keep-in, keep-past, keep-pairs, keep-all-of, pairs-map}
+use Rattle.laws.specs.Choose.{All, EveryTwo, In, keep}
+use Rattle.laws.proofs.Choices.{all-in, all-map, each-in, take-all-of, keep-in, keep-past, keep-every-two, keep-all-of, every-two-map}
 use Rattle.laws.proofs.Tests.{never}
 use Rattle.paging.specs.Calls.{Call, refused, accepted, given, moved, placeAfter, allGiven}
 use Rattle.paging.specs.Key.{aboveb}
@@ -21,7 +23,7 @@ use Rattle.paging.proofs.KeyLaws.{above-self, above-trans}
 module _ {A : Type 0} (key : A → List ℕ) where
   -- strictly ascending by key
   abbrev pub Ascends : List A → Type 0
-  Ascends xs = Pairs (λ x y. aboveb (key y) (key x) ≡ true) xs
+  Ascends xs = EveryTwo (λ x y. aboveb (key y) (key x) ≡ true) xs
 
   -- the listing of an accepted call ascends
   abbrev pub Ascending : Call A → Type 0
@@ -75,7 +77,7 @@ module _ {A : Type 0} (key : A → List ℕ) where
   unfolding remains
   run-remains place xs a =
       let test : A → Bool = λ x. pastb place (key x) in
-      ascends-run place (keep test xs) (keep-past test xs) (keep-pairs (λ x y. aboveb (key y) (key x) ≡ true) test xs a)
+      ascends-run place (keep test xs) (keep-past test xs) (keep-every-two (λ x y. aboveb (key y) (key x) ≡ true) test xs a)
 
   -- an item of a run is among the first n, or lies past the place that these reach
   run-split : (place : Spot) (n : ℕ) (xs : List A) → Run place xs → (x : A) → In x xs
@@ -138,9 +140,9 @@ module _ {A : Type 0} (key : A → List ℕ) where
   none-lost calls xs room a d x s i = none-lost-from fresh calls xs room a d x s i refl
 
   -- no two items that a sequence of calls hands out have one key
-  pub no-key-twice : (calls : List (Call A)) → All Ascending calls → Pairs (λ x y. key x ≡ key y → ⊥) (allGiven key fresh calls)
+  pub no-key-twice : (calls : List (Call A)) → All Ascending calls → EveryTwo (λ x y. key x ≡ key y → ⊥) (allGiven key fresh calls)
   no-key-twice calls a =
-      pairs-map (λ x y h e. never h (subst (λ k. aboveb k (key x) ≡ false) e (above-self (key x)))) (allGiven key fresh calls)
+      every-two-map (λ x y h e. never h (subst (λ k. aboveb k (key x) ≡ false) e (above-self (key x)))) (allGiven key fresh calls)
       (run-ascends fresh (allGiven key fresh calls) (calls-run fresh calls a))
 
   -- a call hands out items of its own listing alone

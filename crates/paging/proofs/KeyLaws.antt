@@ -1,5 +1,7 @@
--- Keys are compared number by number, so no key stands above itself, and above follows above.
--- A comparison that took an equal key, or that skipped a number, would fall here.
+-- Why it holds: Keys are compared number by number, so no key stands above itself, and above
+-- follows above.
+-- What would break it: A comparison that took an equal key, or that skipped a number, would be
+-- caught here.
 use mathlib.Core.Path.{_≡_, refl, _∙_}
 use mathlib.Core.Logic.{_⊎_, inl, inr}
 use mathlib.Core.Bool.{true, false, _&&_}

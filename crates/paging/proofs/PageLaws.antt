@@ -1,5 +1,7 @@
--- What remains is chosen item by item, so it follows the listing's parts, and the place reached follows the items handed out.
--- An item that remained for what stands beside it, or a place that was not the last item's, would fall here.
+-- Why it holds: What remains is chosen item by item, so it follows the listing's parts, and the
+-- place reached follows the items handed out.
+-- What would break it: An item that remained for what stands beside it, or a place that was not the
+-- last item's, would be caught here.
 use mathlib.Core.Path.{_≡_, refl}
 use mathlib.Core.List.{List, [], _∷_, _++_}
 use Prim.Native.Nat.{ℕ}

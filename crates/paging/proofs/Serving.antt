@@ -1,5 +1,7 @@
--- Each item goes right behind those stored before it, so the output begins with the items that found room, and nothing behind them changes.
--- An item stored one place off, one too many or one too few would fall here.
+-- Why it holds: Each item goes right after those stored before it, so the output begins with the
+-- items that found room, and nothing after them changes.
+-- What would break it: An item stored one place off, one too many or one too few would be caught
+-- here.
 use mathlib.Core.Path.{_≡_, refl, sym, ap, subst, _∙_}
 use mathlib.Core.Logic.{inl, inr}
 use mathlib.Core.Bool.{Bool, true, false}
@@ -55,7 +57,8 @@ module _ {A : Type 0} (words : A → List ℕ) (width : ℕ) where
         | inr h ↦ rw h (rw h at e)
       ]
 
-  -- a loop hands out items part by part, and what is left to serve is the whole: a part that found room leaves the others,
+  -- a loop hands out items part by part, and what is left to serve is the whole: a part that found
+  -- room leaves the others,
   pub left-on : (out : List ℕ) (n : ℕ) (xs ys : List A) {o : List ℕ} {d : ℕ} {b : Bool} {rest : List A} {whole : List ℕ × ℕ × Bool}
       → (o, d, b) ≡ serve words width out n xs → b ≡ true → rest ≡ xs ++ ys → serve words width out n rest ≡ whole → serve words width o d ys ≡ whole
   left-on out n xs ys {o} {d} p t r e =
@@ -102,7 +105,7 @@ module _ {A : Type 0} (words : A → List ℕ) (width : ℕ) where
         | inr h ↦ rw h l
       ]
 
-  -- an item stored right behind the words before it
+  -- an item stored right after the words before it
   store-behind : (front rest : List ℕ) (count : ℕ) (x : A) → length (words x) ≡ width → length front ≡ width * count
       → count < length (front ++ rest) / width → store words width (front ++ rest) count x ≡ front ++ words x ++ drop (length (words x)) rest
   unfolding store
@@ -112,7 +115,7 @@ module _ {A : Type 0} (words : A → List ℕ) (width : ℕ) where
       let one : width * (count + 1) ≡ width * count + width = mul-add width count 1 ∙ ap (λ n. width * count + n) (mul-one width) in
       ap (λ n. sets (front ++ rest) n (words x)) (sym l) ∙ sets-behind front rest (words x) (omega arith)
 
-  -- behind words that stand, the items that find room follow
+  -- after words that stand, the items that find room follow
   serve-behind : ((x : A) → length (words x) ≡ width) → (front rest : List ℕ) (count room : ℕ) (xs : List A) → length front ≡ width * count
       → length (front ++ rest) / width ≡ count + room
       → serve words width (front ++ rest) count xs

@@ -1,6 +1,8 @@
--- The place that a call reaches leaves of an unaltered listing just what the call did not hand out, so
--- the pages put together are the listing, and rooms that together suffice bring it to its end. Were a
--- page to begin before or after where the last one ended, or to leave room unused, this would fall.
+-- Why it holds: The place that a call reaches leaves of an unaltered listing just what the call did
+-- not hand out, so the pages put together are the listing, and rooms that together suffice bring it
+-- to its end.
+-- What would break it: Were a page to begin before or after where the last one ended, or to leave
+-- room unused, this would fall.
 use mathlib.Core.Path.{_≡_, refl, ap, _∙_}
 use mathlib.Core.Bool.{true, false}
 use mathlib.Core.List.{List, [], _∷_, _++_, map, append-nil}

@@ -1,4 +1,5 @@
--- One listing followed through calls: each call has its own listing and room, or is refused, and takes the place that the last one reached.
+-- One listing followed through calls: each call has its own listing and room, or is refused, and
+-- takes the place that the last one reached.
 use Prim.Native.Nat.{ℕ, _+_}
 use mathlib.Core.List.{List, [], _∷_, _++_}
 use Rattle.paging.specs.Page.{Spot, after, handed, reached}

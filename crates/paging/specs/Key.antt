@@ -1,4 +1,5 @@
--- Document 01, "Listings and tickets": keys are lists of numbers, compared number by number as words in a dictionary.
+-- docs/SCOPE.md, "Listings and tickets": keys are lists of numbers, compared number by number as
+-- words in a dictionary.
 use Prim.Native.Nat.{ℕ}
 use mathlib.Core.Bool.{Bool, true, false, _&&_, _||_}
 use mathlib.Core.List.{List, [], _∷_}

@@ -1,5 +1,6 @@
--- Two lists that are accepted together are sound, ascend, and no node of one is at odds with a node of the other; so each earlier node is fine
--- with each later one, at any index. An accepted pair of lists with a crossing would fall here.
+-- Why it holds: Two lists that are accepted together are sound, ascend, and no node of one is at
+-- odds with a node of the other; so each earlier node is fine with each later one, at any index.
+-- What would break it: An accepted pair of lists with a crossing would be caught here.
 use mathlib.Core.Path.{_≡_}
 use mathlib.Core.Bool.{true, false}
 use mathlib.Core.List.{List, [], _∷_}
@@ -9,10 +10,10 @@ use lib.ListN.{length, getD, drop}
 use lib.Seq.{drop-nil}
 use Rattle.nodes.specs.declared.node.Node.{Node}
 use Rattle.answers.specs.Answer.{TAKEN}
-use Rattle.laws.specs.Choose.{All, Pairs}
+use Rattle.laws.specs.Choose.{All, EveryTwo}
 use Rattle.nodes.specs.Node.{afterb}
 use Rattle.nodes.specs.Words.{node, nodes}
-use Rattle.laws.proofs.Choices.{all-map, all-both, all-at, pairs-at}
+use Rattle.laws.proofs.Choices.{all-map, all-both, all-at, every-two-at}
 use Rattle.nodes.proofs.NodeLaws.{after-trans}
 use Rattle.laws.proofs.Tests.{never, not-so}
 use Rattle.lists.specs.Two.{checkTwo}
@@ -25,9 +26,9 @@ use Rattle.lists.proofs.Taken.{Fine, words-taken-iff}
 -- what is known of two lists that are accepted together
 pub record Accepted (as′ ds : List Node) : Type 0 where
   pub sound-as : All Sound as′
-  pub fine-as : Pairs Fine as′
+  pub fine-as : EveryTwo Fine as′
   pub sound-ds : All Sound ds
-  pub fine-ds : Pairs Fine ds
+  pub fine-ds : EveryTwo Fine ds
   pub even : Even as′ ds
 
 pub accepted : (as′ ds : List ℕ) → checkTwo as′ ds .answer ≡ TAKEN → Accepted (nodes as′) (nodes ds)
@@ -44,8 +45,8 @@ all-firsts P zero ns f = tt
 all-firsts P (suc k) ns f = (f k (omega arith), all-firsts P k ns (λ i l. f i (omega arith)))
 
 -- the nodes before an index are fine with the one there
-pub fine-before : (ns : List Node) → Pairs Fine ns → (i : ℕ) → i < length ns → All (λ e. Fine e (getD ns i (node 0 0 0 0))) (firsts i ns)
-fine-before ns f i l = all-firsts _ i ns (λ k m. pairs-at Fine ns k i (node 0 0 0 0) m l f)
+pub fine-before : (ns : List Node) → EveryTwo Fine ns → (i : ℕ) → i < length ns → All (λ e. Fine e (getD ns i (node 0 0 0 0))) (firsts i ns)
+fine-before ns f i l = all-firsts _ i ns (λ k m. every-two-at Fine ns k i (node 0 0 0 0) m l f)
 
 -- the first ancestors that stand before a descendant are fine with it
 pub fine-with : (as′ ds : List Node) → Even as′ ds → (i j : ℕ) → i ≤ length as′ → j < length ds
@@ -54,8 +55,8 @@ fine-with as′ ds even i j l m h =
     all-both (λ e a o. even-fine e (getD ds j (node 0 0 0 0)) a o) (firsts i as′) h
     (all-firsts _ i as′ (λ k n. all-at _ ds j (node 0 0 0 0) m (all-at _ as′ k (node 0 0 0 0) (omega arith) even)))
 
--- of an ascending list, all that stand at or behind one that isn't before d aren't before d
-pub none-before : (d : Node) (ns : List Node) → Pairs Fine ns → (i : ℕ) → (i < length ns → afterb d (getD ns i (node 0 0 0 0)) ≡ false)
+-- of an ascending list, all that stand at or after one that isn't before d aren't before d
+pub none-before : (d : Node) (ns : List Node) → EveryTwo Fine ns → (i : ℕ) → (i < length ns → afterb d (getD ns i (node 0 0 0 0)) ≡ false)
     → All (λ a. afterb d a ≡ false) (drop i ns)
 none-before d [] f i h = rw (drop-nil {A = Node} i) tt
 none-before d (n ∷ ns) f zero h =

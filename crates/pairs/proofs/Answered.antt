@@ -1,6 +1,7 @@
--- A refused call has nothing to hand out, and an accepted one no more than fits, so what it writes
--- stays within the output and ends where it counts. A refusal that moved the ticket, a word altered
--- after the last pair, or a first page that left out a pair in spite of room would fall here.
+-- Why it holds: A refused call has nothing to hand out, and an accepted one no more than fits, so
+-- what it writes stays within the output and ends where it counts.
+-- What would break it: A refusal that moved the ticket, a word altered after the last pair, or a
+-- first page that left out a pair in spite of room would be caught here.
 use mathlib.Core.Path.{_≡_, refl, sym, ap, _∙_}
 use mathlib.Core.Logic.{inl, inr}
 use mathlib.Core.Bool.{true, false}
@@ -13,10 +14,10 @@ use lib.Seq.{take-all, take-append-seam, drop-append-seam}
 use borrow.Author.Tests.{eqb-true, eq-eqb}
 use Rattle.nodes.specs.declared.node.Node.{Node}
 use Rattle.answers.specs.Answer.{TAKEN}
-use Rattle.laws.specs.Choose.{Pairs}
+use Rattle.laws.specs.Choose.{EveryTwo}
 use Rattle.nodes.specs.Node.{afterb}
 use Rattle.nodes.specs.Words.{nodes, wordsOf}
-use Rattle.laws.proofs.Choices.{all-of, keep-all, pairs-map}
+use Rattle.laws.proofs.Choices.{all-of, keep-all, every-two-map}
 use Rattle.laws.proofs.Tests.{either, so, not-none}
 use Rattle.answers.specs.Verdict.{refusedb}
 use Rattle.lists.specs.Two.{checkTwo}
@@ -34,8 +35,8 @@ use Rattle.answers.proofs.OutputLaws.{length-items}
 use Rattle.pairs.proofs.Accepted.{accepted}
 use Rattle.pairs.proofs.Shown.{shown-is}
 
-ascend : (ns : List Node) → Pairs Fine ns → Pairs (λ e n. afterb n e ≡ true) ns
-ascend ns h = pairs-map (λ e n f. f .after) ns h
+ascend : (ns : List Node) → EveryTwo Fine ns → EveryTwo (λ e n. afterb n e ≡ true) ns
+ascend ns h = every-two-map (λ e n f. f .after) ns h
 
 module _ (c : Call) where
   -- a call is accepted exactly if it isn't refused
@@ -49,7 +50,7 @@ module _ (c : Call) where
 
   -- each of two accepted lists ascends
   pub lists-ascend : AcceptedCall c
-      → Pairs (λ e n. afterb n e ≡ true) (nodes (c .ancestors)) × Pairs (λ e n. afterb n e ≡ true) (nodes (c .descendants))
+      → EveryTwo (λ e n. afterb n e ≡ true) (nodes (c .ancestors)) × EveryTwo (λ e n. afterb n e ≡ true) (nodes (c .descendants))
   lists-ascend a =
       let t = accepted (c .ancestors) (c .descendants) a in
       (ascend (nodes (c .ancestors)) (t .fine-as), ascend (nodes (c .descendants)) (t .fine-ds))

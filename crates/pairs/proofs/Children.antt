@@ -1,6 +1,7 @@
--- Directly inside an ancestor lies what is in its run and one level deeper; what a zone after it
--- holds lies deeper still, so it is passed unseen. A child passed over with an inner zone, or a
--- grandchild taken for a child, would fall here.
+-- Why it holds: Directly inside an ancestor lies what is in its run and one level deeper; what a
+-- zone after it holds lies deeper still, so it is passed unseen.
+-- What would break it: A child passed over with an inner zone, or a grandchild taken for a child,
+-- would be caught here.
 use mathlib.Core.Path.{_≡_, refl, ap, sym, subst, _∙_}
 use mathlib.Core.Logic.{inl, inr, ⊎-elim}
 use mathlib.Core.Bool.{true, false, Bool}
@@ -12,10 +13,10 @@ use lib.ListN.{length, drop}
 use borrow.Author.Tests.{ltb-true, ltb-false}
 use Rattle.nodes.specs.declared.node.Node.{Node}
 use Rattle.answers.specs.Answer.{TAKEN}
-use Rattle.laws.specs.Choose.{All, Pairs, keep}
+use Rattle.laws.specs.Choose.{All, EveryTwo, keep}
 use Rattle.nodes.specs.Node.{insideb, directlyb, afterb, MOST-LEVELS}
 use Rattle.nodes.specs.Words.{node, nodes, count, nodeAt}
-use Rattle.laws.proofs.Choices.{all-map, keep-failed, all-at, pairs-at, pairs-drop}
+use Rattle.laws.proofs.Choices.{all-map, keep-failed, all-at, every-two-at, every-two-drop}
 use Rattle.nodes.proofs.NodeLaws.{within, directly-inside, directly-make, inside-after, after-trans}
 use Rattle.laws.proofs.Tests.{either, not-so}
 use Rattle.nodes.proofs.WordLaws.{length-nodes, nodes-from, nodes-behind}
@@ -42,9 +43,9 @@ node-all : (ws : List ℕ) (P : Node → Type 0) (i : ℕ) → i < count ws → 
 unfolding nodeAt
 node-all ws P i l h = all-at P (nodes ws) i (node 0 0 0 0) (omega (arith, length-nodes ws)) h
 
-pub node-pair : (ws : List ℕ) (R : Node → Node → Type 0) (k i : ℕ) → k < i → i < count ws → Pairs R (nodes ws) → R (nodeAt ws k) (nodeAt ws i)
+pub node-pair : (ws : List ℕ) (R : Node → Node → Type 0) (k i : ℕ) → k < i → i < count ws → EveryTwo R (nodes ws) → R (nodeAt ws k) (nodeAt ws i)
 unfolding nodeAt
-node-pair ws R k i m l h = pairs-at R (nodes ws) k i (node 0 0 0 0) m (omega (arith, length-nodes ws)) h
+node-pair ws R k i m l h = every-two-at R (nodes ws) k i (node 0 0 0 0) m (omega (arith, length-nodes ws)) h
 
 module _ (ws : List ℕ) (a : Node) where
   -- descendants of which none is a child are passed
@@ -120,7 +121,7 @@ module _ (as′ ws : List ℕ) (taken : checkTwo as′ ws .answer ≡ TAKEN) whe
       let t = two-taken-iff as′ ws .0 taken .1 in
       let w = words-taken-iff ws .0 t in
       let e = nodes-from ws k m in
-      let f = subst (Pairs Fine) e (pairs-drop Fine k (nodes ws) (w .3)) in
+      let f = subst (EveryTwo Fine) e (every-two-drop Fine k (nodes ws) (w .3)) in
       let g : afterb (nodeAt ws k) x ≡ true = rw (← q) h in
       record {
         accepted = t;

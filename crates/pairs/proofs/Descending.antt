@@ -1,6 +1,7 @@
--- At each descendant the ancestors on the stack are those that started before it and have not
--- ended, and the stack stands for the descendants to come. A zone left for good while descendants
--- are still to come, or one joined only while it is the innermost, would fall here.
+-- Why it holds: At each descendant the ancestors on the stack are those that started before it and
+-- have not ended, and the stack stands for the descendants to come.
+-- What would break it: A zone left for good while descendants are still to come, or one joined only
+-- while it is the innermost, would be caught here.
 use mathlib.Core.Path.{_≡_, refl, ap, subst, _∙_}
 use mathlib.Core.Bool.{true, false, Bool}
 use mathlib.Core.List.{List, _++_, reverse}
@@ -9,7 +10,7 @@ use native.Mathlib.Omega.{arith}
 use lib.ListN.{length, drop}
 use Rattle.nodes.specs.declared.node.Node.{Node}
 use Rattle.answers.specs.Answer.{TAKEN}
-use Rattle.laws.specs.Choose.{All, Pairs}
+use Rattle.laws.specs.Choose.{All, EveryTwo}
 use Rattle.nodes.specs.Node.{afterb, openb}
 use Rattle.nodes.specs.Words.{node, nodes, nodeAt}
 use Rattle.nodes.proofs.WordLaws.{length-nodes, nodes-from}
@@ -120,13 +121,13 @@ module _ (as′ ds : List ℕ) where
             (let p = h .opening .passed-in in omega (arith, length-nodes as′)) (h .none) (h .opening .held)
 
         at-rises : (relation : Relation)
-            → Pairs (λ x y. x .start < y .start) (reverse (matches (asked relation Descendant) (nodeAt ds (j / 4)) (opened used stack)))
+            → EveryTwo (λ x y. x .start < y .start) (reverse (matches (asked relation Descendant) (nodeAt ds (j / 4)) (opened used stack)))
         at-rises relation =
-            subst (Pairs (λ x y. x .start < y .start)) (at-matches relation)
+            subst (EveryTwo (λ x y. x .start < y .start)) (at-matches relation)
             (matches-rise relation Descendant (nodeAt ds (j / 4)) (nodes as′) (accepted as′ ds taken .fine-as))
 
-        -- the descendant's group comes first of what remains, from the start on that tells what lies
-        -- past the place
+        -- the descendant's group comes first of what remains, from the start on that tells what
+        -- lies past the place
         descend-group : (relation : Relation) (place : Place) (past : ℕ) → Tells place ds past j
             → rest-of relation Descendant place (drop (j / 4) (nodes ds)) (nodes as′)
             ≡ group Descendant (nodeAt ds (j / 4)) (fromStart past (reverse (matches (asked relation Descendant) (nodeAt ds (j / 4)) (opened used stack))))
@@ -142,7 +143,8 @@ module _ (as′ ds : List ℕ) where
             (ap (λ zs. remains (sortKey Descendant) (spotOf place) (group Descendant (nodeAt ds (j / 4)) zs)) (at-matches relation)
             ∙ group-past Descendant place past (nodeAt ds (j / 4)) _ (p l) (at-rises relation)))
 
-        -- so a group that found room leaves those after it to serve, and one that didn't ends the page
+        -- so a group that found room leaves those after it to serve, and one that didn't ends the
+        -- page
         pub descend-on : (relation : Relation) (place : Place) (past : ℕ) → Tells place ds past j → (out : List ℕ) (n : ℕ) {o : List ℕ} {d : ℕ} {b : Bool} {whole : List ℕ × ℕ × Bool}
             → (o, d, b) ≡ servedGroup Descendant out n (nodeAt ds (j / 4)) (fromStart past (reverse (matches (asked relation Descendant) (nodeAt ds (j / 4)) (opened used stack)))) → b ≡ true
             → serve pairWords PAIR-WORDS out n (rest-of relation Descendant place (drop (j / 4) (nodes ds)) (nodes as′)) ≡ whole → serve pairWords PAIR-WORDS o d (rest-of relation Descendant place (drop ((j + 4) / 4) (nodes ds)) (nodes as′)) ≡ whole

@@ -1,12 +1,14 @@
--- The ticket keeps relation, order and the last pair's key, so a sequence of calls is one of paging's, with the listing of each call's own lists.
--- Were a pair lost or handed out twice between pages, for any edits in between, this would fall.
+-- Why it holds: The ticket keeps relation, order and the last pair's key, so a sequence of calls is
+-- one of paging's, with the listing of each call's own lists.
+-- What would break it: Were a pair lost or handed out twice between pages, for any edits in
+-- between, this would fall.
 use mathlib.Core.Path.{_≡_, refl, sym, ap, subst, _∙_}
 use mathlib.Core.Logic.{inl, inr}
 use mathlib.Core.Bool.{true, false, cond}
 use mathlib.Core.List.{List, [], _∷_, _++_, map, map-append}
-use Rattle.laws.specs.Choose.{All, Pairs, In}
+use Rattle.laws.specs.Choose.{All, EveryTwo, In}
 use Rattle.nodes.specs.Words.{nodes}
-use Rattle.laws.proofs.Choices.{all-of, all-map, pairs-map, all-append, pairs-passed, all-mapped}
+use Rattle.laws.proofs.Choices.{all-of, all-map, every-two-map, all-append, pairs-passed, all-mapped}
 use Rattle.laws.proofs.Tests.{either}
 use Rattle.answers.specs.Verdict.{refusedb}
 use Rattle.lists.specs.Two.{checkTwo}
@@ -127,7 +129,8 @@ module _ (ask : Asked) where
       all-map {P = λ p. StandsIn p c × (askedb ask p ≡ true)} (λ p h. h .1) (shown t c) (own-lists t c) in
       all-append (λ p. askedb ask p ≡ true) (shown t c) _ own (related-through (answer t c .ticket .place) cs)
 
-  -- a related pair that stands unaltered in the lists of every accepted call, up to one that is done, has been handed out
+  -- a related pair that stands unaltered in the lists of every accepted call, up to one that is
+  -- done, has been handed out
   pub none-lost : (cs : List Call) (c : Call) → AcceptedCall c → answer (ticketThrough (freshTicket ask) cs) c .done ≡ true
       → (p : Pair) → askedb ask p ≡ true → All (λ k. AcceptedCall k → StandsIn p k) cs → StandsIn p c
       → In p (shownThrough (freshTicket ask) (cs ++ c ∷ []))
@@ -138,10 +141,10 @@ module _ (ask : Asked) where
       (listed-iff ask _ _ p .1 (m .0, m .1, r)))
 
   -- no two pairs with the same starts are handed out
-  pub none-twice : (cs : List Call) → Pairs (λ p q. SameStarts p q → ⊥) (shownThrough (freshTicket ask) cs)
+  pub none-twice : (cs : List Call) → EveryTwo (λ p q. SameStarts p q → ⊥) (shownThrough (freshTicket ask) cs)
   none-twice cs =
       let ps = shownThrough (freshTicket ask) cs in
       let keys = no-key-twice (sortKey (ask .order)) (map callOf cs) (all-mapped callOf _ cs (all-of ascending cs)) in
       pairs-passed (λ p. askedb ask p ≡ true) (λ p q. SameStarts p q → ⊥) ps (related-through Fresh cs)
-      (pairs-map (λ p q h r s e. h (same-key (ask .relation) (ask .order) p q r s e)) ps
-      (subst (Pairs (λ p q. sortKey (ask .order) p ≡ sortKey (ask .order) q → ⊥)) (sym (shown-through Fresh cs)) keys))
+      (every-two-map (λ p q h r s e. h (same-key (ask .relation) (ask .order) p q r s e)) ps
+      (subst (EveryTwo (λ p q. sortKey (ask .order) p ≡ sortKey (ask .order) q → ⊥)) (sym (shown-through Fresh cs)) keys))

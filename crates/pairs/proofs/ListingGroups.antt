@@ -1,6 +1,7 @@
--- The pairs of a leader that have the relation are its group with the followers that match, and the
--- starts of these rise. A follower that matches and is left out, or two that come in the wrong
--- order, would fall here.
+-- Why it holds: The pairs of a leader that have the relation are its group with the followers that
+-- match, and the starts of these rise.
+-- What would break it: A follower that matches and is left out, or two that come in the wrong
+-- order, would be caught here.
 use mathlib.Core.Path.{_≡_, refl, ap, sym, _∙_}
 use mathlib.Core.Logic.{inl, inr}
 use mathlib.Core.Bool.{Bool}
@@ -8,9 +9,9 @@ use mathlib.Core.List.{List, [], _∷_, _++_}
 use Prim.Native.Nat.{ℕ, _≤_, _<_}
 use lib.ListN.{drop}
 use Rattle.nodes.specs.declared.node.Node.{Node}
-use Rattle.laws.specs.Choose.{All, Pairs, keep}
+use Rattle.laws.specs.Choose.{All, EveryTwo, keep}
 use Rattle.nodes.specs.Words.{nodes, count}
-use Rattle.laws.proofs.Choices.{all-map, all-both, keep-past, keep-pairs}
+use Rattle.laws.proofs.Choices.{all-map, all-both, keep-past, keep-every-two}
 use Rattle.nodes.proofs.NodeLaws.{after-starts}
 use Rattle.laws.proofs.Tests.{either}
 use Rattle.nodes.proofs.WordLaws.{nodes-behind}
@@ -27,7 +28,7 @@ use Rattle.tickets.proofs.Listed.{group-document}
 use Rattle.tickets.proofs.Groups.{rest-of, rest-next, rest-served}
 
 -- nodes of one document that ascend rise in their starts
-pub rising : (x : Node) (zs : List Node) → Pairs Fine zs → All (λ z. x .document ≡ z .document) zs → Pairs (λ y z. y .start < z .start) zs
+pub rising : (x : Node) (zs : List Node) → EveryTwo Fine zs → All (λ z. x .document ≡ z .document) zs → EveryTwo (λ y z. y .start < z .start) zs
 rising x [] f h = tt
 rising x (z ∷ zs) f h = (all-both (λ n g d. after-starts n z (g .after) (sym (h .0) ∙ d)) zs (f .0) (h .1), rising x zs (f .1) (h .1))
 
@@ -41,14 +42,14 @@ module _ (relation : Relation) (order : Order) (x : Node) where
       [ inl h ↦ rw h (ap (λ ps. pairOf order x y ∷ ps) (group-kept ys)) | inr h ↦ rw h (group-kept ys) ]
 
   -- the starts of what matches a leader rise
-  pub matches-rise : (ys : List Node) → Pairs Fine ys → Pairs (λ y z. y .start < z .start) (matches (asked relation order) x ys)
+  pub matches-rise : (ys : List Node) → EveryTwo Fine ys → EveryTwo (λ y z. y .start < z .start) (matches (asked relation order) x ys)
   unfolding matches
   matches-rise ys f =
       let test : Node → Bool = λ y. relatedb relation (pairOf order x y) in
-      rising x (keep test ys) (keep-pairs Fine test ys f)
+      rising x (keep test ys) (keep-every-two Fine test ys f)
       (all-map (λ y h. sym (group-document relation order x y h)) (keep test ys) (keep-past test ys))
 
-  -- what remains of a leader and those behind it: its group with what matches, and what remains of
+  -- what remains of a leader and those after it: its group with what matches, and what remains of
   -- the others
   pub rest-group : (place : Place) (xs ys : List Node)
       → rest-of relation order place (x ∷ xs) ys
@@ -65,7 +66,7 @@ pub sweep-start : (relation : Relation) (order : Order) (place : Place) (as′ d
 unfolding listing
 sweep-start relation order place as′ ds i q = rw q (sym (rest-served relation order place (leaders order as′ ds) (followers order as′ ds)))
 
--- and behind the last leader nothing is left
+-- and after the last leader nothing is left
 pub sweep-end : (relation : Relation) (order : Order) (place : Place) (ws : List ℕ) (ys : List Node) (i : ℕ) → count ws ≤ i
     → rest-of relation order place (drop i (nodes ws)) ys ≡ []
 unfolding remains keep everyPair

@@ -1,5 +1,7 @@
--- Only open ancestors contain a descendant, so the chain of open ones answers for all; each of them contains it, and only the innermost directly.
--- Joining with the innermost alone, or directly without the level, would fall here.
+-- Why it holds: Only open ancestors contain a descendant, so the chain of open ones answers for
+-- all; each of them contains it, and only the innermost directly.
+-- What would break it: Joining with the innermost alone, or directly without the level, would be
+-- caught here.
 use mathlib.Core.Path.{_≡_, refl, ap, sym, _∙_}
 use mathlib.Core.Logic.{inl}
 use mathlib.Core.Bool.{Bool, true, false, cond}
@@ -65,7 +67,8 @@ module _ (d : Node) where
   inside-all [] c u = refl
   inside-all (e ∷ s) c u = rw (u .0) (ap (λ es. e ∷ es) (keep-all _ s (chain-contains d e s c (u .0))))
 
-  -- of a chain onto which d would fit only the innermost can contain it directly: the others are less deep by two or more
+  -- of a chain onto which d would fit only the innermost can contain it directly: the others are
+  -- less deep by two or more
   pub directly-top : (e : Node) (s : List Node) → Chain (e ∷ s) → Upon d (e ∷ s)
       → matches (asked Directly Descendant) d (e ∷ s) ≡ cond (deeperb d e) (e ∷ []) []
   unfolding matches relatedb pairOf keep directlyb

@@ -1,6 +1,7 @@
--- The open ancestors lie one inside the other and stand for all ancestors before; those left out
--- have ended before every node still to come. Were an open zone left out, or one taken off for good
--- while it is open, `open-skip` or `open-left` would fall.
+-- Why it holds: The open ancestors lie one inside the other and stand for all ancestors before;
+-- those left out have ended before every node still to come.
+-- What would break it: Were an open zone left out, or one taken off for good while it is open,
+-- `open-skip` or `open-left` would fall.
 use mathlib.Core.Path.{_≡_, refl, subst, sym, _∙_}
 use mathlib.Core.Logic.{inl, inr, ⊎-elim}
 use mathlib.Core.Bool.{true, false}
@@ -22,7 +23,8 @@ use Rattle.pairs.specs.Private.Sweep.{From, Open}
 pub all-among : (P : Node → Type 0) {d : Node} {before s : List Node} → Open d before s → All P before → All P s
 all-among P {before = before} {s = s} k h = all-map (λ e m. all-in P before h m) s (k .among)
 
--- a node that is fine with a chain, all of which is open at it, lies inside the innermost, and deeper
+-- a node that is fine with a chain, all of which is open at it, lies inside the innermost, and
+-- deeper
 pub upon-open : (n : Node) (s : List Node) → Sound n → All (λ e. Fine e n) s → All (λ e. openb n e ≡ true) s → Upon n s
 upon-open n [] t f o = tt
 upon-open n (e ∷ s) t f o =
@@ -58,8 +60,8 @@ pub open-none : (d : Node) → Open d [] []
 open-none d = record { stands = record { chain = tt; keeps = λ n p test only. refl }; among = tt; behind = tt }
 
 module _ (d a : Node) (before s : List Node) (h : afterb d a ≡ true) (k : Open d before s) where
-  -- one more ancestor before d, fine with all before it, comes to lie on a chain all of which is open
-  -- at d: it is open at the ancestor too
+  -- one more ancestor before d, fine with all before it, comes to lie on a chain all of which is
+  -- open at d: it is open at the ancestor too
   pub open-push : Sound a → All (λ e. Fine e a) before → All (λ e. openb d e ≡ true) s → Open d (a ∷ before) (a ∷ s)
   open-push t f o =
       let g : All (λ e. Fine e a) s = all-among (λ e. Fine e a) k f in

@@ -1,6 +1,7 @@
--- The descendants inside an ancestor are a run: they begin with the first that stands after it and
--- end with the first at which it isn't open. A run that began late or ended early would leave out a
--- pair, and one that went on would take a node outside; either would fall here.
+-- Why it holds: The descendants inside an ancestor are a run: they begin with the first that stands
+-- after it and end with the first at which it isn't open.
+-- What would break it: A run that began late or ended early would leave out a pair, and one that
+-- went on would take a node outside; either would be caught here.
 use mathlib.Core.Path.{_≡_, refl, ap, sym, subst, _∙_}
 use mathlib.Core.Logic.{_⊎_, inl, inr, ⊎-elim}
 use mathlib.Core.Bool.{Bool, true, false, not}
@@ -13,10 +14,10 @@ use lib.ListN.{length, getD, take, drop, take-append-drop, length-drop}
 use lib.Seq.{getD-drop, drop-drop}
 use borrow.Author.Tests.{lt-ltb, le-ltb, ltb-true, ltb-false}
 use Rattle.nodes.specs.declared.node.Node.{Node}
-use Rattle.laws.specs.Choose.{All, Pairs, keep, firstAt}
+use Rattle.laws.specs.Choose.{All, EveryTwo, keep, firstAt}
 use Rattle.nodes.specs.Node.{insideb, afterb, openb}
 use Rattle.nodes.specs.Words.{node, nodes, count, nodeAt}
-use Rattle.laws.proofs.Choices.{all-map, all-both, keep-append, keep-none, all-at, all-drop, pairs-drop}
+use Rattle.laws.proofs.Choices.{all-map, all-both, keep-append, keep-none, all-at, all-drop, every-two-drop}
 use Rattle.nodes.proofs.NodeLaws.{after-trans, inside-after, inside-open, open-read, shut-later}
 use Rattle.laws.proofs.Tests.{either, never, not-so, not-none, and-read}
 use Rattle.nodes.proofs.WordLaws.{length-nodes, nodes-from, nodes-behind}
@@ -37,7 +38,7 @@ use Rattle.pairs.specs.Private.Sweep.{Running, Further, runningb, runEnd
 pub record Run (a : Node) (zs : List Node) : Type 0 where
   pub sound : All Sound zs
   pub fine : All (Fine a) zs
-  pub pairs : Pairs Fine zs
+  pub pairs : EveryTwo Fine zs
 
 module _ (a : Node) where
   run-next : (d : Node) (zs : List Node) → Run a (d ∷ zs) → Run a zs
@@ -98,7 +99,7 @@ module _ (a : Node) where
       ]
 
   -- of nodes that ascend, from the first one after the ancestor on all stand after it
-  pub first-after : (ds : List Node) → Pairs Fine ds → All (λ d. afterb d a ≡ true) (drop (firstAt (λ d. afterb d a) ds) ds)
+  pub first-after : (ds : List Node) → EveryTwo Fine ds → All (λ d. afterb d a ≡ true) (drop (firstAt (λ d. afterb d a) ds) ds)
   unfolding firstAt
   first-after [] f = tt
   first-after (d ∷ ds) f =
@@ -124,7 +125,7 @@ module _ (ws : List ℕ) (a : Node) where
       record {
         sound = all-drop Sound k (nodes ws) (t .2);
         fine = all-both (λ d h o. even-fine a d h o) (drop k (nodes ws)) (r .after) (all-drop _ k (nodes ws) (r .even));
-        pairs = pairs-drop Fine k (nodes ws) (t .3);
+        pairs = every-two-drop Fine k (nodes ws) (t .3);
       }
 
   -- what holds from an index on holds from a later one on

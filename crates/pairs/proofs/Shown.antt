@@ -1,5 +1,7 @@
--- A pair's eight words are its two nodes, and each pair's words follow those of the pair before, so the output read in twos begins with the pairs.
--- A pair written one word off, nodes in the wrong order, or a place that isn't that of the last pair written would fall here.
+-- Why it holds: A pair's eight words are its two nodes, and each pair's words follow those of the
+-- pair before, so the output read in twos begins with the pairs.
+-- What would break it: A pair written one word off, nodes in the wrong order, or a place that isn't
+-- that of the last pair written would be caught here.
 use mathlib.Core.Path.{_≡_, refl, sym, ap, _∙_}
 use mathlib.Core.List.{List, [], _∷_, _++_, flatMap, append-nil}
 use Prim.Native.Nat.{ℕ, suc, _+_, _*_, _-_}

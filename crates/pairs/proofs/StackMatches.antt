@@ -1,6 +1,7 @@
--- On the stack, what matches a descendant is the whole of it, the innermost alone, or nothing; each
--- is a stretch that ends at the top. A stretch that began one node off, or took in an ancestor two
--- levels up as directly containing, would fall here.
+-- Why it holds: On the stack, what matches a descendant is the whole of it, the innermost alone, or
+-- nothing; each is a stretch that ends at the top.
+-- What would break it: A stretch that began one node off, or took in an ancestor two levels up as
+-- directly containing, would be caught here.
 use mathlib.Core.Path.{_≡_, refl, ap, sym, _∙_}
 use mathlib.Core.Bool.{Bool, true, false, cond}
 use mathlib.Core.List.{List, [], _∷_, reverse}

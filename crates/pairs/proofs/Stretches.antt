@@ -1,6 +1,7 @@
--- A group is served follower by follower: one that fits is stored, one that doesn't ends it, and so
--- does the last. A pair stored one off, a follower skipped or a count of what fits that is one off
--- falls here.
+-- Why it holds: A group is served follower by follower: one that fits is stored, one that doesn't
+-- ends it, and so does the last.
+-- What would break it: A pair stored one off, a follower skipped or a count of what fits that is
+-- one off would be caught here.
 use Prim.Native.Nat.{ℕ, zero, suc, _+_, _-_, _*_, _/_, _%_, _≤_, _<_, zero-le}
 use mathlib.Core.Path.{_≡_, refl, sym, ap, subst, _∙_}
 use mathlib.Core.Bool.{Bool, true, false}

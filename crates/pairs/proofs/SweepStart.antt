@@ -1,6 +1,7 @@
--- A sweep starts at the first leader that isn't before the place's own, where a number tells which
--- followers lie past the place; for every later leader all do. A sweep that started one leader
--- late, or left out a follower of a leader after the place's own, would fall here.
+-- Why it holds: A sweep starts at the first leader that isn't before the place's own, where a
+-- number tells which followers lie past the place; for every later leader all do.
+-- What would break it: A sweep that started one leader late, or left out a follower of a leader
+-- after the place's own, would be caught here.
 use mathlib.Core.Path.{_≡_, ap, _∙_}
 use mathlib.Core.Bool.{true, false, not}
 use mathlib.Core.List.{List}
@@ -11,7 +12,7 @@ use Rattle.nodes.specs.declared.node.Node.{Node}
 use Rattle.answers.specs.Answer.{TAKEN}
 use Rattle.nodes.specs.Node.{afterb}
 use Rattle.nodes.specs.Words.{node, nodes, count, nodeAt}
-use Rattle.laws.proofs.Choices.{pairs-at}
+use Rattle.laws.proofs.Choices.{every-two-at}
 use Rattle.laws.proofs.Tests.{not-read}
 use Rattle.nodes.proofs.WordLaws.{length-nodes}
 use Rattle.lists.specs.Check.{checkWords}
@@ -45,7 +46,7 @@ unfolding nodeAt
 after-next ws taken j m =
     let t = words-taken-iff ws .0 taken in
     let w = t .0 in
-    pairs-at Fine (nodes ws) (j / 4) ((j + 4) / 4) (node 0 0 0 0) (omega arith) (omega (arith, length-nodes ws)) (t .3) .after
+    every-two-at Fine (nodes ws) (j / 4) ((j + 4) / 4) (node 0 0 0 0) (omega arith) (omega (arith, length-nodes ws)) (t .3) .after
 
 module _ (place : Place) (ws : List ℕ) where
   pub started : (first past : ℕ) (x : Node) → first ≡ servedIn place (nodes ws) → x ≡ nodeAt ws first → past ≡ pastFrom place x

@@ -1,6 +1,7 @@
--- Calls on the same two lists have the same full listing, so paging's pages of one listing are theirs,
--- whatever the room of each, and each leaves what it did not hand out. Were the listing not whole or not
--- in order once a call is done, or not done once the rooms suffice, this would fall.
+-- Why it holds: Calls on the same two lists have the same full listing, so paging's pages of one
+-- listing are theirs, whatever the room of each, and each leaves what it did not hand out.
+-- What would break it: Were the listing not whole or not in order once a call is done, or not done
+-- once the rooms suffice, this would fall.
 use mathlib.Core.Path.{_≡_, refl, sym, ap, _∙_}
 use mathlib.Core.Bool.{true}
 use mathlib.Core.List.{List, [], _∷_, _++_, map, map-append}
@@ -55,7 +56,8 @@ module _ (ask : Asked) (c : Call) (a : AcceptedCall c) where
   same-calls [] s = refl
   same-calls (k ∷ cs) s = λ i. same-call k (s .0) i ∷ same-calls cs (s .1) i
 
-  -- from a fresh ticket until a call is done, calls on lists that nobody alters hand out the full listing, in its order
+  -- from a fresh ticket until a call is done, calls on lists that nobody alters hand out the full
+  -- listing, in its order
   pub whole-through : (cs : List Call) → All (λ k. SameLists k c) cs → answer (ticketThrough (freshTicket ask) cs) c .done ≡ true
       → shownThrough (freshTicket ask) (cs ++ c ∷ []) ≡ whole
   whole-through cs s d =

@@ -1,6 +1,7 @@
--- A sweep along the ancestors hands out each one's run past the place, and where the runs begin
--- only moves on. A descendant passed before an ancestor that contains it, or a follower handed out
--- before the place, would fall here.
+-- Why it holds: A sweep along the ancestors hands out each one's run past the place, and where the
+-- runs begin only moves on.
+-- What would break it: A descendant passed before an ancestor that contains it, or a follower
+-- handed out before the place, would be caught here.
 use mathlib.Core.Path.{_≡_, refl, ap, sym, subst, _∙_}
 use mathlib.Core.Logic.{inl, inr}
 use mathlib.Core.Bool.{Bool, true, false, not}
@@ -13,7 +14,7 @@ use lib.Seq.{drop-drop, drop-nil}
 use borrow.Author.Tests.{le-leb, leb-true}
 use Rattle.nodes.specs.declared.node.Node.{Node}
 use Rattle.answers.specs.Answer.{TAKEN}
-use Rattle.laws.specs.Choose.{All, Pairs, keep, firstAt}
+use Rattle.laws.specs.Choose.{All, EveryTwo, keep, firstAt}
 use Rattle.nodes.specs.Node.{afterb, openb}
 use Rattle.nodes.specs.Words.{nodes, count, nodeAt}
 use Rattle.laws.proofs.Choices.{all-map, take-all-of, keep-all-of}
@@ -44,10 +45,10 @@ use Rattle.pairs.proofs.ListingGroups.{rising, matches-rise, rest-group
 use Rattle.pairs.proofs.Running.{first-after, match-append, match-after, running-run, running-from, run-stops, end-from, end-in, none-match}
 use Rattle.pairs.proofs.Stretches.{stretch-ahead, ahead-in, served-as}
 
-pairs-take : (R : Node → Node → Type 0) (n : ℕ) (xs : List Node) → Pairs R xs → Pairs R (take n xs)
-pairs-take R zero xs h = tt
-pairs-take R (suc n) [] h = tt
-pairs-take R (suc n) (x ∷ xs) h = (take-all-of (R x) n xs (h .0), pairs-take R n xs (h .1))
+every-two-take : (R : Node → Node → Type 0) (n : ℕ) (xs : List Node) → EveryTwo R xs → EveryTwo R (take n xs)
+every-two-take R zero xs h = tt
+every-two-take R (suc n) [] h = tt
+every-two-take R (suc n) (x ∷ xs) h = (take-all-of (R x) n xs (h .0), every-two-take R n xs (h .1))
 
 -- nodes that all start late enough are left as they are
 from-all : (past : ℕ) (zs : List Node) → All (λ z. leb past (z .start) ≡ true) zs → fromStart past zs ≡ zs
@@ -56,7 +57,7 @@ from-all past [] h = refl
 from-all past (z ∷ zs) h = rw (h .0) refl
 
 -- of nodes whose starts rise, what is kept from a start on is what starts there of what is kept
-keep-from : (test : Node → Bool) (past : ℕ) (zs : List Node) → Pairs (λ y z. y .start < z .start) zs
+keep-from : (test : Node → Bool) (past : ℕ) (zs : List Node) → EveryTwo (λ y z. y .start < z .start) zs
     → keep test (fromStart past zs) ≡ fromStart past (keep test zs)
 unfolding fromStart firstAt keep
 keep-from test past [] h = refl
@@ -81,12 +82,12 @@ module _ (ws : List ℕ) (a : Node) where
       ap (matches (asked relation Ancestor) a) (sym (take-append-drop n zs)) ∙ match-append a relation (take n zs) (drop n zs)
       ∙ ap (λ ms. matches (asked relation Ancestor) a (take n zs) ++ ms) none ∙ append-nil _
 
-  run-rises : (from to : ℕ) → Running ws a (from / 4) → to / 4 ≡ runEnd ws a (from / 4) → Pairs (λ y z. y .start < z .start) (stretch ws from to)
+  run-rises : (from to : ℕ) → Running ws a (from / 4) → to / 4 ≡ runEnd ws a (from / 4) → EveryTwo (λ y z. y .start < z .start) (stretch ws from to)
   run-rises from to r q =
       let zs : List Node = drop (from / 4) (nodes ws) in
       let width : to / 4 - from / 4 ≡ firstAt (λ d. not (openb d a)) zs = omega arith in
-      subst (λ n. Pairs (λ y z. y .start < z .start) (take n zs)) (sym width)
-      (rising a (take (firstAt (λ d. not (openb d a)) zs) zs) (pairs-take Fine (firstAt (λ d. not (openb d a)) zs) zs (running-run ws a (from / 4) r .pairs))
+      subst (λ n. EveryTwo (λ y z. y .start < z .start) (take n zs)) (sym width)
+      (rising a (take (firstAt (λ d. not (openb d a)) zs) zs) (every-two-take Fine (firstAt (λ d. not (openb d a)) zs) zs (running-run ws a (from / 4) r .pairs))
       (all-map (λ z o. open-read z a (not-none _ o) .document) (take (firstAt (λ d. not (openb d a)) zs) zs) (first-failed (λ d. not (openb d a)) zs)))
 
   -- from the first descendant of the run that starts late enough on lies what is left of what

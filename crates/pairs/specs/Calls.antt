@@ -1,4 +1,5 @@
--- One listing followed through calls, as its caller sees it: by the answers, and by the outputs on return.
+-- One listing followed through calls, as its caller sees it: by the answers, and by the outputs on
+-- return.
 use Prim.Native.Nat.{ℕ}
 use mathlib.Core.Path.{_≡_}
 use mathlib.Core.List.{List, [], _∷_, _++_}

@@ -1,4 +1,4 @@
--- Document 01, "Listings and tickets": what a page call answers and writes.
+-- docs/SCOPE.md, "Listings and tickets": what a page call answers and writes.
 use Prim.Native.Nat.{ℕ}
 use mathlib.Core.Bool.{Bool, false, cond}
 use mathlib.Core.List.{List, []}
@@ -25,7 +25,8 @@ remaining t ancestors descendants = remains (sortKey (t .order)) (spotOf (t .pla
 
 -- one call: its two lists, its ticket and its output
 module _ (ancestors descendants : List ℕ) (t : Ticket) (out : List ℕ) where
-  -- the pairs that the call hands out: a refused one none, an accepted one the first that remain, as many as fit
+  -- the pairs that the call hands out: a refused one none, an accepted one the first that remain,
+  -- as many as fit
   unfoldable pub handedOut : List Pair
   handedOut =
       cond (refusedb (checkTwo ancestors descendants)) []
@@ -37,7 +38,8 @@ module _ (ancestors descendants : List ℕ) (t : Ticket) (out : List ℕ) where
       cond (refusedb (checkTwo ancestors descendants)) false
       (doneb (sortKey (t .order)) (spotOf (t .place)) (room out) (listingOf t ancestors descendants))
 
-  -- the ticket that comes back: its place is the key of the last pair written, or the old place when none was
+  -- the ticket that comes back: its place is the key of the last pair written, or the old place
+  -- when none was
   unfoldable pub ticketAfter : Ticket
   ticketAfter = ticketAt (askedBy t) (reached (λ p. After (keyOf (t .order) p)) (t .place) handedOut)
 

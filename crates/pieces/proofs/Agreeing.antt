@@ -1,6 +1,7 @@
--- Two nodes of two lists are at odds wherever their lists are cut, so the wholes agree exactly when
--- each piece of one agrees with each piece of the other.
--- A piece that was held against fewer than all pieces of the other list would fall here.
+-- Why it holds: Two nodes of two lists are at odds wherever their lists are cut, so the wholes
+-- agree exactly when each piece of one agrees with each piece of the other.
+-- What would break it: A piece that was held against fewer than all pieces of the other list would
+-- be caught here.
 use Prim.Native.Nat.{ℕ}
 use mathlib.Core.Path.{_≡_}
 use mathlib.Core.Logic.{_↔_}

@@ -1,6 +1,7 @@
--- Nodes of different documents are neither related nor at odds, so pieces that share no document
--- have no pairs, and are taken together where each is taken.
--- A relation or a check that looked past a document's end would fall here.
+-- Why it holds: Nodes of different documents are neither related nor at odds, so pieces that share
+-- no document have no pairs, and are taken together where each is taken.
+-- What would break it: A relation or a check that looked past a document's end would be caught
+-- here.
 use Prim.Native.Nat.{ℕ}
 use mathlib.Core.Path.{_≡_, refl, sym}
 use mathlib.Core.Bool.{false}

@@ -1,6 +1,8 @@
--- Along a taken piece every node stands after the first and before the last, so the last node of
--- one piece and the first node of the next decide how all nodes of the two stand to one another.
--- An empty piece between two others would break the chain, and fall here.
+-- Why it holds: Along a taken piece every node stands after the first and before the last, so the
+-- last node of one piece and the first node of the next decide how all nodes of the two stand to
+-- one another.
+-- What would break it: An empty piece between two others would break the chain, and would be caught
+-- here.
 use Prim.Native.Nat.{ℕ, _-_, _≤_, _<_}
 use mathlib.Core.Path.{_≡_, refl, sym, subst}
 use mathlib.Core.Logic.{_↔_, _⊎_, inl, inr, ⊎-elim}
@@ -10,8 +12,8 @@ use native.Mathlib.Omega.{arith}
 use lib.Dec.{ltb}
 use lib.ListN.{length, getD}
 use borrow.Author.Tests.{ltb-true, ltb-false}
-use Rattle.laws.specs.Choose.{All, Pairs}
-use Rattle.laws.proofs.Choices.{all-map, all-both, all-at, at-all, pairs-at, pairs-map, pairs-passed}
+use Rattle.laws.specs.Choose.{All, EveryTwo}
+use Rattle.laws.proofs.Choices.{all-map, all-both, all-at, at-all, every-two-at, every-two-map, pairs-passed}
 use Rattle.laws.proofs.Tests.{either}
 use Rattle.nodes.specs.declared.node.Node.{Node}
 use Rattle.nodes.specs.Node.{afterb}
@@ -24,7 +26,7 @@ use Rattle.pieces.specs.Checks.{firstNode, lastNode, StartsAfter, EachNe
 use Rattle.pieces.specs.Pieces.{whole}
 use Rattle.pieces.proofs.Apart.{lower-taken, lower-others, higher-others}
 use Rattle.pieces.proofs.Checking.{whole-checked}
-use Rattle.pieces.proofs.Cutting.{pairs-both}
+use Rattle.pieces.proofs.Cutting.{every-two-both}
 
 -- a node is another, or stands after it
 abbrev From : Node → Node → Type 0
@@ -34,14 +36,14 @@ from-document : (e n : Node) → From e n → e .document ≤ n .document
 from-document e n h = ⊎-elim (λ q. subst (λ x. e .document ≤ x .document) (sym q) (omega arith))
     (λ a. ⊎-elim (λ d. omega arith) (λ d. omega (arith, d .0)) (after-read n e a)) h
 
-ascends : (w : List ℕ) → Taken w → Pairs (λ e n. afterb n e ≡ true) (nodes w)
-ascends w t = pairs-map (λ e n f. f .after) (nodes w) (taken-iff (nodes w) .0 (words-check w .0 t .1) .1)
+ascends : (w : List ℕ) → Taken w → EveryTwo (λ e n. afterb n e ≡ true) (nodes w)
+ascends w t = every-two-map (λ e n f. f .after) (nodes w) (taken-iff (nodes w) .0 (words-check w .0 t .1) .1)
 
 from-first : (w : List ℕ) → Taken w → All (From (firstNode w)) (nodes w)
 unfolding nodeAt
 from-first w t = along (nodes w) (ascends w t)
   where
-    along : (ns : List Node) → Pairs (λ e n. afterb n e ≡ true) ns → All (From (getD ns 0 (node 0 0 0 0))) ns
+    along : (ns : List Node) → EveryTwo (λ e n. afterb n e ≡ true) ns → All (From (getD ns 0 (node 0 0 0 0))) ns
     along [] h = tt
     along (n ∷ ns) h = (inl refl, all-map (λ m a. inr a) ns (h .0))
 
@@ -51,7 +53,7 @@ to-last w t =
     let none = node 0 0 0 0 in
     at-all (λ e. From e (lastNode w)) (nodes w) none (λ i l.
     elim (either (ltb i (count w - 1))) [
-      | inl h ↦ inr (pairs-at (λ e n. afterb n e ≡ true) (nodes w) i (count w - 1) none (ltb-true i (count w - 1) h)
+      | inl h ↦ inr (every-two-at (λ e n. afterb n e ≡ true) (nodes w) i (count w - 1) none (ltb-true i (count w - 1) h)
           (let m = length-nodes w in omega arith) (ascends w t))
       | inr h ↦ inl (let b = ltb-false i (count w - 1) h in
           let m = length-nodes w in
@@ -109,7 +111,7 @@ stands-trans u v w p a b =
 -- each piece stands after all earlier ones exactly when the first node of each comes after the last
 -- node of the one before it
 pub borders-enough : (ws : List (List ℕ)) → All Taken ws → All HasNode ws
-    → Pairs (λ v w. StandsAfter w v) ws ↔ EachNext (λ v w. StartsAfter w v) ws
+    → EveryTwo (λ v w. StandsAfter w v) ws ↔ EachNext (λ v w. StartsAfter w v) ws
 borders-enough [] t c = (λ h. tt, λ h. tt)
 borders-enough (v ∷ []) t c = (λ h. tt, λ h. (tt, tt))
 borders-enough (v ∷ w ∷ ws) t c =
@@ -122,18 +124,18 @@ borders-enough (v ∷ w ∷ ws) t c =
 
 -- any two pieces are taken together, as their borders or the check of the two show
 together : (ws : List (List ℕ)) → All Taken ws → All HasNode ws
-    → Pairs (λ v w. (lastNode v .document < firstNode w .document) ⊎ TakenTogether v w) ws → Pairs TakenTogether ws
+    → EveryTwo (λ v w. (lastNode v .document < firstNode w .document) ⊎ TakenTogether v w) ws → EveryTwo TakenTogether ws
 together ws t c h =
     pairs-passed (λ w. Taken w × HasNode w) TakenTogether ws (all-both (λ w a b. (a, b)) ws t c)
-    (pairs-map (λ v w k a b. ⊎-elim (λ l. lower-taken v w (documents-part v w (a .0) (b .0) (a .1) (b .1) l) (a .0) (b .0)) (λ x. x) k) ws h)
+    (every-two-map (λ v w k a b. ⊎-elim (λ l. lower-taken v w (documents-part v w (a .0) (b .0) (a .1) (b .1) l) (a .0) (b .0)) (λ x. x) k) ws h)
 
 -- so it is exact to check each piece, the borders, and any two pieces whose documents may meet
 pub borders-checked : (ws : List (List ℕ)) → All Fits ws → All HasNode ws → DrawsNone (whole ws) ↔ (All Taken ws
     × EachNext (λ v w. StartsAfter w v) ws
-    × Pairs (λ v w. (lastNode v .document < firstNode w .document) ⊎ TakenTogether v w) ws)
+    × EveryTwo (λ v w. (lastNode v .document < firstNode w .document) ⊎ TakenTogether v w) ws)
 borders-checked ws f c =
     let exact = whole-checked ws f in (
       λ h. let p = exact .0 h in
-          (p .0, borders-enough ws (p .0) c .0 (pairs-map (λ v w k. k .1) ws (p .1)), pairs-map (λ v w k. inr (k .0)) ws (p .1)),
-      λ h. exact .1 (h .0, pairs-both (λ v w a b. (a, b)) ws (together ws (h .0) c (h .2)) (borders-enough ws (h .0) c .1 (h .1))),
+          (p .0, borders-enough ws (p .0) c .0 (every-two-map (λ v w k. k .1) ws (p .1)), every-two-map (λ v w k. inr (k .0)) ws (p .1)),
+      λ h. exact .1 (h .0, every-two-both (λ v w a b. (a, b)) ws (together ws (h .0) c (h .2)) (borders-enough ws (h .0) c .1 (h .1))),
     )

@@ -1,11 +1,13 @@
--- A fault of rows 3 to 7 is a fault of one node or of two, and any two nodes of the whole lie in
--- one piece or in two, so the checks of each piece and of any two pieces find every fault.
--- Checks of neighbouring pieces alone would miss a node that crosses one two pieces before it.
+-- Why it holds: A fault of rows 3 to 7 is a fault of one node or of two, and any two nodes of the
+-- whole lie in one piece or in two, so the checks of each piece and of any two pieces find every
+-- fault. Checks of neighbouring pieces alone would miss a node that crosses one two pieces before
+-- it.
+-- What would break it:
 use Prim.Native.Nat.{ℕ}
 use mathlib.Core.Logic.{_↔_}
 use mathlib.Core.List.{List}
-use Rattle.laws.specs.Choose.{All, Pairs}
-use Rattle.laws.proofs.Choices.{all-map, all-both, pairs-map, pairs-passed}
+use Rattle.laws.specs.Choose.{All, EveryTwo}
+use Rattle.laws.proofs.Choices.{all-map, all-both, every-two-map, pairs-passed}
 use Rattle.nodes.specs.Words.{nodes}
 use Rattle.lists.proofs.Faults.{Sound}
 use Rattle.lists.proofs.Merging.{fine-even, even-fine}
@@ -38,16 +40,16 @@ whole-checked ws h = rw (nodes-whole ws (fit-whole ws h)) (
       let r = taken-iff (pieceNodes ws) .0 t in
       let sound = all-pieces Sound ws .0 (r .0) in
       let fine = pairs-pieces Fine ws .0 (r .1) in
-      let own : All (λ w. All Sound (nodes w) × Pairs Fine (nodes w)) ws = all-both (λ w s f. (s, f)) ws sound (fine .0) in
+      let own : All (λ w. All Sound (nodes w) × EveryTwo Fine (nodes w)) ws = all-both (λ w s f. (s, f)) ws sound (fine .0) in
       let taken : All Taken ws = all-both (λ w f o. words-check w .1 (f, taken-iff (nodes w) .1 o)) ws h own in (
         taken,
         pairs-passed Taken (λ v w. TakenTogether v w × StandsAfter w v) ws taken
-            (pairs-map (λ v w a s t. across-two v w s t a) ws (fine .1)),
+            (every-two-map (λ v w a s t. across-two v w s t a) ws (fine .1)),
       ),
   λ p.
       let own = all-map (λ w t. taken-iff (nodes w) .0 (words-check w .0 t .1)) ws (p .0) in
       taken-iff (pieceNodes ws) .1 (
         all-pieces Sound ws .1 (all-map (λ w o. o .0) ws own),
-        pairs-pieces Fine ws .1 (all-map (λ w o. o .1) ws own, pairs-map two-across ws (p .1)),
+        pairs-pieces Fine ws .1 (all-map (λ w o. o .1) ws own, every-two-map two-across ws (p .1)),
       ),
 )

@@ -1,13 +1,14 @@
--- Where no cut goes through a node, the nodes of the whole are those of the pieces in turn, so what
--- holds of all of them, or of any two, holds within each piece and across any two pieces.
--- A piece left out, or a cut through a node, would fall here.
+-- Why it holds: Where no cut goes through a node, the nodes of the whole are those of the pieces in
+-- turn, so what holds of all of them, or of any two, holds within each piece and across any two
+-- pieces.
+-- What would break it: A piece left out, or a cut through a node, would be caught here.
 use Prim.Native.Nat.{ℕ}
 use mathlib.Core.Path.{_≡_, refl, ap, _∙_}
 use mathlib.Core.Logic.{_↔_}
 use mathlib.Core.List.{List, [], _∷_, _++_}
 use native.Mathlib.Omega.{arith}
-use Rattle.laws.specs.Choose.{All, Pairs, In}
-use Rattle.laws.proofs.Choices.{all-map, all-both, each-in, all-append, pairs-append}
+use Rattle.laws.specs.Choose.{All, EveryTwo, In}
+use Rattle.laws.proofs.Choices.{all-map, all-both, each-in, all-append, every-two-append}
 use Rattle.nodes.specs.declared.node.Node.{Node}
 use Rattle.nodes.specs.Words.{node, nodes}
 use Rattle.pieces.specs.Checks.{Across}
@@ -23,17 +24,17 @@ module _ {A : Type 0} where
   all-parts P [] ys h = (tt, h)
   all-parts P (x ∷ xs) ys h = let r = all-parts P xs ys (h .1) in ((h .0, r .0), r .1)
 
-  pub pairs-parts : (R : A → A → Type 0) (xs ys : List A) → Pairs R (xs ++ ys) → Pairs R xs × Pairs R ys × All (λ x. All (R x) ys) xs
-  pairs-parts R [] ys h = (tt, h, tt)
-  pairs-parts R (x ∷ xs) ys h =
+  pub every-two-parts : (R : A → A → Type 0) (xs ys : List A) → EveryTwo R (xs ++ ys) → EveryTwo R xs × EveryTwo R ys × All (λ x. All (R x) ys) xs
+  every-two-parts R [] ys h = (tt, h, tt)
+  every-two-parts R (x ∷ xs) ys h =
       let a = all-parts (R x) xs ys (h .0) in
-      let r = pairs-parts R xs ys (h .1) in
+      let r = every-two-parts R xs ys (h .1) in
       ((a .0, r .0), r .1, (a .1, r .2))
 
   -- two things that hold of every earlier and later element
-  pub pairs-both : {R S Q : A → A → Type 0} → ((x y : A) → R x y → S x y → Q x y) → (xs : List A) → Pairs R xs → Pairs S xs → Pairs Q xs
-  pairs-both f [] h k = tt
-  pairs-both f (x ∷ xs) h k = (all-both (f x) xs (h .0) (k .0), pairs-both f xs (h .1) (k .1))
+  pub every-two-both : {R S Q : A → A → Type 0} → ((x y : A) → R x y → S x y → Q x y) → (xs : List A) → EveryTwo R xs → EveryTwo S xs → EveryTwo Q xs
+  every-two-both f [] h k = tt
+  every-two-both f (x ∷ xs) h k = (all-both (f x) xs (h .0) (k .0), every-two-both f xs (h .1) (k .1))
 
 -- what holds of each with each may be told from either list
 pub all-turned : {A B : Type 0} (R : A → B → Type 0) (xs : List A) (ys : List B) → All (λ x. All (R x) ys) xs → All (λ y. All (λ x. R x y) xs) ys
@@ -76,11 +77,11 @@ module _ (R : Node → Node → Type 0) (w : List ℕ) (ws : List (List ℕ)) wh
 
 -- what holds of every earlier and later node
 pub pairs-pieces : (R : Node → Node → Type 0) (ws : List (List ℕ))
-    → Pairs R (pieceNodes ws) ↔ (All (λ w. Pairs R (nodes w)) ws × Pairs (Across R) ws)
+    → EveryTwo R (pieceNodes ws) ↔ (All (λ w. EveryTwo R (nodes w)) ws × EveryTwo (Across R) ws)
 pairs-pieces R [] = (λ h. (tt, tt), λ h. tt)
 pairs-pieces R (w ∷ ws) = (
-  λ h. let r = pairs-parts R (nodes w) (pieceNodes ws) h in
+  λ h. let r = every-two-parts R (nodes w) (pieceNodes ws) h in
       let i = pairs-pieces R ws .0 (r .1) in
       ((r .0, i .0), (to-later R w ws (r .2), i .1)),
-  λ h. pairs-append R (nodes w) (pieceNodes ws) (h .0 .0) (pairs-pieces R ws .1 (h .0 .1, h .1 .1)) (from-later R w ws (h .1 .0)),
+  λ h. every-two-append R (nodes w) (pieceNodes ws) (h .0 .0) (pairs-pieces R ws .1 (h .0 .1, h .1 .1)) (from-later R w ws (h .1 .0)),
 )

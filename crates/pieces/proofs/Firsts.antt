@@ -1,6 +1,7 @@
--- In ascending lists the first n are those with fewer than n below them, and a list that holds
--- fewer items has no more below any of them.
--- Lists that ascend by different keys, or an item that only one of them holds, would fall here.
+-- Why it holds: In ascending lists the first n are those with fewer than n below them, and a list
+-- that holds fewer items has no more below any of them.
+-- What would break it: Lists that ascend by different keys, or an item that only one of them holds,
+-- would be caught here.
 use Prim.Native.Nat.{ℕ, zero, suc, _≤_}
 use mathlib.Core.Path.{_≡_, refl, sym, ap, subst, _∙_}
 use mathlib.Core.Logic.{inl, inr}

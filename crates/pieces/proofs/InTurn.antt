@@ -1,6 +1,6 @@
--- The listing takes the leading list node by node, so a leading list cut into pieces is listed
--- piece by piece.
--- A listing that looked back at an earlier leader would fall here.
+-- Why it holds: The listing takes the leading list node by node, so a leading list cut into pieces
+-- is listed piece by piece.
+-- What would break it: A listing that looked back at an earlier leader would be caught here.
 use Prim.Native.Nat.{ℕ}
 use mathlib.Core.Path.{_≡_, refl, sym, ap, _∙_}
 use mathlib.Core.List.{List, [], _∷_, _++_, map, append-nil, append-assoc}

@@ -1,6 +1,7 @@
--- A page is the last where no more pairs are left than it has room for, and what is left of the
--- whole is what is left of the pieces together.
--- A whole called done while one of its pieces has a pair left would fall here.
+-- Why it holds: A page is the last where no more pairs are left than it has room for, and what is
+-- left of the whole is what is left of the pieces together.
+-- What would break it: A whole called done while one of its pieces has a pair left would be caught
+-- here.
 use Prim.Native.Nat.{ℕ, _≤_}
 use mathlib.Core.Path.{_≡_, refl}
 use mathlib.Core.Logic.{_↔_}

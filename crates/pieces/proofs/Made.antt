@@ -1,6 +1,6 @@
--- Pieces make together what any two of them make, one after the other, so what holds of each part
--- holds of all of it.
--- Two pieces passed over would fall here.
+-- Why it holds: Pieces make together what any two of them make, one after the other, so what holds
+-- of each part holds of all of it.
+-- What would break it: Two pieces passed over would be caught here.
 use Prim.Native.Nat.{ℕ}
 use mathlib.Core.Logic.{inl, inr}
 use mathlib.Core.List.{List, [], _∷_, Memᴰ·append-left, Memᴰ·append-right, List·Memᴰ·append-cases}

@@ -1,6 +1,6 @@
--- A leading piece's page with the whole other list is merged from its pages with that list's
--- pieces, so leading pieces asked in turn, each with all of these, make the whole's page.
--- A piece of the other list passed over would fall here.
+-- Why it holds: A leading piece's page with the whole other list is merged from its pages with that
+-- list's pieces, so leading pieces asked in turn, each with all of these, make the whole's page.
+-- What would break it: A piece of the other list passed over would be caught here.
 use Prim.Native.Nat.{ℕ, _-_}
 use mathlib.Core.Path.{_≡_, refl, sym, ap, subst, _∙_}
 use mathlib.Core.List.{List, [], _∷_, _++_, append-nil}

@@ -1,13 +1,13 @@
--- The nodes of a piece are nodes of the whole and ascend, so the listing of two pieces ascends too
--- and holds pairs of the whole's listing alone, and past a place as well.
--- Pieces that hold another node, or don't ascend, would fall here.
+-- Why it holds: The nodes of a piece are nodes of the whole and ascend, so the listing of two
+-- pieces ascends too and holds pairs of the whole's listing alone, and past a place as well.
+-- What would break it: Pieces that hold another node, or don't ascend, would be caught here.
 use Prim.Native.Nat.{ℕ}
 use mathlib.Core.Path.{_≡_}
 use mathlib.Core.Logic.{_↔_}
 use mathlib.Core.Bool.{Bool, true}
 use mathlib.Core.List.{List}
-use Rattle.laws.specs.Choose.{All, Pairs, In}
-use Rattle.laws.proofs.Choices.{all-in, all-map, all-both, each-in, keep-in, keep-past, keep-pairs, keep-all-of, take-all-of}
+use Rattle.laws.specs.Choose.{All, EveryTwo, In}
+use Rattle.laws.proofs.Choices.{all-in, all-map, all-both, each-in, keep-in, keep-past, keep-every-two, keep-all-of, take-all-of}
 use Rattle.nodes.specs.Words.{nodes}
 use Rattle.paging.specs.Key.{aboveb}
 use Rattle.paging.specs.Page.{Spot, pastb, remains, handed}
@@ -23,7 +23,7 @@ use Rattle.pieces.proofs.Once.{After, whole-ascends, pieces-ascend}
 
 -- a piece ascends, and its nodes are nodes of the whole
 own : (ws : List (List ℕ)) → All WholeNodes ws → DrawsNone (whole ws)
-    → All (λ w. Pairs After (nodes w) × All (λ x. In x (pieceNodes ws)) (nodes w)) ws
+    → All (λ w. EveryTwo After (nodes w) × All (λ x. In x (pieceNodes ws)) (nodes w)) ws
 own ws h d = all-both (λ w a i. (a, i)) ws (pieces-ascend ws h d .0) (all-pieces (λ x. In x (pieceNodes ws)) ws .0 (each-in (pieceNodes ws)))
 
 module _ (ask : Asked) where
@@ -44,8 +44,8 @@ module _ (ask : Asked) where
       pub pairs-ascend : Ascends (sortKey (ask .order)) wholePairs
       pairs-ascend = listing-ascends ask (pieceNodes as′) (pieceNodes ds) (whole-ascends as′ h t) (whole-ascends ds k u)
 
-      part : (a d : List ℕ) → Pairs After (nodes a) × All (λ x. In x (pieceNodes as′)) (nodes a)
-          → Pairs After (nodes d) × All (λ x. In x (pieceNodes ds)) (nodes d) → Part wholePairs a d
+      part : (a d : List ℕ) → EveryTwo After (nodes a) × All (λ x. In x (pieceNodes as′)) (nodes a)
+          → EveryTwo After (nodes d) × All (λ x. In x (pieceNodes ds)) (nodes d) → Part wholePairs a d
       part a d x y = (
         listing-ascends ask (nodes a) (nodes d) (x .0) (y .0),
         each (λ p. In p wholePairs) (pairsOf ask a d) (λ p m.
@@ -80,7 +80,7 @@ module _ (ask : Asked) where
 
     pub left-ascends : (ps : List Pair) → Ascends (sortKey (ask .order)) ps → Ascends (sortKey (ask .order)) (left ps)
     unfolding remains
-    left-ascends ps h = keep-pairs (λ p q. aboveb (sortKey (ask .order) q) (sortKey (ask .order) p) ≡ true) past ps h
+    left-ascends ps h = keep-every-two (λ p q. aboveb (sortKey (ask .order) q) (sortKey (ask .order) p) ≡ true) past ps h
 
     -- a page holds nothing but what is left
     pub page-left : (n : ℕ) (ps : List Pair) → All (λ p. In p (left ps)) (handed (sortKey (ask .order)) place n ps)

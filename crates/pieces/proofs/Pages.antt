@@ -1,6 +1,7 @@
--- A pair of the whole's page has no more pairs before it in its own two pieces' listing than in the
--- whole's, so it stands on their page too.
--- Pages with less room than the whole's, or past another place, would fall here.
+-- Why it holds: A pair of the whole's page has no more pairs before it in its own two pieces'
+-- listing than in the whole's, so it stands on their page too.
+-- What would break it: Pages with less room than the whole's, or past another place, would be
+-- caught here.
 use Prim.Native.Nat.{ℕ}
 use mathlib.Core.Path.{_≡_, refl, _∙_}
 use mathlib.Core.Logic.{_↔_}

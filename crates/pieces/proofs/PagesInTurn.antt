@@ -1,7 +1,8 @@
--- The first n of two listings in a row are the first n of the one, and as many of the other as
--- these leave room for; a leading list that is cut is listed piece by piece, so its pages come in
--- turn.
--- A piece asked for more than the room that is left, or past another place, would fall here.
+-- Why it holds: The first n of two listings in a row are the first n of the one, and as many of the
+-- other as these leave room for; a leading list that is cut is listed piece by piece, so its pages
+-- come in turn.
+-- What would break it: A piece asked for more than the room that is left, or past another place,
+-- would be caught here.
 use Prim.Native.Nat.{ℕ, zero, suc, _-_}
 use mathlib.Core.Path.{_≡_, refl, ap, _∙_}
 use mathlib.Core.List.{List, [], _∷_, _++_, append-nil}

@@ -4,7 +4,7 @@ use mathlib.Core.Path.{_≡_}
 use mathlib.Core.Bool.{true}
 use mathlib.Core.List.{List, [], _∷_}
 use Rattle.answers.specs.Answer.{TAKEN}
-use Rattle.laws.specs.Choose.{All, Pairs}
+use Rattle.laws.specs.Choose.{All, EveryTwo}
 use Rattle.nodes.specs.declared.node.Node.{Node}
 use Rattle.nodes.specs.Node.{afterb}
 use Rattle.nodes.specs.Words.{nodes, nodeAt, count}
@@ -65,4 +65,4 @@ EachNext R (v ∷ w ∷ ws) = R v w × EachNext R (w ∷ ws)
 
 -- the pieces pass: each is taken, and any two are taken together, the later after the earlier
 abbrev pub PiecesPass : List (List ℕ) → Type 0
-PiecesPass ws = All Taken ws × Pairs (λ v w. TakenTogether v w × StandsAfter w v) ws
+PiecesPass ws = All Taken ws × EveryTwo (λ v w. TakenTogether v w × StandsAfter w v) ws

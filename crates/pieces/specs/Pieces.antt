@@ -5,7 +5,7 @@ use mathlib.Core.Logic.{_↔_}
 use mathlib.Core.Bool.{Bool, true}
 use mathlib.Core.List.{List, [], _∷_, _++_}
 use lib.ListN.{length}
-use Rattle.laws.specs.Choose.{Pairs, In}
+use Rattle.laws.specs.Choose.{EveryTwo, In}
 use Rattle.nodes.specs.Words.{NODE-WORDS, nodes}
 use Rattle.paging.specs.Key.{aboveb}
 use Rattle.paging.specs.Page.{Spot, handed, doneb}
@@ -51,7 +51,7 @@ piecePages ask place n as′ ds = eachWithEach (pageFor ask place n) as′ ds
 -- earlier one
 abbrev pub MergedFrom : Asked → List Pair → List Pair → Type 0
 MergedFrom ask merged pairs =
-    Pairs (λ p q. aboveb (sortKey (ask .order) q) (sortKey (ask .order) p) ≡ true) merged × ((p : Pair) → In p merged ↔ In p pairs)
+    EveryTwo (λ p q. aboveb (sortKey (ask .order) q) (sortKey (ask .order) p) ≡ true) merged × ((p : Pair) → In p merged ↔ In p pairs)
 
 -- the page is the last: nothing of the full listing is left past it
 abbrev pub isLast : Asked → Spot → ℕ → List ℕ → List ℕ → Bool

@@ -1,6 +1,8 @@
--- A page counts the pairs that it hands out and leaves the others, so the pairs counted and those that
--- remain are always all of them, and a page that isn't done leaves fewer than there were. A page
--- counted twice, or one that moved nothing though it had room, would fall here.
+-- Why it holds: A page counts the pairs that it hands out and leaves the others, so the pairs
+-- counted and those that remain are always all of them, and a page that isn't done leaves fewer
+-- than there were.
+-- What would break it: A page counted twice, or one that moved nothing though it had room, would be
+-- caught here.
 use mathlib.Core.Path.{_≡_, refl, sym, ap, _∙_}
 use mathlib.Core.Bool.{true, false}
 use mathlib.Core.List.{List}

@@ -1,5 +1,7 @@
--- The contract equates the answer with a definition, and two things that equal a third are equal; so no second answer satisfies it.
--- `Post` is what the function's `ensures` says of its result; what is written on standard output isn't part of it.
+-- Why it holds: The contract equates the answer with a definition, and two things that equal a
+-- third are equal; so no second answer satisfies it. `Post` is what the function's `ensures` says
+-- of its result; what is written on standard output isn't part of it.
+-- What would break it:
 use mathlib.Core.Path.{_≡_}
 use Rattle.laws.proofs.Only.{only}
 use Rattle.printing.proofs.print.print_book.Reads as print-book

@@ -1,6 +1,7 @@
--- A page's output begins with the words of the pairs that it hands out, and a text with room for so
--- many of the longest lines gets the line of each. A page with more pairs than room, or lines of other
--- words than those handed out, would fall here.
+-- Why it holds: A page's output begins with the words of the pairs that it hands out, and a text
+-- with room for so many of the longest lines gets the line of each.
+-- What would break it: A page with more pairs than room, or lines of other words than those handed
+-- out, would be caught here.
 use mathlib.Core.Path.{_≡_, ap, _∙_}
 use mathlib.Core.List.{List}
 use Prim.Native.Nat.{ℕ, _*_, _/_, _≤_}

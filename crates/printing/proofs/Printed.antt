@@ -1,5 +1,7 @@
--- The pages of two lists that nobody alters are their full listing, so the lines of the pages, one page after the other, are those of the listing.
--- A page left out or printed twice, or a number other than that of the pairs, would fall here.
+-- Why it holds: The pages of two lists that nobody alters are their full listing, so the lines of
+-- the pages, one page after the other, are those of the listing.
+-- What would break it: A page left out or printed twice, or a number other than that of the pairs,
+-- would be caught here.
 use mathlib.Core.Path.{_≡_, ap, _∙_}
 use mathlib.Core.Logic.{inl, inr}
 use mathlib.Core.Bool.{true}

@@ -1,4 +1,4 @@
--- Document 01, "The printing program": its checks, in their order, and what it prints.
+-- docs/SCOPE.md, "The printing program": its checks, in their order, and what it prints.
 use Prim.Native.Nat.{ℕ}
 use mathlib.Core.Bool.{cond}
 use mathlib.Core.List.{List, _++_}
@@ -36,7 +36,8 @@ printedAnswer book =
 unfoldable pub listingIn : List ℕ → List Pair
 listingIn book = listing (asked Inside Descendant) (nodes (listAt book 0)) (nodes (listAt book 1))
 
--- what the program prints, whole: a line for each pair and then their number, or a refusal's one line
+-- what the program prints, whole: a line for each pair and then their number, or a refusal's one
+-- line
 unfoldable pub printed : List ℕ → List ℕ
 printed book =
     cond (eqb (printedAnswer book) TAKEN) (wordsIn pairLine (listingIn book) ++ totalLine (length (listingIn book)))

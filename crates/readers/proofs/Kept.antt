@@ -1,5 +1,7 @@
--- Of an accepted book all is kept, and a tag's body is the part whose place and size the search by tag answers; of a refused one nothing is kept.
--- A body of a list that the book hasn't, or of bytes that are no book, would fall here.
+-- Why it holds: Of an accepted book all is kept, and a tag's body is the part whose place and size
+-- the search by tag answers; of a refused one nothing is kept.
+-- What would break it: A body of a list that the book hasn't, or of bytes that are no book, would
+-- be caught here.
 use mathlib.Core.Path.{_≡_, refl, ap, _∙_}
 use mathlib.Core.Logic.{inl, inr}
 use mathlib.Core.List.{List, []}
@@ -44,7 +46,8 @@ module _ (book : List ℕ) (ok : bookVerdict book .answer ≡ TAKEN) where
   unfolding keptLists
   all-lists = ap listsIn kept-whole
 
-  -- the body at a place among the book's own entries is the part that the search by place answers, empty where the book has fewer lists
+  -- the body at a place among the book's own entries is the part that the search by place answers,
+  -- empty where the book has fewer lists
   module _ (position : ℕ) where
     abbrev Answered : Type 0
     Answered = bodyOf book (getD (contentsOf book) position (entry 0 0 0)) ≡ partOf book (foundAt book position .from) (foundAt book position .bytes)

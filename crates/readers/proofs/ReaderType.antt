@@ -1,5 +1,7 @@
--- What the walks over a reader share: its type, its description and its laws, over the one lifetime that a signature names.
--- A reader with another field, or one of another width, would fall here first.
+-- Why it holds: What the walks over a reader share: its type, its description and its laws, over
+-- the one lifetime that a signature names.
+-- What would break it: A reader with another field, or one of another width, would be caught here
+-- first.
 use denote.RattleType.{RattleType}
 use denote.Signature.{namedLft}
 use denote.Struct.Declared.{Declared}

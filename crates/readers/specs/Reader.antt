@@ -1,5 +1,5 @@
--- Document 01, "The field book": an opened book refers to the caller's bytes; a refused one refers
--- to an empty part. Both begin where the caller's bytes begin.
+-- docs/SCOPE.md, "The field book": an opened book refers to the caller's bytes; a refused one
+-- refers to an empty part. Both begin where the caller's bytes begin.
 use Prim.Native.Nat.{ℕ}
 use mathlib.Core.Bool.{cond}
 use mathlib.Core.List.{List, []}

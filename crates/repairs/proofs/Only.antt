@@ -1,6 +1,7 @@
--- The contract equates the part's words and its place with definitions, and two things that equal a
--- third are equal; so no second answer satisfies it. `Post` is what the function's `ensures` says
--- of its result; a contract that left a word or the place open would fall here.
+-- Why it holds: The contract equates the part's words and its place with definitions, and two
+-- things that equal a third are equal; so no second answer satisfies it.
+-- What would break it: `Post` is what the function's `ensures` says of its result; a contract that
+-- left a word or the place open would be caught here.
 use mathlib.Core.Path.{_≡_}
 use denote.Ref.{now, ptr}
 use Rattle.laws.proofs.Only.{only}

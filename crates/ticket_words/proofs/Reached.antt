@@ -1,6 +1,7 @@
--- A place reached lies after the last item that was handed out, and the words take the three
--- numbers of its key; where none was, they stay. Words that stood for another place, or for another
--- relation or order than before, would fall here.
+-- Why it holds: A place reached lies after the last item that was handed out, and the words take
+-- the three numbers of its key; where none was, they stay.
+-- What would break it: Words that stood for another place, or for another relation or order than
+-- before, would be caught here.
 use mathlib.Core.Path.{_≡_, refl}
 use mathlib.Core.List.{List, [], _∷_}
 use Prim.Native.Nat.{suc}

@@ -1,6 +1,7 @@
--- What remains of a listing is what remains of its groups, and a group remains from its first follower
--- past the place on. A group passed over that had a pair past the place, or a follower taken too
--- early, would fall here.
+-- Why it holds: What remains of a listing is what remains of its groups, and a group remains from
+-- its first follower past the place on.
+-- What would break it: A group passed over that had a pair past the place, or a follower taken too
+-- early, would be caught here.
 use Prim.Native.Nat.{ℕ, _≤_, _<_}
 use mathlib.Core.Path.{_≡_, refl, ap, _∙_}
 use mathlib.Core.Bool.{Bool, true, false}
@@ -11,7 +12,7 @@ use lib.Dec.{leb}
 use lib.ListN.{drop}
 use borrow.Author.Tests.{le-leb, leb-true}
 use Rattle.nodes.specs.declared.node.Node.{Node}
-use Rattle.laws.specs.Choose.{All, Pairs, firstAt, keep}
+use Rattle.laws.specs.Choose.{All, EveryTwo, firstAt, keep}
 use Rattle.laws.proofs.Choices.{all-map, all-of, keep-failed, keep-append, keep-none, keep-all, keep-all-of}
 use Rattle.laws.proofs.Tests.{either}
 use Rattle.paging.specs.Page.{pastb, remains}
@@ -78,7 +79,7 @@ rest-served relation order place (x ∷ xs) ys =
     ]
 
 -- the followers' starts rise, so from the first that lies past the place on all do
-pub group-past : (order : Order) (place : Place) (past : ℕ) (x : Node) (zs : List Node) → Past place past x → Pairs (λ y z. y .start < z .start) zs
+pub group-past : (order : Order) (place : Place) (past : ℕ) (x : Node) (zs : List Node) → Past place past x → EveryTwo (λ y z. y .start < z .start) zs
     → remains (sortKey order) (spotOf place) (group order x zs) ≡ group order x (drop (firstAt (λ n. leb past (n .start)) zs) zs)
 unfolding firstAt remains keep group
 group-past order place past x [] p h = refl

@@ -1,5 +1,7 @@
--- Every leader meets every follower once, in the order of both lists, and related nodes are of one document, so what is listed ascends.
--- A pair left out, listed twice or out of its order would fall here, in either order and for either relation.
+-- Why it holds: Every leader meets every follower once, in the order of both lists, and related
+-- nodes are of one document, so what is listed ascends.
+-- What would break it: A pair left out, listed twice or out of its order would be caught here, in
+-- either order and for either relation.
 use Prim.Native.Nat.{ℕ, _*_, _≤_}
 use mathlib.Core.Path.{_≡_, refl, sym, ap, subst, _∙_}
 use mathlib.Core.Bool.{true, false}
@@ -11,10 +13,10 @@ use lib.Dec.{ltb}
 use lib.ListN.{length, length-append, length-map}
 use borrow.Author.Tests.{eq-eqb, lt-ltb}
 use Rattle.nodes.specs.declared.node.Node.{Node}
-use Rattle.laws.specs.Choose.{All, Pairs, In, keep}
+use Rattle.laws.specs.Choose.{All, EveryTwo, In, keep}
 use Rattle.nodes.specs.Node.{insideb, afterb}
 use Rattle.nodes.specs.Words.{MOST-NODES}
-use Rattle.laws.proofs.Choices.{all-in, all-map, each-in, keep-in, keep-past, keep-pairs, keep-all-of, keep-fewer, pairs-map, all-append, pairs-append, pairs-passed}
+use Rattle.laws.proofs.Choices.{all-in, all-map, each-in, keep-in, keep-past, keep-every-two, keep-all-of, keep-fewer, every-two-map, all-append, every-two-append, pairs-passed}
 use Rattle.nodes.proofs.NodeLaws.{within, directly-inside, after-read, after-starts}
 use Rattle.laws.proofs.Tests.{never, and-make, or-left, or-right}
 use Rattle.paging.specs.Key.{aboveb}
@@ -89,7 +91,8 @@ unfolding leaders followers
 sides Descendant as′ ds p = (λ h. (h .1, h .0), λ h. (h .1, h .0))
 sides Ancestor as′ ds p = (λ h. h, λ h. h)
 
--- the listing holds the pairs of an ancestor and a descendant with the relation asked for, and no others
+-- the listing holds the pairs of an ancestor and a descendant with the relation asked for, and no
+-- others
 pub listed-iff : (ask : Asked) (as′ ds : List Node) (p : Pair)
     → In p (listing ask as′ ds) ↔ (In (p .ancestor) as′ × In (p .descendant) ds × (askedb ask p ≡ true))
 unfolding listing
@@ -153,7 +156,7 @@ module _ (relation : Relation) (order : Order) where
       (above-last (x .document) (x .start) (z .start) (y .start)
       (after-starts z y h (group-document relation order x y p ∙ sym (group-document relation order x z q))))
 
-  group-rises : (x : Node) (ys : List Node) → Pairs (λ e n. afterb n e ≡ true) ys → Pairs Rises (map (pairOf order x) ys)
+  group-rises : (x : Node) (ys : List Node) → EveryTwo (λ e n. afterb n e ≡ true) ys → EveryTwo Rises (map (pairOf order x) ys)
   group-rises x [] h = tt
   group-rises x (y ∷ ys) h = (later ys (h .0), group-rises x ys (h .1))
     where
@@ -171,43 +174,44 @@ module _ (relation : Relation) (order : Order) where
   every-of P [] ys h = tt
   every-of P (x ∷ xs) ys h = all-append P (map (pairOf order x) ys) _ (group-of P x (h .0) ys) (every-of P xs ys (h .1))
 
-  every-rises : (xs ys : List Node) → Pairs (λ e n. afterb n e ≡ true) xs → Pairs (λ e n. afterb n e ≡ true) ys
-      → Pairs Rises (everyPair order xs ys)
+  every-rises : (xs ys : List Node) → EveryTwo (λ e n. afterb n e ≡ true) xs → EveryTwo (λ e n. afterb n e ≡ true) ys
+      → EveryTwo Rises (everyPair order xs ys)
   unfolding everyPair
   every-rises [] ys h k = tt
   every-rises (x ∷ xs) ys h k =
-      pairs-append Rises (map (pairOf order x) ys) _ (group-rises x ys k) (every-rises xs ys (h .1) k)
+      every-two-append Rises (map (pairOf order x) ys) _ (group-rises x ys k) (every-rises xs ys (h .1) k)
       (group-of (λ p. All (Rises p) (everyPair order xs ys)) x
       (λ y. every-of (Rises (pairOf order x y)) xs ys (all-map (λ v a w. groups-rise x y v w a) xs (h .0))) ys)
 
-  every-ascends : (xs ys : List Node) → Pairs (λ e n. afterb n e ≡ true) xs → Pairs (λ e n. afterb n e ≡ true) ys
-      → Pairs Above (keep (relatedb relation) (everyPair order xs ys))
+  every-ascends : (xs ys : List Node) → EveryTwo (λ e n. afterb n e ≡ true) xs → EveryTwo (λ e n. afterb n e ≡ true) ys
+      → EveryTwo Above (keep (relatedb relation) (everyPair order xs ys))
   every-ascends xs ys h k =
       let every = everyPair order xs ys in
       pairs-passed (λ p. relatedb relation p ≡ true) Above (keep (relatedb relation) every) (keep-past (relatedb relation) every)
-      (keep-pairs Rises (relatedb relation) every (every-rises xs ys h k))
+      (keep-every-two Rises (relatedb relation) every (every-rises xs ys h k))
 
 -- the listing of two ascending lists ascends strictly
 ascends-in : (relation : Relation) (order : Order) (as′ ds : List Node)
-    → Pairs (λ e n. afterb n e ≡ true) as′ → Pairs (λ e n. afterb n e ≡ true) ds
-    → Pairs (λ p q. aboveb (sortKey order q) (sortKey order p) ≡ true) (listing (asked relation order) as′ ds)
+    → EveryTwo (λ e n. afterb n e ≡ true) as′ → EveryTwo (λ e n. afterb n e ≡ true) ds
+    → EveryTwo (λ p q. aboveb (sortKey order q) (sortKey order p) ≡ true) (listing (asked relation order) as′ ds)
 unfolding listing leaders followers
 ascends-in relation Descendant as′ ds a d = every-ascends relation Descendant ds as′ d a
 ascends-in relation Ancestor as′ ds a d = every-ascends relation Ancestor as′ ds a d
 
 pub listing-ascends : (ask : Asked) (as′ ds : List Node)
-    → Pairs (λ e n. afterb n e ≡ true) as′ → Pairs (λ e n. afterb n e ≡ true) ds
-    → Pairs (λ p q. aboveb (sortKey (ask .order) q) (sortKey (ask .order) p) ≡ true) (listing ask as′ ds)
+    → EveryTwo (λ e n. afterb n e ≡ true) as′ → EveryTwo (λ e n. afterb n e ≡ true) ds
+    → EveryTwo (λ p q. aboveb (sortKey (ask .order) q) (sortKey (ask .order) p) ≡ true) (listing ask as′ ds)
 listing-ascends ask as′ ds a d = ascends-in (ask .relation) (ask .order) as′ ds a d
 
 -- so no pair is listed twice
 pub listed-once : (ask : Asked) (as′ ds : List Node)
-    → Pairs (λ e n. afterb n e ≡ true) as′ → Pairs (λ e n. afterb n e ≡ true) ds → Pairs (λ p q. p ≡ q → ⊥) (listing ask as′ ds)
+    → EveryTwo (λ e n. afterb n e ≡ true) as′ → EveryTwo (λ e n. afterb n e ≡ true) ds → EveryTwo (λ p q. p ≡ q → ⊥) (listing ask as′ ds)
 listed-once ask as′ ds a d =
-    pairs-map (λ p q h e. never h (subst (λ r. aboveb (sortKey (ask .order) r) (sortKey (ask .order) p) ≡ false) e (above-self (sortKey (ask .order) p))))
+    every-two-map (λ p q h e. never h (subst (λ r. aboveb (sortKey (ask .order) r) (sortKey (ask .order) p) ≡ false) e (above-self (sortKey (ask .order) p))))
     (listing ask as′ ds) (listing-ascends ask as′ ds a d)
 
--- of no more leaders and followers than a list may have nodes, no more pairs are made than their product
+-- of no more leaders and followers than a list may have nodes, no more pairs are made than their
+-- product
 few-made : (order : Order) (xs ys : List Node) → length ys ≤ MOST-NODES → length (everyPair order xs ys) ≤ MOST-NODES * length xs
 unfolding everyPair
 few-made order [] ys l = omega arith

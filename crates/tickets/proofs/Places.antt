@@ -1,6 +1,7 @@
--- A pair's key begins with its leader's document and start, so what is known of the leader's two
--- numbers settles all of its pairs. A leader that was passed too early, or a follower that lay past
--- the place before an earlier one, would fall here.
+-- Why it holds: A pair's key begins with its leader's document and start, so what is known of the
+-- leader's two numbers settles all of its pairs.
+-- What would break it: A leader that was passed too early, or a follower that lay past the place
+-- before an earlier one, would be caught here.
 use Prim.Native.Nat.{ℕ, _+_, _≤_, _<_, zero-le}
 use mathlib.Core.Path.{_≡_, refl, sym, _∙_}
 use mathlib.Core.Bool.{Bool, true, false}

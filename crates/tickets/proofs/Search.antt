@@ -1,5 +1,6 @@
--- A search through the nodes of words that has passed k of them has k to add to what the rest says.
--- An element passed over, or a count one off, falls here.
+-- Why it holds: A search through the nodes of words that has passed k of them has k to add to what
+-- the rest says.
+-- What would break it: An element passed over, or a count one off, would be caught here.
 use Prim.Native.Nat.{ℕ, _+_, _≤_, _<_, zero-le}
 use mathlib.Core.Path.{_≡_, refl}
 use mathlib.Core.Bool.{Bool, true, false}
@@ -12,7 +13,8 @@ use Rattle.nodes.specs.Words.{nodes, count, nodeAt}
 use Rattle.nodes.proofs.WordLaws.{nodes-from, nodes-behind}
 use Rattle.laws.proofs.First.{first-hit, first-miss, first-empty}
 
--- a search through the nodes of words has passed k nodes: they are none of those sought, so with k added the rest still gives the answer
+-- a search through the nodes of words has passed k nodes: they are none of those sought, so with k
+-- added the rest still gives the answer
 abbrev pub Searched : (Node → Bool) → List ℕ → ℕ → ℕ → Type 0
 Searched test ws answer k = (k ≤ count ws) × (firstAt test (drop k (nodes ws)) + k ≡ answer)
 

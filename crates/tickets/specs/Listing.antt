@@ -1,4 +1,4 @@
--- Document 01, "Listings and tickets": the full listing, over both orders and both relations.
+-- docs/SCOPE.md, "Listings and tickets": the full listing, over both orders and both relations.
 use Prim.Native.Nat.{ℕ}
 use mathlib.Core.Bool.{Bool}
 use mathlib.Core.List.{List, [], _∷_, _++_, map}
@@ -21,7 +21,8 @@ unfoldable pub relatedb : Relation → Pair → Bool
 relatedb Inside p = insideb (p .descendant) (p .ancestor)
 relatedb Directly p = directlyb (p .descendant) (p .ancestor)
 
--- descendant order sorts by (document, descendant's start, ancestor's start), ancestor order by (document, ancestor's start, descendant's start)
+-- descendant order sorts by (document, descendant's start, ancestor's start), ancestor order by
+-- (document, ancestor's start, descendant's start)
 unfoldable pub keyOf : Order → Pair → Key
 keyOf Descendant p = keyWith (p .descendant .document) (p .descendant .start) (p .ancestor .start)
 keyOf Ancestor p = keyWith (p .ancestor .document) (p .ancestor .start) (p .descendant .start)

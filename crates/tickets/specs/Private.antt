@@ -1,2 +1,3 @@
--- Words of private functions of `pairs`. No public contract and no theorem for the reader cites a file of this folder.
+-- Words of private functions of `pairs`. No public contract and no theorem for the reader cites a
+-- file of this folder.
 pub mod Group

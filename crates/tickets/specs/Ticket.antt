@@ -1,4 +1,5 @@
--- Document 01, "Listings and tickets": a ticket holds the relation, the order and the place reached.
+-- docs/SCOPE.md, "Listings and tickets": a ticket holds the relation, the order and the place
+-- reached.
 use Prim.Native.Nat.{ℕ}
 use mathlib.Core.List.{List, [], _∷_}
 use Rattle.paging.specs.Page.{Spot, fresh, after}

@@ -1,5 +1,7 @@
--- The check of what is to be written asks first for whole entries and nodes, then for the contents and the bodies as reading a book does.
--- LONG, which the contents rule out, or a taken book that named a list would fall here.
+-- Why it holds: The check of what is to be written asks first for whole entries and nodes, then for
+-- the contents and the bodies as reading a book does.
+-- What would break it: LONG, which the contents rule out, or a taken book that named a list would
+-- be caught here.
 use mathlib.Core.Path.{_≡_, ap, sym, _∙_}
 use mathlib.Core.Logic.{inl, inr}
 use mathlib.Core.Bool.{_||_}

@@ -1,5 +1,7 @@
--- A call is refused for what its check finds, then for want of room, and only a call that is taken writes and counts.
--- A refusal with a count, a count or a room other than the book's length, or an output altered by a refusal would fall here.
+-- Why it holds: A call is refused for what its check finds, then for want of room, and only a call
+-- that is taken writes and counts.
+-- What would break it: A refusal with a count, a count or a room other than the book's length, or
+-- an output altered by a refusal would be caught here.
 use mathlib.Core.Path.{_≡_, sym, subst, _∙_}
 use mathlib.Core.List.{List}
 use Prim.Native.Nat.{ℕ, _≤_, _<_}

@@ -1,5 +1,6 @@
--- A number stored where the bytes to come begin is the first of them, so what is still to be stored makes the whole at every turn.
--- A number stored one place off, or a number left out, would fall here.
+-- Why it holds: A number stored where the bytes to come begin is the first of them, so what is
+-- still to be stored makes the whole at every turn.
+-- What would break it: A number stored one place off, or a number left out, would be caught here.
 use mathlib.Core.Path.{_≡_, refl, _∙_}
 use mathlib.Core.List.{List, [], _∷_, _++_, flatMap}
 use Prim.Native.Nat.{ℕ, _+_, _*_, _≤_, _<_}
@@ -17,7 +18,7 @@ use Rattle.writing.specs.declared.wanted.Wanted.{Wanted}
 use Rattle.writing.specs.Wanted.{laidOut, contentsFor}
 use Rattle.writing.proofs.BodyOffsets.{length-contents}
 
--- a number, and the bytes behind it
+-- a number, and the bytes after it
 pub put-on : (bs : List ℕ) (i n next : ℕ) (rest : List ℕ) → i < numberCount bs → next ≡ 4 * i + 4
     → sets (putNumber bs i n) next rest ≡ sets bs (4 * i) (bytesOf n ++ rest)
 unfolding putNumber bytesOf
@@ -46,7 +47,7 @@ put-three bs at e h =
 abbrev pub laidBytes : ℕ → List Wanted → List ℕ
 laidBytes at ws = wordsIn bytesOf (wordsIn entryNumbers (laidOut at ws))
 
--- the entry of a list, and those behind it
+-- the entry of a list, and those after it
 pub laid-on : (bs : List ℕ) (at next end : ℕ) (w : Wanted) (ws : List Wanted) → next ≡ at + 12
     → sets (sets bs at (wordsIn bytesOf (entryNumbers (entry (w .tag) end (w .count))))) next (laidBytes (end + NODE-BYTES * w .count) ws)
     ≡ sets bs at (laidBytes end (w ∷ ws))

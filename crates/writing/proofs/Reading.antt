@@ -1,5 +1,8 @@
--- A book reads as lists and nodes where its first number counts the lists, its contents are laid out for them, and the nodes lie behind; then
--- reading and writing answer the same. A number, an entry or a node that reading and writing took differently would fall here.
+-- Why it holds: A book reads as lists and nodes where its first number counts the lists, its
+-- contents are laid out for them, and the nodes lie after; then reading and writing answer the
+-- same.
+-- What would break it: A number, an entry or a node that reading and writing took differently would
+-- be caught here.
 use mathlib.Core.Path.{_≡_, ap, _∙_}
 use mathlib.Core.Bool.{cond}
 use mathlib.Core.List.{List, map, flatMap}

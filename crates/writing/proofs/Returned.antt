@@ -1,5 +1,7 @@
--- What is written is read back as the very words that it was written from, and what is read as a book is written back to the very bytes that it
--- was read from. A tag, a count, a node or a byte that did not come back would fall here.
+-- Why it holds: What is written is read back as the very words that it was written from, and what
+-- is read as a book is written back to the very bytes that it was read from.
+-- What would break it: A tag, a count, a node or a byte that did not come back would be caught
+-- here.
 use mathlib.Core.Path.{_≡_, ap, sym, subst, _∙_}
 use mathlib.Core.List.{List, map, flatMap}
 use Prim.Native.Nat.{ℕ, _%_, _≤_, _<_}
@@ -114,7 +116,8 @@ module _ (book : List ℕ) (t : bookVerdict book .answer ≡ TAKEN) where
   bytes-back small =
       (λ k. bookBytes (entries-read k) (nodes-read k)) ∙ same-bytes book (wantedIn book) (behind (listsIn book) book) reads-book small
 
--- the call's own words: with room for it, a book is written that is read back as the words that the call was given
+-- the call's own words: with room for it, a book is written that is read back as the words that the
+-- call was given
 pub words-return : (entries list out : List ℕ) → All Small entries → All Small list → checkWanted entries list .answer ≡ TAKEN
     → length (bytesFor entries list) ≤ length out
     → WritesBook entries list out (bytesFor entries list)

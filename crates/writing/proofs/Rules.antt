@@ -1,5 +1,7 @@
--- The contents that a book will have keep the rules where nothing is broken, and then there are few lists, none too long, each behind the last.
--- A count that no rule bounds, or an offset that a number could not hold, would fall here.
+-- Why it holds: The contents that a book will have keep the rules where nothing is broken, and then
+-- there are few lists, none too long, each after the last.
+-- What would break it: A count that no rule bounds, or an offset that a number could not hold,
+-- would be caught here.
 use mathlib.Core.Path.{_≡_}
 use mathlib.Core.Bool.{Bool, true, false, cond, not}
 use mathlib.Core.List.{List, [], _∷_, _++_, flatMap}
@@ -41,7 +43,7 @@ rules lists es size h =
       laid = not-none _ (r .1);
     }
 
--- where there is no fault, nothing is broken: CONTENTS is 15, a number behind 14
+-- where there is no fault, nothing is broken: CONTENTS is 15, a number after 14
 unbroken : (broken : Bool) → cond broken CONTENTS TAKEN ≡ TAKEN → broken ≡ false
 unbroken broken h = skip broken 14 TAKEN .0 h .0
 
@@ -71,7 +73,7 @@ wanted-few entries ns good = omega (arith, length-wanted entries, rules-written 
 abbrev pub Small : ℕ → Type 0
 Small n = n < 4294967296
 
--- the numbers of contents, and those behind them
+-- the numbers of contents, and those after them
 pub small-laid : (at : ℕ) (ws : List Wanted) (rest : List ℕ) → at + 65536 * length ws < 4294967296 → All (λ w. Small (w .tag)) ws
     → All (λ w. w .count ≤ MOST-NODES) ws → All Small rest → All Small (wordsIn entryNumbers (laidOut at ws) ++ rest)
 unfolding wordsIn flatMap entryNumbers laidOut

@@ -1,5 +1,6 @@
--- Two words more are one entry more, so an index of the entries is twice that index of the words.
--- A tag or a count read one word off falls here.
+-- Why it holds: Two words more are one entry more, so an index of the entries is twice that index
+-- of the words.
+-- What would break it: A tag or a count read one word off would be caught here.
 use mathlib.Core.Path.{_≡_, refl, ap, sym, subst, _∙_}
 use mathlib.Core.List.{List, [], _∷_, flatMap}
 use Prim.Native.Nat.{ℕ, zero, suc, _+_, _*_, _/_, _%_, _<_}
@@ -45,7 +46,8 @@ module _ (ws : List ℕ) (i : ℕ) (h : i < length ws / WANTED-WORDS) (w : Wante
   pub wanted-at : (P : Wanted → Type 0) → All P (wanted ws) → P w
   wanted-at P s = subst P (sym q) (all-at P (wanted ws) i (want 0 0) (omega (arith, length-wanted ws)) s)
 
--- entries written as words are read as the same entries, and whole words of entries are written as they were
+-- entries written as words are read as the same entries, and whole words of entries are written as
+-- they were
 pub wanted-of-words : (xs : List Wanted) → wanted (wordsIn wantedWords xs) ≡ xs
 unfolding wanted wordsIn flatMap wantedWords
 wanted-of-words [] = refl

@@ -1,4 +1,5 @@
--- What a book that was read gives for writing it again: its tags and counts as entries, and its nodes one after the other.
+-- What a book that was read gives for writing it again: its tags and counts as entries, and its
+-- nodes one after the other.
 use Prim.Native.Nat.{ℕ}
 use mathlib.Core.List.{List, map, flatMap}
 use Rattle.nodes.specs.declared.node.Node.{Node}

@@ -1,4 +1,5 @@
--- Document 01, "The field book": a book is written from (tag, count) entries and all nodes one after the other.
+-- docs/SCOPE.md, "The field book": a book is written from (tag, count) entries and all nodes one
+-- after the other.
 use Prim.Native.Nat.{ℕ, _+_, _*_, _%_}
 use mathlib.Core.Bool.{Bool, cond, not}
 use mathlib.Core.List.{List, [], _∷_, _++_}
@@ -52,7 +53,8 @@ bodiesFor (w ∷ ws) ns = take (w .count) ns ∷ bodiesFor ws (drop (w .count) n
 unfoldable pub sizeFor : List Wanted → List Node → ℕ
 sizeFor ws ns = contentsEnd (length ws) + NODE-BYTES * length ns
 
--- CONTENTS: the book's contents would break a rule; where the counts don't add up to the nodes, its last body wouldn't end where the book does
+-- CONTENTS: the book's contents would break a rule; where the counts don't add up to the nodes, its
+-- last body wouldn't end where the book does
 unfoldable pub wantedFault : List Wanted → List Node → ℕ
 wantedFault ws ns = cond (brokenb (length ws) (contentsFor ws) (sizeFor ws ns)) CONTENTS TAKEN
 

@@ -1,4 +1,5 @@
--- Document 01, "The field book": what writing answers and writes: RAGGED, CONTENTS, the bodies, ROOM.
+-- docs/SCOPE.md, "The field book": what writing answers and writes: RAGGED, CONTENTS, the bodies,
+-- ROOM.
 use Prim.Native.Nat.{ℕ}
 use mathlib.Core.Bool.{cond, _||_}
 use mathlib.Core.List.{List}

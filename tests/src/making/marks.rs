@@ -4,7 +4,7 @@ use super::misfit;
 use crate::model::marks::{number, CLOSE, ROW_WORDS, TEXT};
 use crate::random::Random;
 
-/// The marks of document 01's figure.
+/// The marks of the scope's figure.
 pub const FIGURE: [u32; 11] = [1, 2, 2, 3, TEXT, CLOSE, CLOSE, 3, CLOSE, CLOSE, CLOSE];
 
 /// Tags of elements, the least and the greatest among them.

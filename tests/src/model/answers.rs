@@ -1,4 +1,4 @@
-//! The answer numbers of document 01, and what an answer carries.
+//! The answer numbers of docs/SCOPE.md, and what an answer carries.
 
 /// The answers in the order of their numbers.
 #[derive(Clone, Copy, Debug, PartialEq, Eq)]

@@ -1,5 +1,7 @@
--- The loop goes through the arguments and ends with them.
--- An argument run twice would fall at the measure.
+-- Function: `main` (src/main.rt).
+-- Why it holds: The loop goes through the arguments and ends with them.
+-- Measure: `count - index`.
+-- What would break it: An argument run twice would be caught at the measure.
 use Prim.Native.Nat.{_-_}
 use borrow.Author.Needs.{needs}
 use Rattle.figures_books.proofs.main.Statement.{statement}

@@ -1,5 +1,7 @@
--- The loop goes through the places of the lists and ends behind the last.
--- A place that was not moved on would fall at the measure.
+-- Function: `say_lists` (src/main.rt).
+-- Why it holds: The loop goes through the places of the lists and ends after the last.
+-- Measure: `lists - position`.
+-- What would break it: A place that was not moved on would be caught at the measure.
 use Prim.Native.Nat.{_-_}
 use borrow.Author.Needs.{needs}
 use Rattle.figures_books.proofs.say_lists.Statement.{statement}

@@ -1,5 +1,8 @@
--- The loop puts as many nodes as it counted, and a node put keeps the number of words.
--- With an index that stays as it is, the loop would not end.
+-- Function: `put_texts` (src/main.rt).
+-- Why it holds: The loop puts as many nodes as it counted, and a node put keeps the number of
+-- words. With an index that stays as it is, the loop would not end.
+-- Measure: `count - index`.
+-- What would break it:
 use Prim.Native.Nat.{_-_}
 use mathlib.Core.Path.{_≡_}
 use lib.ListN.{length}

@@ -28,7 +28,8 @@ Whole words = (length words % NODE-WORDS ≡ 0) × (count words ≤ MOST-NODES)
 abbrev pub Cut : ℕ → List ℕ → Type 0
 Cut i words = (i ≤ length words) × ((length words - i) % NODE-WORDS ≡ 0)
 
--- n is the next node of the merge of xs from word i on and ys from word j on; the merge goes on at the words first and second
+-- n is the next node of the merge of xs from word i on and ys from word j on; the merge goes on at
+-- the words first and second
 pub record Drawn (xs ys : List ℕ) (i j : ℕ) (n : Node) (first second : ℕ) : Type 0 where
   pub next : merge (nodes (drop i xs)) (nodes (drop j ys)) ≡ n ∷ merge (nodes (drop first xs)) (nodes (drop second ys))
   pub on : i + j + NODE-WORDS ≤ first + second

@@ -1,4 +1,5 @@
--- Words of the contracts of private functions: what a walk along a list keeps. No public contract cites this file.
+-- Words of the contracts of private functions: what a walk along a list keeps. No public contract
+-- cites this file.
 use Prim.Native.Nat.{ℕ, zero, suc, _+_, _*_, _/_, _%_, _≤_, _<_}
 use mathlib.Core.Path.{_≡_}
 use mathlib.Core.Bool.{Bool, true, cond, not}
@@ -51,7 +52,8 @@ abbrev pub Chain : List Node → Type 0
 Chain [] = Unit {0}
 Chain (e ∷ es) = (1 ≤ e .level) × Upon e es × Chain es
 
--- a chain s stands for the nodes before at every node that P lets come next: a test that only open nodes pass keeps the same of both
+-- a chain s stands for the nodes before at every node that P lets come next: a test that only open
+-- nodes pass keeps the same of both
 pub record Stands (P : Node → Type 0) (before s : List Node) : Type 0 where
   pub chain : Chain s
   pub keeps : (n : Node) → P n → (test : Node → Bool) → ((e : Node) → test e ≡ true → openb n e ≡ true) → keep test before ≡ keep test s
@@ -79,7 +81,8 @@ headFault (e ∷ es) n = cond (not (insideb n e)) CROSS (cond (not (ltb (e .leve
 unfoldable pub topFault : List Node → Node → ℕ
 topFault opened n = cond (levelb n) LEVEL (cond (spanb n) SPAN (cond (orderb opened n) ORDER (headFault (unended n opened) n)))
 
--- a step past n, at an index: where nothing is wrong it lies at the head of those left, else it is refused for what is wrong
+-- a step past n, at an index: where nothing is wrong it lies at the head of those left, else it is
+-- refused for what is wrong
 abbrev pub Passed : ℕ → List Node → Node → ℕ → Step → List ℕ → Type 0
 Passed wrong left n index (Reached reached) words =
     (wrong ≡ TAKEN) × (reached .index ≡ index + 1) × Fits (reached .used) × (opened (reached .used) words ≡ n ∷ left)

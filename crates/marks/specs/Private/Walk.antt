@@ -1,5 +1,5 @@
--- Words of the contracts of private functions: how the marks are walked, forwards to check them, and backwards, where each close is met before
--- its opening. No public contract cites this file.
+-- Words of the contracts of private functions: how the marks are walked, forwards to check them,
+-- and backwards, where each close is met before its opening. No public contract cites this file.
 use Prim.Native.Nat.{ℕ, zero, suc, _+_, _-_, _*_, _<_}
 use mathlib.Core.Path.{_≡_}
 use mathlib.Core.Bool.{Bool, true, false, cond, not, _&&_, _||_}
@@ -59,7 +59,8 @@ beforeMark p mark = markPlace (openBefore (p .depth) mark) (cond (closeb mark) (
 unfoldable pub closesBefore : List ℕ → ℕ → ℕ → ℕ → List ℕ
 closesBefore closes position depth mark = cond (closeb mark) (set closes depth position) closes
 
--- what is kept are the closes of the elements that are open at a position, before the marks that follow
+-- what is kept are the closes of the elements that are open at a position, before the marks that
+-- follow
 abbrev pub Kept : List ℕ → ℕ → ℕ → List ℕ → Type 0
 Kept closes position depth marks = (inner : ℕ) → inner < depth → getD closes (depth - 1 - inner) 0 ≡ closeAt inner position marks
 
@@ -73,7 +74,8 @@ unfoldable pub outputBefore : ℕ → ℕ → List ℕ → MarkPlace → ℕ →
 outputBefore document position closes p mark out =
     cond (closeb mark) out (sets out (ROW-WORDS * (p .rows - 1)) (rowWords (rowHere document position closes (p .depth) mark)))
 
--- the mark at a position, as the last of the rows left tells: its tag where it starts there, else a close
+-- the mark at a position, as the last of the rows left tells: its tag where it starts there, else a
+-- close
 unfoldable pub markHere : List Row → ℕ → ℕ → ℕ
 markHere rs count position =
     cond (ltb 0 count && eqb (rowIn rs (count - 1) .node .start) position) (rowIn rs (count - 1) .tag) CLOSE
@@ -85,7 +87,8 @@ fitsb rs document position closes p mark =
     ((textb mark || ltb 0 (p .depth)) && (eqb (markFault position (openBefore (p .depth) mark) mark) TAKEN
     && sameRowb (rowHere document position closes (p .depth) mark) (rowIn rs (p .rows - 1))))
 
--- what a step back from a position says, with the closes kept on return: the mark there fits and the place before it is reached, or it doesn't fit
+-- what a step back from a position says, with the closes kept on return: the mark there fits and
+-- the place before it is reached, or it doesn't fit
 abbrev pub SteppedBack : List Row → ℕ → ℕ → List ℕ → MarkPlace → Step → List ℕ → Type 0
 SteppedBack rs document position closes p (Reached q) kept =
     let mark = markHere rs (p .rows) position in

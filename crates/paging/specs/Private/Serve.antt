@@ -1,5 +1,6 @@
--- Items are handed out one by one into an output, after those that it holds already, until one does not fit: what one step of a page writes.
--- A page call's own contract speaks of its page (`Page`, and `answers: Output`); that serving what remains shows that page is proved in `Serving`.
+-- Items are handed out one by one into an output, after those that it holds already, until one does
+-- not fit: what one step of a page writes. A page call's own contract speaks of its page (`Page`,
+-- and `answers: Output`); that serving what remains shows that page is proved in `Serving`.
 use Prim.Native.Nat.{ℕ, _+_, _*_, _/_}
 use mathlib.Core.Bool.{Bool, true, false, cond}
 use mathlib.Core.List.{List, [], _∷_}

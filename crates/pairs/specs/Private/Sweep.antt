@@ -58,8 +58,8 @@ servedAll ask place out ancestors descendants =
 abbrev pub From : Node → Node → Type 0
 From d n = (n ≡ d) ⊎ (afterb n d ≡ true)
 
--- a chain of ancestors, the innermost first, stands for all the ancestors before at every node from d
--- on
+-- a chain of ancestors, the innermost first, stands for all the ancestors before at every node from
+-- d on
 pub record Open (d : Node) (before s : List Node) : Type 0 where
   pub stands : Stands (From d) before s
   pub among : All (λ e. In e before) s

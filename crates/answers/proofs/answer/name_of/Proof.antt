@@ -1,5 +1,8 @@
--- The table's seventeen rows are those of `names`, which antt computes, and a number above the last has the name of blanks.
--- A wrong letter, a name out of its place or a limit one off falls at its return.
+-- Function: `name_of` (src/answer.rt).
+-- Why it holds: The table's seventeen rows are those of `names`, which antt computes, and a number
+-- above the last has the name of blanks.
+-- What would break it: A wrong letter, a name out of its place or a limit one off would be caught
+-- at its return.
 use native.Mathlib.Omega.{arith}
 use lib.ListN.{List·getD-eq-default}
 use mathlib.Core.Path.{_≡_, sym}

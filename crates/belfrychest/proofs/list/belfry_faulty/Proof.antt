@@ -1,6 +1,8 @@
--- The part has as many words as `faulty_part` gives, and begins at the node that the verdict names,
--- or at 0 where it is empty. A part of another length, or one that begins at another node, falls at
--- its return.
+-- Function: `belfry_faulty` (src/list.rt).
+-- Why it holds: The part has as many words as `faulty_part` gives, and begins at the node that the
+-- verdict names, or at 0 where it is empty.
+-- What would break it: A part of another length, or one that begins at another node, would be
+-- caught at its return.
 use borrow.Author.Needs.{needs}
 use mathlib.Core.Path.{_≡_, sym, ap, _∙_}
 use mathlib.Core.Bool.{cond}

@@ -1,5 +1,8 @@
--- The page is that of `next_page` for the ticket that the words stand for, and it wrote into the
--- very output. A page for another ticket, or with the lists swapped, falls at the return.
+-- Function: `belfry_list` (src/page.rt).
+-- Why it holds: The page is that of `next_page` for the ticket that the words stand for, and it
+-- wrote into the very output.
+-- What would break it: A page for another ticket, or with the lists swapped, would be caught at the
+-- return.
 use borrow.Author.Needs.{needs}
 use mathlib.Core.Path.{_≡_, ap, _∙_}
 use mathlib.Core.List.{List}

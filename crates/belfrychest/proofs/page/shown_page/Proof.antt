@@ -1,5 +1,8 @@
--- Done and the words are each what the function of that name makes of the page; the verdict and the
--- count are the page's own. A page that said done too early, or other words, falls at the return.
+-- Function: `shown_page` (src/page.rt).
+-- Why it holds: Done and the words are each what the function of that name makes of the page; the
+-- verdict and the count are the page's own.
+-- What would break it: A page that said done too early, or other words, would be caught at the
+-- return.
 use borrow.Author.Needs.{needs}
 use mathlib.Core.Path.{_≡_}
 use mathlib.Core.Bool.{cond}

@@ -1,5 +1,8 @@
--- The verdict is the book's own, and the number of lists is that of the contents where it is taken.
--- Lists of a book that is refused fall at the first return, any other number of them at the last.
+-- Function: `check_book` (src/book.rt).
+-- Why it holds: The verdict is the book's own, and the number of lists is that of the contents
+-- where it is taken.
+-- What would break it: Lists of a book that is refused would be caught at the first return, any
+-- other number of them at the last.
 use borrow.Author.Needs.{needs}
 use mathlib.Core.Path.{_≡_, ap}
 use mathlib.Core.List.{List}

@@ -1,5 +1,8 @@
--- Where the contents break a rule the answer is CONTENTS and names no node; where they keep all, only the bodies are left.
--- Bodies checked before the contents, or a fault passed over, falls at its return.
+-- Function: `verdict_on` (src/book.rt).
+-- Why it holds: Where the contents break a rule the answer is CONTENTS and names no node; where
+-- they keep all, only the bodies are left.
+-- What would break it: Bodies checked before the contents, or a fault passed over, would be caught
+-- at its return.
 use borrow.Author.Needs.{needs}
 use mathlib.Core.Path.{_≡_, sym, _∙_}
 use mathlib.Core.List.{List, map}

@@ -1,5 +1,8 @@
--- Of a book that is taken the tag is sought among all its entries; one that is refused has no list at any place, so it doesn't matter where.
--- A tag sought among too few entries, or beyond the contents, falls at the return.
+-- Function: `find_tag` (src/find.rt).
+-- Why it holds: Of a book that is taken the tag is sought among all its entries; one that is
+-- refused has no list at any place, so it doesn't matter where.
+-- What would break it: A tag sought among too few entries, or beyond the contents, would be caught
+-- at the return.
 use borrow.Author.Needs.{needs}
 use mathlib.Core.Path.{_≡_, sym, ap, _∙_}
 use mathlib.Core.Logic.{inl, inr}

@@ -1,5 +1,8 @@
--- A tag's place is below the number of entries where one of them has it, and is that number where
--- none has. A tag said to be there that no list has, or the other way round, falls at its return.
+-- Function: `has_tag` (src/find.rt).
+-- Why it holds: A tag's place is below the number of entries where one of them has it, and is that
+-- number where none has.
+-- What would break it: A tag said to be there that no list has, or the other way round, would be
+-- caught at its return.
 use borrow.Author.Needs.{needs}
 use mathlib.Core.Path.{_≡_, sym, ap, _∙_}
 use mathlib.Core.Logic.{inl, inr}

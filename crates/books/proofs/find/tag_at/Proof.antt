@@ -1,5 +1,9 @@
--- The entries before the index have other tags, so what is left to look for is the whole; the loop ends where the lists or the entries end.
--- A place one off falls at the first return, a list passed over at the next turn.
+-- Function: `tag_at` (src/find.rt).
+-- Why it holds: The entries before the index have other tags, so what is left to look for is the
+-- whole; the loop ends where the lists or the entries end.
+-- Measure: `lists - index`.
+-- What would break it: A place one off would be caught at the first return, a list passed over at
+-- the next turn.
 use borrow.Author.Needs.{needs}
 use mathlib.Core.Path.{_≡_}
 use mathlib.Core.Logic.{_⊎_, inl, inr}

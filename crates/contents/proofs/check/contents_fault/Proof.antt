@@ -1,6 +1,8 @@
--- Too many lists and a book too short for its contents break a rule; of any other book the rules
--- are those of the walk along its entries, whose last step answers for all of them. A limit one
--- off, or another answer than that step's, falls at its return.
+-- Function: `contents_fault` (src/check.rt).
+-- Why it holds: Too many lists and a book too short for its contents break a rule; of any other
+-- book the rules are those of the walk along its entries, whose last step answers for all of them.
+-- What would break it: A limit one off, or another answer than that step's, would be caught at its
+-- return.
 use borrow.Author.Needs.{needs}
 use mathlib.Core.Path.{_≡_, sym, ap, _∙_}
 use mathlib.Core.List.{List}

@@ -1,5 +1,9 @@
--- What is left from the place reached on is the whole, and each turn passes the entry that comes next.
--- An entry passed over, or a place that doesn't move on, falls at the next turn, a walk that ends too early at its return.
+-- Function: `pass_contents` (src/check.rt).
+-- Why it holds: What is left from the place reached on is the whole, and each turn passes the entry
+-- that comes next.
+-- Measure: `lists - index`.
+-- What would break it: An entry passed over, or a place that doesn't move on, would be caught at
+-- the next turn, a walk that ends too early at its return.
 use borrow.Author.Needs.{needs}
 use mathlib.Core.Path.{_≡_, refl}
 use mathlib.Core.List.{List, _∷_}

@@ -1,5 +1,7 @@
--- The bytes of the first number and of three numbers for each list are the definition's own, and no list's number makes them too many.
--- A place one number off falls at the return.
+-- Function: `contents_end` (src/entry.rt).
+-- Why it holds: The bytes of the first number and of three numbers for each list are the
+-- definition's own, and no list's number makes them too many.
+-- What would break it: A place one number off would be caught at the return.
 use borrow.Author.Needs.{needs}
 use mathlib.Core.Path.{_≡_, refl}
 use Prim.Native.Nat.{ℕ, _+_, _*_}

@@ -1,5 +1,7 @@
--- Below the number of entries the three numbers behind the first one and three for each entry before are the entry's, and from there on the
--- definition has zeros. A number one off, or two exchanged, falls at the last return.
+-- Function: `entry_at` (src/entry.rt).
+-- Why it holds: Below the number of entries the three numbers after the first one and three for
+-- each entry before are the entry's, and from there on the definition has zeros.
+-- What would break it: A number one off, or two exchanged, would be caught at the last return.
 use borrow.Author.Needs.{needs}
 use mathlib.Core.Path.{_≡_, sym, _∙_}
 use mathlib.Core.List.{List}

@@ -1,6 +1,8 @@
--- Each case of the step is a case of `stepAnswer`, and of a place reached the test of the sizes is
--- the definition's own. Bytes after the last body let through, or a refusal of another number than
--- the step's, falls at its return.
+-- Function: `step_answer` (src/step.rt).
+-- Why it holds: Each case of the step is a case of `stepAnswer`, and of a place reached the test of
+-- the sizes is the definition's own.
+-- What would break it: Bytes after the last body let through, or a refusal of another number than
+-- the step's, would be caught at its return.
 use borrow.Author.Needs.{needs}
 use mathlib.Core.Path.{_≡_, sym, ap, _∙_}
 use mathlib.Core.Bool.{cond}

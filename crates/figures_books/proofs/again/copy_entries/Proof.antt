@@ -1,5 +1,7 @@
--- Each turn writes the two words of an entry, for which there is room.
--- A word written behind the last would fall at the index.
+-- Function: `copy_entries` (src/again.rt).
+-- Why it holds: Each turn writes the two words of an entry, for which there is room.
+-- Measure: `count - index`.
+-- What would break it: A word written after the last would be caught at the index.
 use mathlib.Core.Path.{_≡_}
 use Prim.Native.Nat.{_-_}
 use native.Mathlib.Omega.{arith}

@@ -1,5 +1,7 @@
--- The loop reads within the bytes and ends with them.
--- A byte read behind the last would fall at the index.
+-- Function: `is_painted` (src/again.rt).
+-- Why it holds: The loop reads within the bytes and ends with them.
+-- Measure: `length bytes - index`.
+-- What would break it: A byte read after the last would be caught at the index.
 use Prim.Native.Nat.{_-_}
 use lib.ListN.{length}
 use borrow.Author.Needs.{needs}

@@ -1,5 +1,7 @@
--- The third word at four times the index is the node's end.
--- A word one off falls at the return, an index too large at the read.
+-- Function: `end_at` (src/climb.rt).
+-- Why it holds: The third word at four times the index is the node's end.
+-- What would break it: A word one off would be caught at the return, an index too large at the
+-- read.
 use borrow.Author.Needs.{needs}
 use mathlib.Core.Path.{sym, ap}
 use native.Mathlib.Omega.{arith}

@@ -1,5 +1,9 @@
--- The invariant says that the output begins with the links as far as the nodes passed tell them; each turn adds one node.
--- A node passed over, or a turn that touches words beyond the links, falls at the next turn.
+-- Function: `link_all` (src/forest.rt).
+-- Why it holds: The invariant says that the output begins with the links as far as the nodes passed
+-- tell them; each turn adds one node.
+-- Measure: `count list - index`.
+-- What would break it: A node passed over, or a turn that touches words beyond the links, would be
+-- caught at the next turn.
 use borrow.Author.Needs.{needs}
 use mathlib.Core.Path.{_≡_, refl, ap, _∙_}
 use Prim.Native.Nat.{_-_, _≤_, zero-le}

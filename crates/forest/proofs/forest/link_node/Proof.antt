@@ -1,5 +1,8 @@
--- Each return is one way in which a node joins the links: alone, as a first child or as a next one.
--- Another parent than the one found, or a link stored with the wrong node, falls at its return.
+-- Function: `link_node` (src/forest.rt).
+-- Why it holds: Each return is one way in which a node joins the links: alone, as a first child or
+-- as a next one.
+-- What would break it: Another parent than the one found, or a link stored with the wrong node,
+-- would be caught at its return.
 use borrow.Author.Needs.{needs}
 use Prim.Native.Nat.{ℕ, suc, _+_, _*_, _-_, _/_, _≤_, _<_}
 use mathlib.Core.Path.{_≡_, sym, ap, _∙_}

@@ -1,6 +1,8 @@
--- Each return answers by the first check that refuses, with the words as they were; after all of
--- them both lists are copied whole. A check left out, or a list copied into the other one's words,
--- falls at its return.
+-- Function: `copy_lists` (src/copy.rt).
+-- Why it holds: Each return answers by the first check that refuses, with the words as they were;
+-- after all of them both lists are copied whole.
+-- What would break it: A check left out, or a list copied into the other one's words, would be
+-- caught at its return.
 use borrow.Author.Needs.{needs}
 use mathlib.Core.Path.{sym, _∙_}
 use native.Mathlib.Omega.{arith}

@@ -1,5 +1,7 @@
--- The verdict without a node is that of the number.
--- Another number, or words where there are none, falls at the return.
+-- Function: `refused_by` (src/copy.rt).
+-- Why it holds: The verdict without a node is that of the number.
+-- What would break it: Another number, or words where there are none, would be caught at the
+-- return.
 use borrow.Author.Needs.{needs}
 use mathlib.Core.Path.{ap}
 use Rattle.answers.specs.declared.verdict.Verdict.{Verdict}

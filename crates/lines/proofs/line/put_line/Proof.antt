@@ -1,5 +1,7 @@
--- The three fields are put one behind the other, and of eleven bytes each they have room.
--- A field of another number, or one left out, falls at the return.
+-- Function: `put_line` (src/line.rt).
+-- Why it holds: The three fields are put one after the other, and of eleven bytes each they have
+-- room.
+-- What would break it: A field of another number, or one left out, would be caught at the return.
 use borrow.Author.Needs.{needs}
 use mathlib.Core.Path.{_≡_}
 use mathlib.Core.List.{List, [], _∷_, _++_}

@@ -1,5 +1,9 @@
--- The text begins with the lines of the pairs passed, none longer than its room, and each turn puts the next one right behind them.
--- A line of other nodes falls at the next turn, a loop that ends too early at its return.
+-- Function: `put_lines` (src/line.rt).
+-- Why it holds: The text begins with the lines of the pairs passed, none longer than its room, and
+-- each turn puts the next one right after them.
+-- Measure: `count pairs / 2 - index`.
+-- What would break it: A line of other nodes would be caught at the next turn, a loop that ends too
+-- early at its return.
 use borrow.Author.Needs.{needs}
 use mathlib.Core.Path.{_≡_, refl, sym, ap, subst, _∙_}
 use mathlib.Core.List.{List, []}

@@ -1,5 +1,7 @@
--- The word and its blank are eight bytes, the number's field at most eleven and the name at most eight, so the line has room.
--- Another number, or a name with its blanks, falls at the return.
+-- Function: `put_refusal` (src/line.rt).
+-- Why it holds: The word and its blank are eight bytes, the number's field at most eleven and the
+-- name at most eight, so the line has room.
+-- What would break it: Another number, or a name with its blanks, would be caught at the return.
 use borrow.Author.Needs.{needs}
 use mathlib.Core.Path.{_≡_, refl, subst}
 use mathlib.Core.List.{List, [], _∷_, _++_}

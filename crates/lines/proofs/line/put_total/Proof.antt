@@ -1,5 +1,8 @@
--- The word and its blank are six bytes, and the number's field behind them has at most twenty-one, so the line has room.
--- Another word, or a line without its line feed, falls at the return.
+-- Function: `put_total` (src/line.rt).
+-- Why it holds: The word and its blank are six bytes, and the number's field after them has at most
+-- twenty-one, so the line has room.
+-- What would break it: Another word, or a line without its line feed, would be caught at the
+-- return.
 use borrow.Author.Needs.{needs}
 use mathlib.Core.Path.{_≡_, refl}
 use mathlib.Core.List.{List, [], _∷_, _++_}

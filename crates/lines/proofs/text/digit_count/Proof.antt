@@ -1,5 +1,8 @@
--- The digits counted and those of what is left are together as many as the number's, and a
--- hundredth has two digits fewer. A digit counted twice falls at the next turn, one not counted at
+-- Function: `digit_count` (src/text.rt).
+-- Why it holds: The digits counted and those of what is left are together as many as the number's,
+-- and a hundredth has two digits fewer.
+-- Measure: `rest`.
+-- What would break it: A digit counted twice would be caught at the next turn, one not counted at
 -- the return.
 use borrow.Author.Needs.{needs}
 use mathlib.Core.Path.{_≡_}

@@ -1,6 +1,9 @@
--- The digits of what is left, put before those that were put, make the whole number, and each turn
--- puts the last two of those that are left. Two digits put one place off, or those of another
--- number, fall at the next turn; a digit left out falls at the return.
+-- Function: `put_decimal` (src/text.rt).
+-- Why it holds: The digits of what is left, put before those that were put, make the whole number,
+-- and each turn puts the last two of those that are left.
+-- Measure: `rest`.
+-- What would break it: Two digits put one place off, or those of another number, would be caught at
+-- the next turn; a digit left out would be caught at the return.
 use borrow.Author.Needs.{needs}
 use mathlib.Core.Path.{_≡_, refl, sym, ap, _∙_}
 use mathlib.Core.List.{List, [], _∷_}

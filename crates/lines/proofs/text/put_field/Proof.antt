@@ -1,5 +1,6 @@
--- The byte is put right after the number's digits.
--- A byte put one place off falls at the return.
+-- Function: `put_field` (src/text.rt).
+-- Why it holds: The byte is put right after the number's digits.
+-- What would break it: A byte put one place off would be caught at the return.
 use borrow.Author.Needs.{needs}
 use mathlib.Core.List.{[], _∷_}
 use denote.Ref.{now}

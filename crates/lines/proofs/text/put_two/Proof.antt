@@ -1,5 +1,8 @@
--- The table has both digits at the number's place, and they are stored one after the other.
--- A digit of another number, or one stored in the other's place, falls at the return.
+-- Function: `put_two` (src/text.rt).
+-- Why it holds: The table has both digits at the number's place, and they are stored one after the
+-- other.
+-- What would break it: A digit of another number, or one stored in the other's place, would be
+-- caught at the return.
 use borrow.Author.Needs.{needs}
 use mathlib.Core.Path.{_≡_, refl}
 use mathlib.Core.List.{List}

@@ -1,5 +1,8 @@
--- The buffer shows the letters passed without their blanks, and a letter that is no blank is put right behind them.
--- A blank put, or a letter put one place off, falls at the loop.
+-- Function: `put_unfilled` (src/text.rt).
+-- Why it holds: The buffer shows the letters passed without their blanks, and a letter that is no
+-- blank is put right after them.
+-- Measure: `length letters - index`.
+-- What would break it: A blank put, or a letter put one place off, would be caught at the loop.
 use borrow.Author.Needs.{needs}
 use mathlib.Core.Path.{_≡_, refl, sym, ap, subst, _∙_}
 use mathlib.Core.Logic.{⊎-elim}

@@ -1,5 +1,8 @@
--- Bytes that make no whole nodes or too many are answered at once; else the walk along the nodes gives the answer for their words.
--- A limit one off, LONG before RAGGED, or a refusal given as TAKEN falls at its return.
+-- Function: `check_bytes` (src/bytes.rt).
+-- Why it holds: Bytes that make no whole nodes or too many are answered at once; else the walk
+-- along the nodes gives the answer for their words.
+-- What would break it: A limit one off, LONG before RAGGED, or a refusal given as TAKEN would be
+-- caught at its return.
 use borrow.Author.Needs.{needs}
 use mathlib.Core.Path.{sym, _∙_}
 use native.Mathlib.Omega.{arith}

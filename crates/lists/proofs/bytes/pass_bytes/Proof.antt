@@ -1,5 +1,9 @@
--- The invariant is the walk along the nodes from the index on; each turn reads the next one where it lies and passes it.
--- A node read twice or passed over falls at the next turn, one left over at the last return.
+-- Function: `pass_bytes` (src/bytes.rt).
+-- Why it holds: The invariant is the walk along the nodes from the index on; each turn reads the
+-- next one where it lies and passes it.
+-- Measure: `length bytes / NODE-BYTES - index`.
+-- What would break it: A node read twice or passed over would be caught at the next turn, one left
+-- over at the last return.
 use borrow.Author.Needs.{needs}
 use mathlib.Core.Path.{_≡_, refl}
 use mathlib.Core.List.{List, _∷_}

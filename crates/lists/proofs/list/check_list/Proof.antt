@@ -1,5 +1,8 @@
--- Words at fault are answered at once; whole words are walked, and a list merged with an empty one is that list.
--- A fault of the words passed over, or a refusal given as TAKEN, falls at its return.
+-- Function: `check_list` (src/list.rt).
+-- Why it holds: Words at fault are answered at once; whole words are walked, and a list merged with
+-- an empty one is that list.
+-- What would break it: A fault of the words passed over, or a refusal given as TAKEN, would be
+-- caught at its return.
 use borrow.Author.Needs.{needs}
 use mathlib.Core.Path.{_≡_, refl, sym, ap, _∙_}
 use mathlib.Core.List.{List, []}

@@ -1,5 +1,8 @@
--- Where one list is at its end the next node is the other's head, and else the documents tell, or the nodes of one document.
--- A head left out, taken twice or taken from the wrong list falls at its return.
+-- Function: `next_of` (src/merge.rt).
+-- Why it holds: Where one list is at its end the next node is the other's head, and else the
+-- documents tell, or the nodes of one document.
+-- What would break it: A head left out, taken twice or taken from the wrong list would be caught at
+-- its return.
 use borrow.Author.Needs.{needs}
 use mathlib.Core.Path.{ap}
 use native.Mathlib.Omega.{arith}

@@ -1,5 +1,7 @@
--- Each return takes the head that the merge takes.
--- A head left out, taken twice or taken from the wrong list falls at its return.
+-- Function: `next_within` (src/merge.rt).
+-- Why it holds: Each return takes the head that the merge takes.
+-- What would break it: A head left out, taken twice or taken from the wrong list would be caught at
+-- its return.
 use borrow.Author.Needs.{needs}
 use mathlib.Core.Path.{_≡_, sym, ap, ap₂, _∙_}
 use native.Mathlib.Omega.{arith}

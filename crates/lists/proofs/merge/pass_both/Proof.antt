@@ -1,5 +1,9 @@
--- The invariant is the walk along what is left of the merge; each turn draws its next node and passes it.
--- A node drawn and not passed, or a list that goes on at the wrong place, falls at the next turn.
+-- Function: `pass_both` (src/merge.rt).
+-- Why it holds: The invariant is the walk along what is left of the merge; each turn draws its next
+-- node and passes it.
+-- Measure: `length xs + length ys - (i + j)`.
+-- What would break it: A node drawn and not passed, or a list that goes on at the wrong place,
+-- would be caught at the next turn.
 use borrow.Author.Needs.{needs}
 use mathlib.Core.Path.{refl}
 use Prim.Native.Nat.{_+_, _*_, _-_, _≤_, zero-le}

@@ -1,5 +1,7 @@
--- Where the lists agree the answer is TAKEN; else the first list's own refusal, then the second's, and where both are taken only JOINT is left.
--- A list checked out of turn, or named wrongly, falls at its return.
+-- Function: `check_two` (src/two.rt).
+-- Why it holds: Where the lists agree the answer is TAKEN; else the first list's own refusal, then
+-- the second's, and where both are taken only JOINT is left.
+-- What would break it: A list checked out of turn, or named wrongly, would be caught at its return.
 use borrow.Author.Needs.{needs}
 use mathlib.Core.Path.{_≡_, sym, ap, _∙_}
 use mathlib.Core.Bool.{true, false, not}

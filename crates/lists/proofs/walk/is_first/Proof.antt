@@ -1,5 +1,7 @@
--- The last node passed is the head of the chain, which lies on top of the stack.
--- A node compared with another, or the wrong way round, falls at the second return.
+-- Function: `is_first` (src/walk.rt).
+-- Why it holds: The last node passed is the head of the chain, which lies on top of the stack.
+-- What would break it: A node compared with another, or the wrong way round, would be caught at the
+-- second return.
 use borrow.Author.Needs.{needs}
 use mathlib.Core.Path.{_≡_, refl}
 use mathlib.Core.Bool.{true}

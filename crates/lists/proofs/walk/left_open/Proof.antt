@@ -1,5 +1,9 @@
--- The invariant: taking the ended nodes off those that are left gives what taking them off all gives. An open head ends it, one that ended
--- is passed; a test of another node than the head, or a count one off, falls at the return or at the next turn.
+-- Function: `left_open` (src/walk.rt).
+-- Why it holds: The invariant: taking the ended nodes off those that are left gives what taking
+-- them off all gives.
+-- Measure: `left`.
+-- What would break it: An open head ends it, one that ended is passed; a test of another node than
+-- the head, or a count one off, would be caught at the return or at the next turn.
 use mathlib.Core.Path.{_≡_, refl, _∙_}
 use native.Mathlib.Omega.{arith}
 use denote.Ref.{now}

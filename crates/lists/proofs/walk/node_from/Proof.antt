@@ -1,5 +1,6 @@
--- The four words are the node's.
--- A word one off falls at the return.
+-- Function: `node_from` (src/walk.rt).
+-- Why it holds: The four words are the node's.
+-- What would break it: A word one off would be caught at the return.
 use borrow.Author.Needs.{needs}
 use mathlib.Core.Path.{refl}
 use Rattle.lists.specs.Private.Walk.{nodeFrom}

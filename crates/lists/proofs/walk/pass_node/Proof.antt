@@ -1,5 +1,8 @@
--- Each return is one case of `topFault`, and the tests on the way are the facts that the case asks for.
--- A test left out, or tried in another order, falls at the return behind it.
+-- Function: `pass_node` (src/walk.rt).
+-- Why it holds: Each return is one case of `topFault`, and the tests on the way are the facts that
+-- the case asks for.
+-- What would break it: A test left out, or tried in another order, would be caught at the return
+-- after it.
 use borrow.Author.Needs.{needs}
 use mathlib.Core.Path.{_≡_, sym, subst, _∙_}
 use mathlib.Core.Bool.{Bool, true, false, not}

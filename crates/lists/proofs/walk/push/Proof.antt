@@ -1,5 +1,7 @@
--- A node stored behind the first ones comes to be the head of one more.
--- A node stored one place off, or a count that doesn't grow with it, falls at the return.
+-- Function: `push` (src/walk.rt).
+-- Why it holds: A node stored after the first ones comes to be the head of one more.
+-- What would break it: A node stored one place off, or a count that doesn't grow with it, would be
+-- caught at the return.
 use borrow.Author.Needs.{needs}
 use mathlib.Core.Path.{refl}
 use native.Mathlib.Omega.{arith}

@@ -1,5 +1,7 @@
--- Each return is one case of `headFault`, told by the top of the stack.
--- A test left out falls at the return behind it, and a stack without room at the second push.
+-- Function: `put_on_top` (src/walk.rt).
+-- Why it holds: Each return is one case of `headFault`, told by the top of the stack.
+-- What would break it: A test left out would be caught at the return after it, and a stack without
+-- room at the second push.
 use borrow.Author.Needs.{needs}
 use mathlib.Core.Path.{sym, _∙_}
 use native.Mathlib.Omega.{arith}

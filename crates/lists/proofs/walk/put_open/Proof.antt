@@ -1,5 +1,6 @@
--- The four stores are those that write a node.
--- A word stored one off falls at the return.
+-- Function: `put_open` (src/walk.rt).
+-- Why it holds: The four stores are those that write a node.
+-- What would break it: A word stored one off would be caught at the return.
 use borrow.Author.Needs.{needs}
 use native.Mathlib.Omega.{arith}
 use lib.ListN.{length-set}

@@ -1,5 +1,6 @@
--- The four words under the top of the words in use are the node's.
--- A word one off falls at the return.
+-- Function: `top_of` (src/walk.rt).
+-- Why it holds: The four words under the top of the words in use are the node's.
+-- What would break it: A word one off would be caught at the return.
 use borrow.Author.Needs.{needs}
 use mathlib.Core.Path.{_∙_}
 use native.Mathlib.Omega.{arith}

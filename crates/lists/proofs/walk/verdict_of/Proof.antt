@@ -1,5 +1,6 @@
--- Each case of the step is a case of `verdictOf`.
--- A place given as a refusal falls at the first return.
+-- Function: `verdict_of` (src/walk.rt).
+-- Why it holds: Each case of the step is a case of `verdictOf`.
+-- What would break it: A place given as a refusal would be caught at the first return.
 use borrow.Author.Needs.{needs}
 use mathlib.Core.Path.{sym, ap, _∙_}
 use Rattle.lists.specs.Step.{verdictOf}

@@ -1,5 +1,7 @@
--- The rows before a node are one less, and as many elements are open as its mark says.
--- A row counted twice falls at the return.
+-- Function: `before_node` (src/back.rt).
+-- Why it holds: The rows before a node are one less, and as many elements are open as its mark
+-- says.
+-- What would break it: A row counted twice would be caught at the return.
 use borrow.Author.Needs.{needs}
 use mathlib.Core.Path.{_≡_, ap, _∙_}
 use Prim.Native.Nat.{ℕ, _-_}

@@ -1,5 +1,6 @@
--- An opening opens one element and a text none.
--- A text that opened something falls at the first return.
+-- Function: `open_before` (src/back.rt).
+-- Why it holds: An opening opens one element and a text none.
+-- What would break it: A text that opened something would be caught at the first return.
 use mathlib.Core.Path.{sym}
 use Rattle.marks.proofs.Keeping.{before-text, before-opens}
 use Rattle.marks.proofs.back.open_before.Statement.{statement}

@@ -1,5 +1,8 @@
--- A text ends where it starts and an element at the innermost close, and the level is one more than elements are open before.
--- The close of an element around it, or a level one off, falls at its return.
+-- Function: `row_here` (src/back.rt).
+-- Why it holds: A text ends where it starts and an element at the innermost close, and the level is
+-- one more than elements are open before.
+-- What would break it: The close of an element around it, or a level one off, would be caught at
+-- its return.
 use borrow.Author.Needs.{needs}
 use mathlib.Core.Path.{_≡_, refl}
 use mathlib.Core.List.{List}

@@ -1,5 +1,6 @@
--- The tests are those of `markFault`, in its order.
--- A limit one off, or one test before another, falls at its return.
+-- Function: `mark_fault` (src/mark.rt).
+-- Why it holds: The tests are those of `markFault`, in its order.
+-- What would break it: A limit one off, or one test before another, would be caught at its return.
 use borrow.Author.Needs.{needs}
 use mathlib.Core.Path.{_≡_, sym, _∙_}
 use mathlib.Core.Bool.{true, false}

@@ -1,5 +1,6 @@
--- A mark without a fault is passed, and one with a fault is refused with it.
--- A fault passed over, or another number, falls at its return.
+-- Function: `pass_mark` (src/mark.rt).
+-- Why it holds: A mark without a fault is passed, and one with a fault is refused with it.
+-- What would break it: A fault passed over, or another number, would be caught at its return.
 use borrow.Author.Needs.{needs}
 use mathlib.Core.Path.{_≡_, sym, _∙_}
 use Prim.Native.Nat.{ℕ, _<_}

@@ -1,5 +1,9 @@
--- What is left to walk is the whole walk, so the first refusal and the place at the end are the whole walk's.
--- A walk that stopped one mark early, or took marks that end with an element open, falls at its return.
+-- Function: `pass_marks` (src/mark.rt).
+-- Why it holds: What is left to walk is the whole walk, so the first refusal and the place at the
+-- end are the whole walk's.
+-- Measure: `length marks - passed`.
+-- What would break it: A walk that stopped one mark early, or took marks that end with an element
+-- open, would be caught at its return.
 use borrow.Author.Needs.{needs}
 use native.Mathlib.Omega.{arith}
 use Prim.Native.Nat.{_-_, _≤_}

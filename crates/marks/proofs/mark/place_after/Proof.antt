@@ -1,5 +1,8 @@
--- A close leaves one element less, a text one row more, and an opening one more of both.
--- A text that opened something, or a close that began a row, falls at its return.
+-- Function: `place_after` (src/mark.rt).
+-- Why it holds: A close leaves one element less, a text one row more, and an opening one more of
+-- both.
+-- What would break it: A text that opened something, or a close that began a row, would be caught
+-- at its return.
 use borrow.Author.Needs.{needs}
 use mathlib.Core.Path.{_≡_}
 use Prim.Native.Nat.{ℕ, _+_, _-_}

@@ -1,5 +1,8 @@
--- The checks come in `checkMarks`'s order, the room is that of the rows counted on the way, and the rows are written last.
--- A refusal out of its turn, room for marks in place of rows, or another count falls at its return.
+-- Function: `number` (src/number.rt).
+-- Why it holds: The checks come in `checkMarks`'s order, the room is that of the rows counted on
+-- the way, and the rows are written last.
+-- What would break it: A refusal out of its turn, room for marks in place of rows, or another count
+-- would be caught at its return.
 use borrow.Author.Needs.{needs}
 use mathlib.Core.Path.{_≡_, sym, ap, _∙_}
 use mathlib.Core.List.{List}

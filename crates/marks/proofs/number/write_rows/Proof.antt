@@ -1,5 +1,9 @@
--- The walk back keeps the closes and has written the rows that begin behind it, so that at the first mark the whole table is written.
--- A walk that left out a mark, or began with too few rows, falls at the loop or at its start.
+-- Function: `write_rows` (src/number.rt).
+-- Why it holds: The walk back keeps the closes and has written the rows that begin after it, so
+-- that at the first mark the whole table is written.
+-- Measure: `position`.
+-- What would break it: A walk that left out a mark, or began with too few rows, would be caught at
+-- the loop or at its start.
 use borrow.Author.Needs.{needs}
 use mathlib.Core.Path.{refl}
 use Prim.Native.Nat.{_≤_}

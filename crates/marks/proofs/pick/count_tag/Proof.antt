@@ -1,5 +1,9 @@
--- The count is that of the rows passed, and each row adds its node where it has the tag.
--- A row of another tag counted, or the last row passed over, falls at the loop or at the return.
+-- Function: `count_tag` (src/pick.rt).
+-- Why it holds: The count is that of the rows passed, and each row adds its node where it has the
+-- tag.
+-- Measure: `length table / ROW-WORDS - index`.
+-- What would break it: A row of another tag counted, or the last row passed over, would be caught
+-- at the loop or at the return.
 use borrow.Author.Needs.{needs}
 use mathlib.Core.Path.{_≡_, sym, ap, _∙_}
 use mathlib.Core.Logic.{⊎-elim}

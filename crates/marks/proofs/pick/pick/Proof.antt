@@ -1,5 +1,8 @@
--- The rows may be any, so only the words are checked; the room is that of the nodes counted, and they are written last.
--- Room for rows in place of nodes, or the count of all rows, falls at its return.
+-- Function: `pick` (src/pick.rt).
+-- Why it holds: The rows may be any, so only the words are checked; the room is that of the nodes
+-- counted, and they are written last.
+-- What would break it: Room for rows in place of nodes, or the count of all rows, would be caught
+-- at its return.
 use borrow.Author.Needs.{needs}
 use mathlib.Core.Path.{_≡_, sym, ap, _∙_}
 use mathlib.Core.List.{List}

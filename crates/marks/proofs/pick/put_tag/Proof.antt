@@ -1,5 +1,9 @@
--- What is written are the words of the nodes picked of the rows passed, and each row with the tag adds its own.
--- A node of another tag copied, or one written over another, falls at the loop.
+-- Function: `put_tag` (src/pick.rt).
+-- Why it holds: What is written are the words of the nodes picked of the rows passed, and each row
+-- with the tag adds its own.
+-- Measure: `length table / ROW-WORDS - index`.
+-- What would break it: A node of another tag copied, or one written over another, would be caught
+-- at the loop.
 use borrow.Author.Needs.{needs}
 use mathlib.Core.Path.{_≡_, refl, sym, ap, _∙_}
 use mathlib.Core.Logic.{⊎-elim}

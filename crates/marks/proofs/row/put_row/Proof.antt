@@ -1,5 +1,6 @@
--- The five stores, one behind the other, are those of the row's words.
--- A word stored one off falls at the return.
+-- Function: `put_row` (src/row.rt).
+-- Why it holds: The five stores, one after the other, are those of the row's words.
+-- What would break it: A word stored one off would be caught at the return.
 use borrow.Author.Needs.{needs}
 use mathlib.Core.Path.{_≡_}
 use mathlib.Core.List.{List}

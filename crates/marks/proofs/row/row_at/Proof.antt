@@ -1,5 +1,6 @@
--- The five words at five times the index are the row's.
--- A word one off falls at the return.
+-- Function: `row_at` (src/row.rt).
+-- Why it holds: The five words at five times the index are the row's.
+-- What would break it: A word one off would be caught at the return.
 use borrow.Author.Needs.{needs}
 use mathlib.Core.Path.{sym}
 use native.Mathlib.Omega.{arith}

@@ -1,5 +1,7 @@
--- The tests are those of `fitsb` for a mark that is no close, one by one.
--- A row compared with another than the last one left, or a faulty mark let through, falls at its return.
+-- Function: `is_fitting` (src/unnumber.rt).
+-- Why it holds: The tests are those of `fitsb` for a mark that is no close, one by one.
+-- What would break it: A row compared with another than the last one left, or a faulty mark let
+-- through, would be caught at its return.
 use borrow.Author.Needs.{needs}
 use mathlib.Core.Path.{_≡_, sym, _∙_}
 use mathlib.Core.Logic.{inl, inr}

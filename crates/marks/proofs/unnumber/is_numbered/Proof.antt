@@ -1,5 +1,7 @@
--- A table has a row and at most 4,096 marks, and then reads back.
--- An empty table taken, or a root's end beyond the limit, falls at its return.
+-- Function: `is_numbered` (src/unnumber.rt).
+-- Why it holds: A table has a row and at most 4,096 marks, and then reads back.
+-- What would break it: An empty table taken, or a root's end beyond the limit, would be caught at
+-- its return.
 use borrow.Author.Needs.{needs}
 use mathlib.Core.Path.{_≡_, sym, _∙_}
 use mathlib.Core.Bool.{Bool, false}

@@ -1,5 +1,7 @@
--- A text needs nothing open behind it, and an opening needs itself.
--- A depth of 0 let through for an opening, or asked of a text, falls at its return.
+-- Function: `is_opened` (src/unnumber.rt).
+-- Why it holds: A text needs nothing open after it, and an opening needs itself.
+-- What would break it: A depth of 0 let through for an opening, or asked of a text, would be caught
+-- at its return.
 use mathlib.Core.Path.{_≡_}
 use mathlib.Core.Bool.{true, _||_}
 use Prim.Native.Nat.{ℕ}

@@ -1,5 +1,6 @@
--- The nodes are compared first and the tags last, as `sameRowb` does.
--- A word of the five left out falls at its return.
+-- Function: `is_same_row` (src/unnumber.rt).
+-- Why it holds: The nodes are compared first and the tags last, as `sameRowb` does.
+-- What would break it: A word of the five left out would be caught at its return.
 use borrow.Author.Needs.{needs}
 use mathlib.Core.Path.{_≡_}
 use mathlib.Core.Bool.{Bool, true, false}

@@ -1,5 +1,8 @@
--- The last of the rows tells its tag where it starts at the position; every other position is a close's.
--- A tag told at another row's start, or with no row left, falls at its return.
+-- Function: `mark_here` (src/unnumber.rt).
+-- Why it holds: The last of the rows tells its tag where it starts at the position; every other
+-- position is a close's.
+-- What would break it: A tag told at another row's start, or with no row left, would be caught at
+-- its return.
 use borrow.Author.Needs.{needs}
 use mathlib.Core.Path.{_≡_, sym, ap, _∙_}
 use mathlib.Core.List.{List}

@@ -1,5 +1,8 @@
--- The invariant is the output with as many closes at its beginning as were put.
--- A close put elsewhere, or one too few, falls at the next turn or at the return.
+-- Function: `put_closes` (src/unnumber.rt).
+-- Why it holds: The invariant is the output with as many closes at its beginning as were put.
+-- Measure: `count - put`.
+-- What would break it: A close put elsewhere, or one too few, would be caught at the next turn or
+-- at the return.
 use borrow.Author.Needs.{needs}
 use mathlib.Core.Path.{_≡_, refl, ap, _∙_}
 use Prim.Native.Nat.{_-_, _≤_, zero-le}

@@ -1,5 +1,9 @@
--- The invariant: the tags of the rows from the index on, put into the output, are all tags put into the output as it was.
--- A tag put one mark off, or a row passed over, falls at the next turn.
+-- Function: `put_tags` (src/unnumber.rt).
+-- Why it holds: The invariant: the tags of the rows from the index on, put into the output, are all
+-- tags put into the output as it was.
+-- Measure: `length table / ROW-WORDS - index`.
+-- What would break it: A tag put one mark off, or a row passed over, would be caught at the next
+-- turn.
 use borrow.Author.Needs.{needs}
 use mathlib.Core.Path.{_≡_, refl, _∙_}
 use mathlib.Core.List.{List}

@@ -1,5 +1,8 @@
--- The invariant: the rows left read back from the position just where all rows do.
--- A mark passed that doesn't fit, or a walk that ends with a row or an element left, falls at its return.
+-- Function: `reads_back` (src/unnumber.rt).
+-- Why it holds: The invariant: the rows left read back from the position just where all rows do.
+-- Measure: `position`.
+-- What would break it: A mark passed that doesn't fit, or a walk that ends with a row or an element
+-- left, would be caught at its return.
 use borrow.Author.Needs.{needs}
 use mathlib.Core.Path.{_≡_, refl, sym, ap, subst, _∙_}
 use mathlib.Core.Logic.{inl, inr}

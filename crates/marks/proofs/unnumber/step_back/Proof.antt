@@ -1,5 +1,8 @@
--- The mark told by the rows is a close, for which there is room or not, or another, which fits or doesn't.
--- A close kept with 64 elements open, or a mark passed whose row differs, falls at its return.
+-- Function: `step_back` (src/unnumber.rt).
+-- Why it holds: The mark told by the rows is a close, for which there is room or not, or another,
+-- which fits or doesn't.
+-- What would break it: A close kept with 64 elements open, or a mark passed whose row differs,
+-- would be caught at its return.
 use borrow.Author.Needs.{needs}
 use mathlib.Core.Path.{_≡_, refl, sym, _∙_}
 use mathlib.Core.Bool.{Bool, true, false}

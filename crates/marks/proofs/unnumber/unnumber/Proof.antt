@@ -1,5 +1,8 @@
--- Each fault is answered in its turn, with the output as it was; closes with a tag put at each row's start are the marks of a table.
--- A refusal that writes, a count that isn't the marks', or an output too short taken, falls at its return.
+-- Function: `unnumber` (src/unnumber.rt).
+-- Why it holds: Each fault is answered in its turn, with the output as it was; closes with a tag
+-- put at each row's start are the marks of a table.
+-- What would break it: A refusal that writes, a count that isn't the marks', or an output too short
+-- taken, would be caught at its return.
 use borrow.Author.Needs.{needs}
 use mathlib.Core.Path.{_≡_, refl, sym, ap, _∙_}
 use mathlib.Core.Bool.{Bool, true, false}

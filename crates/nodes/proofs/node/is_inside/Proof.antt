@@ -1,5 +1,8 @@
--- The documents and the starts are compared one after the other, and then only the end is left, as `insideb` says.
--- A start that may be equal, or a document left out, falls at its return.
+-- Function: `is_inside` (src/node.rt).
+-- Why it holds: The documents and the starts are compared one after the other, and then only the
+-- end is left, as `insideb` says.
+-- What would break it: A start that may be equal, or a document left out, would be caught at its
+-- return.
 use borrow.Author.Needs.{needs}
 use mathlib.Core.Path.{_≡_, _∙_}
 use mathlib.Core.Bool.{false}

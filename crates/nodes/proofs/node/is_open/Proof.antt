@@ -1,5 +1,7 @@
--- The documents are compared first, and the end with the start only within one document, as `openb` does.
--- A strict comparison, or a document left out, falls at its return.
+-- Function: `is_open` (src/node.rt).
+-- Why it holds: The documents are compared first, and the end with the start only within one
+-- document, as `openb` does.
+-- What would break it: A strict comparison, or a document left out, would be caught at its return.
 use mathlib.Core.Path.{_≡_}
 use mathlib.Core.Bool.{false}
 use lib.Dec.{leb}

@@ -1,5 +1,8 @@
--- The words are compared one after the other, so each return knows all earlier words to be equal, and `sameb` is what the last test says.
--- A word left out, or compared with another, falls at the return that it changes.
+-- Function: `is_same` (src/node.rt).
+-- Why it holds: The words are compared one after the other, so each return knows all earlier words
+-- to be equal, and `sameb` is what the last test says.
+-- What would break it: A word left out, or compared with another, would be caught at the return
+-- that it changes.
 use mathlib.Core.Path.{_≡_}
 use mathlib.Core.Bool.{false}
 use native.Mathlib.Omega.{arith}

@@ -1,5 +1,8 @@
--- Below the number of nodes the four words at four times the index are the node's, and from there on the definition has zeros.
--- A word one off falls at the last return, an index too large at a read.
+-- Function: `node_at` (src/node.rt).
+-- Why it holds: Below the number of nodes the four words at four times the index are the node's,
+-- and from there on the definition has zeros.
+-- What would break it: A word one off would be caught at the last return, an index too large at a
+-- read.
 use Prim.Native.Nat.{_≤_}
 use native.Mathlib.Omega.{arith}
 use lib.ListN.{List·getD-eq-default}

@@ -1,5 +1,8 @@
--- Below the number of nodes the four stores are `putNode`'s, and from there on neither writes anything.
--- A word stored one off falls at the last return, an index too large at a store.
+-- Function: `put_node` (src/node.rt).
+-- Why it holds: Below the number of nodes the four stores are `putNode`'s, and from there on
+-- neither writes anything.
+-- What would break it: A word stored one off would be caught at the last return, an index too large
+-- at a store.
 use Prim.Native.Nat.{ℕ, _≤_}
 use native.Mathlib.Omega.{arith}
 use lib.ListN.{length-set}

@@ -1,5 +1,7 @@
--- The sum of the four bytes, each at its place, is the definition's own, and 255 at every place is the greatest number.
--- A byte at another place falls at the return.
+-- Function: `from_four` (src/little.rt).
+-- Why it holds: The sum of the four bytes, each at its place, is the definition's own, and 255 at
+-- every place is the greatest number.
+-- What would break it: A byte at another place would be caught at the return.
 use borrow.Author.Needs.{needs}
 use mathlib.Core.Path.{_≡_, refl}
 use Prim.Native.Nat.{ℕ, _+_, _*_}

@@ -1,5 +1,8 @@
--- Below the number of numbers the four bytes at four times the index are the number's, and from there on the definition has 0.
--- A byte one off falls at the last return, an index too large at a read.
+-- Function: `number_at` (src/little.rt).
+-- Why it holds: Below the number of numbers the four bytes at four times the index are the
+-- number's, and from there on the definition has 0.
+-- What would break it: A byte one off would be caught at the last return, an index too large at a
+-- read.
 use borrow.Author.Needs.{needs}
 use mathlib.Core.Path.{sym, _∙_}
 use native.Mathlib.Omega.{arith}

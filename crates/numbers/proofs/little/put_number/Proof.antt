@@ -1,5 +1,8 @@
--- Below the number of numbers the four stores are `putNumber`'s, and from there on neither writes anything.
--- A byte stored one off falls at the last return, an index too large at a store.
+-- Function: `put_number` (src/little.rt).
+-- Why it holds: Below the number of numbers the four stores are `putNumber`'s, and from there on
+-- neither writes anything.
+-- What would break it: A byte stored one off would be caught at the last return, an index too large
+-- at a store.
 use borrow.Author.Needs.{needs}
 use mathlib.Core.Path.{_≡_}
 use mathlib.Core.List.{List}

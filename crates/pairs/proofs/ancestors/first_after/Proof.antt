@@ -1,6 +1,9 @@
--- The invariant: the search through what is left finds what the search from the first place on
--- finds. A descendant passed that stands after the ancestor, or a place one off, falls at the next
--- turn.
+-- Function: `first_after` (src/ancestors.rt).
+-- Why it holds: The invariant: the search through what is left finds what the search from the first
+-- place on finds.
+-- Measure: `length descendants - k`.
+-- What would break it: A descendant passed that stands after the ancestor, or a place one off,
+-- would be caught at the next turn.
 use borrow.Author.Needs.{needs}
 use Prim.Native.Nat.{_+_, _-_, _/_}
 use mathlib.Core.Path.{_≡_, sym, subst, _∙_}

@@ -1,6 +1,8 @@
--- Where the ancestor isn't open at the first descendant after it, it has no run; else what is left
--- of its run from a start on is handed out. A run taken to be empty that isn't, or a start passed,
--- falls at a return.
+-- Function: `hand_ancestor` (src/ancestors.rt).
+-- Why it holds: Where the ancestor isn't open at the first descendant after it, it has no run; else
+-- what is left of its run from a start on is handed out.
+-- What would break it: A run taken to be empty that isn't, or a start passed, would be caught at a
+-- return.
 use borrow.Author.Needs.{needs}
 use Prim.Native.Nat.{_/_}
 use mathlib.Core.Path.{sym, subst, _∙_}

@@ -1,6 +1,9 @@
--- The invariant: handing out the children from here on gives what handing out all of them gives. A
--- descendant one level deeper is handed out, and any other is passed, with what an inner zone
--- holds. A child lost, or handed out twice, falls at the next turn.
+-- Function: `hand_children` (src/ancestors.rt).
+-- Why it holds: The invariant: handing out the children from here on gives what handing out all of
+-- them gives. A descendant one level deeper is handed out, and any other is passed, with what an
+-- inner zone holds.
+-- Measure: `to - k`.
+-- What would break it: A child lost, or handed out twice, would be caught at the next turn.
 use borrow.Author.Needs.{needs}
 use Prim.Native.Nat.{_+_, _-_, _/_, _%_, _≤_, _<_}
 use mathlib.Core.Path.{_≡_, refl, sym, ap, _∙_}

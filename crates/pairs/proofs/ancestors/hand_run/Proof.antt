@@ -1,5 +1,7 @@
--- All of the run lies inside, so inside it is handed out as it lies; directly inside are the
--- children in it. The relations exchanged, or a run cut short, fall at a return.
+-- Function: `hand_run` (src/ancestors.rt).
+-- Why it holds: All of the run lies inside, so inside it is handed out as it lies; directly inside
+-- are the children in it.
+-- What would break it: The relations exchanged, or a run cut short, would be caught at a return.
 use borrow.Author.Needs.{needs}
 use Prim.Native.Nat.{_/_}
 use denote.Ref.{now}

@@ -1,5 +1,7 @@
--- A descendant at which the ancestor is open, next to the guess, settles all before it; without one
--- the place stays. A guess taken untested falls at its return.
+-- Function: `past_guess` (src/ancestors.rt).
+-- Why it holds: A descendant at which the ancestor is open, next to the guess, settles all before
+-- it; without one the place stays.
+-- What would break it: A guess taken untested would be caught at its return.
 use borrow.Author.Needs.{needs}
 use Prim.Native.Nat.{_-_}
 use mathlib.Core.Path.{sym, _∙_}

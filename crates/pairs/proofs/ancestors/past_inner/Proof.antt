@@ -1,6 +1,8 @@
--- Only where the zone is open at the next descendant, and this one stands after the zone, is more
--- than this one passed: what the zone holds. A descendant passed that the zone doesn't hold falls
--- at its return; a zone left early would cost time alone.
+-- Function: `past_inner` (src/ancestors.rt).
+-- Why it holds: Only where the zone is open at the next descendant, and this one stands after the
+-- zone, is more than this one passed: what the zone holds.
+-- What would break it: A descendant passed that the zone doesn't hold would be caught at its
+-- return; a zone left early would cost time alone.
 use borrow.Author.Needs.{needs}
 use Prim.Native.Nat.{_+_}
 use mathlib.Core.Path.{_≡_, sym, _∙_}

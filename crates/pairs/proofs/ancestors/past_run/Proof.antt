@@ -1,5 +1,9 @@
--- The invariant: up to here the run goes on. The first place at which it doesn't is its end.
--- A descendant passed at which the ancestor isn't open falls at the next turn.
+-- Function: `past_run` (src/ancestors.rt).
+-- Why it holds: The invariant: up to here the run goes on. The first place at which it doesn't is
+-- its end.
+-- Measure: `length descendants + 4 - k`.
+-- What would break it: A descendant passed at which the ancestor isn't open would be caught at the
+-- next turn.
 use borrow.Author.Needs.{needs}
 use Prim.Native.Nat.{_+_, _-_}
 use mathlib.Core.Path.{sym, _∙_}

@@ -1,6 +1,9 @@
--- The invariant: up to here the run goes on. Where the ancestor is open at the last descendant of a
--- stride, it is open at all of it. A stride taken untested, or one that tests a descendant before
--- its last, falls at the next turn.
+-- Function: `past_strides` (src/ancestors.rt).
+-- Why it holds: The invariant: up to here the run goes on. Where the ancestor is open at the last
+-- descendant of a stride, it is open at all of it.
+-- Measure: `length descendants + 32 - k`.
+-- What would break it: A stride taken untested, or one that tests a descendant before its last,
+-- would be caught at the next turn.
 use borrow.Author.Needs.{needs}
 use Prim.Native.Nat.{_+_, _-_}
 use mathlib.Core.Path.{sym, _∙_}

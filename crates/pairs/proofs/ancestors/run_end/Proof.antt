@@ -1,6 +1,8 @@
--- The first descendant is in the run, and each step goes on from a place up to which the run goes;
--- where it doesn't go on, it ends. A place returned that was not tested, or one after which the run
--- goes on, falls at its return.
+-- Function: `run_end` (src/ancestors.rt).
+-- Why it holds: The first descendant is in the run, and each step goes on from a place up to which
+-- the run goes; where it doesn't go on, it ends.
+-- What would break it: A place returned that was not tested, or one after which the run goes on,
+-- would be caught at its return.
 use borrow.Author.Needs.{needs}
 use Prim.Native.Nat.{_+_}
 use mathlib.Core.Path.{sym, _∙_}

@@ -1,6 +1,8 @@
--- Every ancestor on the stack contains the descendant, and only the innermost can be one level
--- above it. Testing another one than the innermost, or taking it without its level, falls at its
--- return.
+-- Function: `first_match` (src/descendants.rt).
+-- Why it holds: Every ancestor on the stack contains the descendant, and only the innermost can be
+-- one level above it.
+-- What would break it: Testing another one than the innermost, or taking it without its level,
+-- would be caught at its return.
 use borrow.Author.Needs.{needs}
 use mathlib.Core.Path.{sym, _∙_}
 use native.Mathlib.Omega.{arith}

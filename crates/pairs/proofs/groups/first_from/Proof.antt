@@ -1,5 +1,9 @@
--- The invariant: the search along what is left of the stretch finds what the search along all of it
--- finds. A follower passed that starts late enough, or a place one off, falls at the next turn.
+-- Function: `first_from` (src/groups.rt).
+-- Why it holds: The invariant: the search along what is left of the stretch finds what the search
+-- along all of it finds.
+-- Measure: `to - k`.
+-- What would break it: A follower passed that starts late enough, or a place one off, would be
+-- caught at the next turn.
 use borrow.Author.Needs.{needs}
 use Prim.Native.Nat.{_+_, _-_, _/_, _≤_}
 use mathlib.Core.Path.{_≡_, refl}

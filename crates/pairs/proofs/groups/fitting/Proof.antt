@@ -1,5 +1,6 @@
--- Either all that is left is taken, or all that is wanted.
--- A number above either would fall at its return.
+-- Function: `fitting` (src/groups.rt).
+-- Why it holds: Either all that is left is taken, or all that is wanted.
+-- What would break it: A number above either would be caught at its return.
 use mathlib.Core.Logic.{inl, inr}
 use native.Mathlib.Omega.{arith}
 use Rattle.pairs.proofs.groups.fitting.Statement.{statement}

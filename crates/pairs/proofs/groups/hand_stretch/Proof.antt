@@ -1,5 +1,8 @@
--- As many are put as fit, counted first; so all of the stretch is served, or the room is full.
--- A count one off either way, or a slice that begins or ends one node off, falls at the return.
+-- Function: `hand_stretch` (src/groups.rt).
+-- Why it holds: As many are put as fit, counted first; so all of the stretch is served, or the room
+-- is full.
+-- What would break it: A count one off either way, or a slice that begins or ends one node off,
+-- would be caught at the return.
 use borrow.Author.Needs.{needs}
 use Prim.Native.Nat.{_+_, _-_, _*_}
 use native.Mathlib.Omega.{arith}

@@ -1,5 +1,9 @@
--- The invariant: serving what is left of the group gives what serving all of it gives.
--- A pair stored one off, or a follower skipped, falls at the next turn.
+-- Function: `put_group` (src/groups.rt).
+-- Why it holds: The invariant: serving what is left of the group gives what serving all of it
+-- gives.
+-- Measure: `count followers - k`.
+-- What would break it: A pair stored one off, or a follower skipped, would be caught at the next
+-- turn.
 use borrow.Author.Needs.{needs}
 use Prim.Native.Nat.{_+_, _-_, _≤_, zero-le}
 use mathlib.Core.Path.{_≡_, refl, ap, _∙_}

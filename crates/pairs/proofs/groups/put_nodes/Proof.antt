@@ -1,5 +1,7 @@
--- The ancestor's four words are stored from eight times the index on, and the descendant's right
--- after them, which is the pair. A node stored one word off falls at the return.
+-- Function: `put_nodes` (src/groups.rt).
+-- Why it holds: The ancestor's four words are stored from eight times the index on, and the
+-- descendant's right after them, which is the pair.
+-- What would break it: A node stored one word off would be caught at the return.
 use Prim.Native.Nat.{ℕ, _+_, _*_}
 use mathlib.Core.Path.{_≡_, refl, ap, _∙_}
 use mathlib.Core.List.{List}

@@ -1,5 +1,7 @@
--- Which node is the ancestor is the order's matter alone, and `pairOf` takes the leader as the
--- store does. The two nodes in the wrong turn fall at the return of that order.
+-- Function: `put_pair` (src/groups.rt).
+-- Why it holds: Which node is the ancestor is the order's matter alone, and `pairOf` takes the
+-- leader as the store does.
+-- What would break it: The two nodes in the wrong turn would be caught at the return of that order.
 use mathlib.Core.Path.{_≡_, refl, ap, _∙_}
 use borrow.Author.Needs.{needs}
 use Rattle.nodes.specs.declared.node.Node.{Node}

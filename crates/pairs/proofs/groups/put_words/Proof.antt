@@ -1,5 +1,6 @@
--- The four stores are those of the words one after the other.
--- A word stored one off falls at the return.
+-- Function: `put_words` (src/groups.rt).
+-- Why it holds: The four stores are those of the words one after the other.
+-- What would break it: A word stored one off would be caught at the return.
 use borrow.Author.Needs.{needs}
 use native.Mathlib.Omega.{arith}
 use lib.ListN.{length-set}

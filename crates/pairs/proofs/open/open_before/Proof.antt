@@ -1,6 +1,9 @@
--- The invariant: the ancestors on the stack stand for all that were passed, and all of them are
--- open at the descendant. One more that stands before it goes on top or has ended, and the first
--- that doesn't ends the loop; an open one passed over falls at the next turn or at the return.
+-- Function: `open_before` (src/open.rt).
+-- Why it holds: The invariant: the ancestors on the stack stand for all that were passed, and all
+-- of them are open at the descendant.
+-- Measure: `length ancestors - i`.
+-- What would break it: One more that stands before it goes on top or has ended, and the first that
+-- doesn't ends the loop; an open one passed over would be caught at the next turn or at the return.
 use borrow.Author.Needs.{needs}
 use mathlib.Core.Path.{_≡_, sym, ap, _∙_}
 use mathlib.Core.Bool.{true}

@@ -1,6 +1,8 @@
--- What comes to lie on the stack is a chain no longer than its head is deep, so there is a place for the
--- head on the stack. An ancestor stored one place off, or one put on the stack although it has
--- ended, falls at the return.
+-- Function: `open_next` (src/open.rt).
+-- Why it holds: What comes to lie on the stack is a chain no longer than its head is deep, so there
+-- is a place for the head on the stack.
+-- What would break it: An ancestor stored one place off, or one put on the stack although it has
+-- ended, would be caught at the return.
 use borrow.Author.Needs.{needs}
 use mathlib.Core.Path.{_≡_, sym, _∙_}
 use mathlib.Core.Bool.{true, false, cond}

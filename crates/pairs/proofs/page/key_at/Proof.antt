@@ -1,5 +1,8 @@
--- The pair at an index stands in the two nodes at twice that index, the ancestor first.
--- A key with its starts turned, or one of another pair, falls at its order's return.
+-- Function: `key_at` (src/page.rt).
+-- Why it holds: The pair at an index stands in the two nodes at twice that index, the ancestor
+-- first.
+-- What would break it: A key with its starts turned, or one of another pair, would be caught at its
+-- order's return.
 use borrow.Author.Needs.{needs}
 use mathlib.Core.Path.{_≡_, refl}
 use mathlib.Core.List.{List}

@@ -1,5 +1,7 @@
--- The ticket's order says which sweep it is, and each serves what remains in its order.
--- A sweep taken for the other order falls at its return.
+-- Function: `sweep` (src/page.rt).
+-- Why it holds: The ticket's order says which sweep it is, and each serves what remains in its
+-- order.
+-- What would break it: A sweep taken for the other order would be caught at its return.
 use borrow.Author.Needs.{needs}
 use mathlib.Core.Path.{_≡_, ap, sym, _∙_}
 use mathlib.Core.Bool.{Bool}

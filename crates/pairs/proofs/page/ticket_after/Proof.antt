@@ -1,5 +1,8 @@
--- The place is the old one where nothing was written, and else the key of the last pair.
--- A place that stays although pairs were written, or one of another pair, falls at a return.
+-- Function: `ticket_after` (src/page.rt).
+-- Why it holds: The place is the old one where nothing was written, and else the key of the last
+-- pair.
+-- What would break it: A place that stays although pairs were written, or one of another pair,
+-- would be caught at a return.
 use borrow.Author.Needs.{needs}
 use mathlib.Core.Path.{_≡_, refl, ap}
 use mathlib.Core.List.{List}

@@ -1,5 +1,8 @@
--- The page hands out no more pairs than there is room for, so the part of the output is there, and the lines made of it are those of its pairs.
--- A part other than what the page wrote, or lines of other words, falls at the return.
+-- Function: `make_lines` (src/pages.rt).
+-- Why it holds: The page hands out no more pairs than there is room for, so the part of the output
+-- is there, and the lines made of it are those of its pairs.
+-- What would break it: A part other than what the page wrote, or lines of other words, would be
+-- caught at the return.
 use borrow.Author.Needs.{needs}
 use Prim.Native.Nat.{_*_, _-_}
 use native.Mathlib.Omega.{arith}

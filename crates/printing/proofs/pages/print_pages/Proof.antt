@@ -1,5 +1,8 @@
--- The output has room for the pairs of a page, and the text for as many of the longest lines.
--- A text too short for its page, or a page without room, falls at the call.
+-- Function: `print_pages` (src/pages.rt).
+-- Why it holds: The output has room for the pairs of a page, and the text for as many of the
+-- longest lines.
+-- What would break it: A text too short for its page, or a page without room, would be caught at
+-- the call.
 use borrow.Author.Needs.{needs}
 use mathlib.Core.Path.{_≡_, refl}
 use mathlib.Core.List.{List}

@@ -1,6 +1,9 @@
--- The pairs counted and those that remain are always all, and a page that isn't done leaves fewer, so
--- the loop ends, and once it is done all are counted. A refusal returned as TAKEN, a page without room,
--- or a count that could overflow falls at its return, at the loop's measure or at its sum.
+-- Function: `print_pairs` (src/pages.rt).
+-- Why it holds: The pairs counted and those that remain are always all, and a page that isn't done
+-- leaves fewer, so the loop ends, and once it is done all are counted.
+-- Measure: `left ancestors descendants ticket`.
+-- What would break it: A refusal returned as TAKEN, a page without room, or a count that could
+-- overflow would be caught at its return, at the loop's measure or at its sum.
 use borrow.Author.Needs.{needs}
 use mathlib.Core.Path.{_≡_, refl, sym, _∙_}
 use native.Mathlib.Omega.{arith}

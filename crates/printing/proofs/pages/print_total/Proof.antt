@@ -1,5 +1,7 @@
--- The line was made in the buffer, which is no shorter for it, and as many of its bytes are written as the line has.
--- A part that reached beyond the buffer would fall.
+-- Function: `print_total` (src/pages.rt).
+-- Why it holds: The line was made in the buffer, which is no shorter for it, and as many of its
+-- bytes are written as the line has.
+-- What would break it: A part that reached beyond the buffer would fall.
 use borrow.Author.Needs.{needs}
 use mathlib.Core.Path.{sym, subst}
 use mathlib.Core.List.{List}

@@ -1,6 +1,8 @@
--- The two lists are copied whole, since the words lent have room for the longest; so the pages are
--- those of the book's first list and second. A list whose end was left out of the words, or one
--- joined with itself, falls at the return.
+-- Function: `print_lists` (src/print.rt).
+-- Why it holds: The two lists are copied whole, since the words lent have room for the longest; so
+-- the pages are those of the book's first list and second.
+-- What would break it: A list whose end was left out of the words, or one joined with itself, would
+-- be caught at the return.
 use borrow.Author.Needs.{needs}
 use mathlib.Core.Path.{_∙_}
 use Prim.Native.Nat.{_-_}

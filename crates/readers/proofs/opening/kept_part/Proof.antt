@@ -1,5 +1,8 @@
--- The verdict that `check_book` answers is the book's own, so an empty part is returned of a refused book and all of an accepted one.
--- Bytes that are kept although refused, or dropped although accepted, would fall at a return.
+-- Function: `kept_part` (src/opening.rt).
+-- Why it holds: The verdict that `check_book` answers is the book's own, so an empty part is
+-- returned of a refused book and all of an accepted one.
+-- What would break it: Bytes that are kept although refused, or dropped although accepted, would be
+-- caught at a return.
 use borrow.Author.Needs.{needs}
 use mathlib.Core.Path.{_≡_, refl, sym, ap, _∙_}
 use mathlib.Core.List.{List, []}

@@ -1,5 +1,7 @@
--- The number of the lists is the first number of the bytes, which is what `number_at` reads there, 0 where they have none.
--- A number read at another place would fall at the return.
+-- Function: `list_count` (src/opening.rt).
+-- Why it holds: The number of the lists is the first number of the bytes, which is what `number_at`
+-- reads there, 0 where they have none.
+-- What would break it: A number read at another place would be caught at the return.
 use borrow.Author.Needs.{needs}
 use mathlib.Core.Path.{_≡_}
 use mathlib.Core.List.{List}

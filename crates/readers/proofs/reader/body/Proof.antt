@@ -1,5 +1,8 @@
--- The body that `tag_body` finds in the reader's book, with the reader's number of lists, is handed back; only the contract of `tag_body` is used.
--- Another slice, another number or another tag than the reader's and the caller's would fall at the fact that the exit says.
+-- Function: `body` (src/reader.rt).
+-- Why it holds: The body that `tag_body` finds in the reader's book, with the reader's number of
+-- lists, is handed back; only the contract of `tag_body` is used.
+-- What would break it: Another slice, another number or another tag than the reader's and the
+-- caller's would be caught at the fact that the exit says.
 use mathlib.Core.Path.{_≡_, refl}
 use Prim.Native.Nat.{ℕ, _<_, _^_}
 use mathlib.Core.List.{List, [], _∷_}
@@ -119,7 +122,8 @@ module _ {M : Type 1} (𝓤 : URA M) (H : Heap 𝓤) (A : Atoms 𝓤) (W : Given
       owned ! u32 (Is u32) (uint-makes 𝓤 H A W w32) (d .lists) _ (refl, fits) $ fjoin ! $ move ! (1 ∷ 0 ∷ []) $ fjoin ! $
       move ! (2 ∷ 0 ∷ []) $ use2 W (raw (TagBody 𝓤 H A mem run .pre to)) asked $ frame ! $ done !)
 
-  -- of the callee's `ensured`, the clause alone: it has no `&mut`, so what is said of last values is dropped
+  -- of the callee's `ensured`, the clause alone: it has no `&mut`, so what is said of last values
+  -- is dropped
   said : (s : RefT (List ℕ))
       → ent 𝓤 (ensured 𝓤 H A callee.ended (callee.clauses 𝓤 H A mem run) (κ, tt) (d .book, (d .lists, (n, tt))) tt s) (fact 𝓤 (Wanted s))
   said s = exE 𝓤 _ (λ ws. snd∗ 𝓤 (sem 𝓤 H A (lasts callee.ended (κ, tt) (d .book, (d .lists, (n, tt))) ws)) (fact 𝓤 (Wanted s)))
@@ -141,7 +145,8 @@ module _ {M : Type 1} (𝓤 : URA M) (H : Heap 𝓤) (A : Atoms 𝓤) (W : Given
     walk wt =
         qed W (raw (onEntry 𝓤 H A body.signature (κ, tt) (q, tt) (d, (n, tt)) at) ∷ []) ∵ enter ! C Λ code.function (mach ∷ vint w32 n ∷ []) _ $
         alloc1 ! (λ l₀. alloc1 ! (λ l₁. alloc1 ! (λ l₂. alloc1 ! (λ l₃. alloc1 ! (λ l₄. alloc0 ! $ params1 ! $
-        -- [room for _4; …; room for _3; …; room for _2; …; room for _1; …; room for _0; …; what the parameters own]
+        -- [room for _4; …; room for _3; …; room for _2; …; room for _1; …; room for _0; …; what the
+        -- parameters own]
         pass1 ! (init ! 6 refl wt) $ pass1 ! (init ! 4 refl (tt, record { fits = ok })) $ pass0 ! $
         assigns ! (of-opd ! (load ! (from ! (fld ! refl (stop !))) (look-in ! 6 (sub ! 0 refl (whole !))))) (from ! (stop !))
         (init ! 2 refl (tt, wt .1 .0)) $

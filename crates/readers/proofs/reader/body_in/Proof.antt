@@ -1,5 +1,8 @@
--- `open` gives a reader over what is kept of the bytes, and `body` the tag's body of that reader; only the contracts of the two are used.
--- Another reader than the one that `open` returns, or another tag than the caller's, would fall at the fact that the exit says.
+-- Function: `body_in` (src/reader.rt).
+-- Why it holds: `open` gives a reader over what is kept of the bytes, and `body` the tag's body of
+-- that reader; only the contracts of the two are used.
+-- What would break it: Another reader than the one that `open` returns, or another tag than the
+-- caller's, would be caught at the fact that the exit says.
 use mathlib.Core.Path.{_≡_, refl, _∙_}
 use Prim.Native.Nat.{ℕ, _<_, _^_}
 use mathlib.Core.List.{List, [], _∷_}
@@ -163,7 +166,8 @@ module _ {M : Type 1} (𝓤 : URA M) (H : Heap 𝓤) (A : Atoms 𝓤) (W : Given
         use1 W (later (some (λ (r : Reader). ((‵ (flft κ q) ⊛ ‵ ftrue) ⊛ ‵ (B (κ, tt) .own r (u ∷ [])))
         ⊛ raw (ensured 𝓤 H A opening.ended (opening.clauses 𝓤 H A mem run) (κ, tt) (bytes, tt) tt r)))) (id⊢ 𝓤 _) $ await ! tt $ pick ! (λ r.
         split ! $ move ! (1 ∷ []) $ use1 W (raw (fact 𝓤 (Opened r))) (opened r) $ heard ! (Opened r) (λ e. split ! $ move ! (1 ∷ []) $
-        -- [what the reader owns; the token; what the bytes own; room for _3; …; _2; …; _1; …; room for _0; …]
+        -- [what the reader owns; the token; what the bytes own; room for _3; …; _2; …; _1; …; room
+        -- for _0; …]
         peeks ! (B (κ, tt)) (Is (B (κ, tt))) (shows 𝓤 H A (B (κ, tt))) r (u ∷ []) (λ is.
         land ! (from ! (stop !)) (init ! 3 refl (LL.lawful (T.the-type αᵉ) (T′.the-laws αᵉ) 𝓤 H A W .typed r _ is .0)) $
         use2 W (raw (Body 𝓤 H A mem run .pre (to-body r u))) (goes-body r u) $

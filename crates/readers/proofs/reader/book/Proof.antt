@@ -1,5 +1,8 @@
--- The slice that the reader holds is handed back: a reader is Copy, so one copy of what it owns stays for the exit and gives the result its part.
--- A part of the book, or another slice, would fall at the fact that the exit says.
+-- Function: `book` (src/reader.rt).
+-- Why it holds: The slice that the reader holds is handed back: a reader is Copy, so one copy of
+-- what it owns stays for the exit and gives the result its part.
+-- What would break it: A part of the book, or another slice, would be caught at the fact that the
+-- exit says.
 use mathlib.Core.Path.{_≡_, refl}
 use mathlib.Core.List.{[], _∷_}
 use lib.Dec.{T as Holds}

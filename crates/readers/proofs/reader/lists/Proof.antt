@@ -1,5 +1,8 @@
--- The number is read from its field, and the reader's own typing says that it fits a `u32`; the reader is seen at exit as it was passed.
--- An answer that is any other number than the field's would fall at the fact that the exit says.
+-- Function: `lists` (src/reader.rt).
+-- Why it holds: The number is read from its field, and the reader's own typing says that it fits a
+-- `u32`; the reader is seen at exit as it was passed.
+-- What would break it: An answer that is any other number than the field's would be caught at the
+-- fact that the exit says.
 use mathlib.Core.Path.{refl}
 use Prim.Native.Nat.{_<_, _^_}
 use mathlib.Core.List.{[], _∷_}

@@ -1,5 +1,8 @@
--- `over` makes the reader of the part that `kept_part` keeps and the number that `list_count` reads in it; only the contracts of the three are used.
--- A reader over all the bytes, or with the number of lists that refused bytes say, would fall at the fact that the exit says.
+-- Function: `open` (src/reader.rt).
+-- Why it holds: `over` makes the reader of the part that `kept_part` keeps and the number that
+-- `list_count` reads in it; only the contracts of the three are used.
+-- What would break it: A reader over all the bytes, or with the number of lists that refused bytes
+-- say, would be caught at the fact that the exit says.
 use mathlib.Core.Path.{_≡_, refl, ap, _∙_}
 use Prim.Native.Nat.{ℕ}
 use mathlib.Core.List.{List, [], _∷_}
@@ -110,7 +113,8 @@ module _ {M : Type 1} (𝓤 : URA M) (H : Heap 𝓤) (A : Atoms 𝓤) (W : Given
   kept : (s : RefT (List ℕ)) → ent 𝓤 (ensured 𝓤 H A keeping.ended (keeping.clauses 𝓤 H A mem run) (κ, tt) (bytes, tt) tt s) (fact 𝓤 (Kept s))
   kept s = exE 𝓤 _ (λ ws. snd∗ 𝓤 (sem 𝓤 H A (lasts keeping.ended (κ, tt) (bytes, tt) ws)) (fact 𝓤 (Kept s)))
 
-  -- the call of `list_count`, at the part s with the machine value u, of which a copy stays for the reader
+  -- the call of `list_count`, at the part s with the machine value u, of which a copy stays for the
+  -- reader
   abbrev to-count : RefT (List ℕ) → Val → Counting 𝓤 H A mem run .Ghost
   to-count s u = (((κ, tt), (q, tt), tt, (s, tt), (u ∷ [], tt)), tt)
 
@@ -168,21 +172,25 @@ module _ {M : Type 1} (𝓤 : URA M) (H : Heap 𝓤) (A : Atoms 𝓤) (W : Given
         -- [room for _3; …; room for _2; …; room for _1; …; room for _0; …; what the parameter owns]
         pass1 ! (init ! 4 refl (shr-slice-lawful 𝓤 H A W (named 0) κ u8 .typed bytes (v ∷ []) p .0)) $ pass0 ! $
         move ! (8 ∷ []) $ use1 W (raw (Keeping 𝓤 H A mem run .pre to-keep) ⊛ ‵ Own) goes-keep $ split ! $
-        -- [what the callee asks; what the bytes own; room for _3; …; room for _2; …; _1; …; room for _0; …]
+        -- [what the callee asks; what the bytes own; room for _3; …; room for _2; …; _1; …; room
+        -- for _0; …]
         calls-at ! fm (Keeping 𝓤 H A mem run) known-keep to-keep (and-then ! (load ! (from ! (stop !)) (look ! 6 refl)) (no-more !)) (λ u.
         use1 W (later (some (λ (s : RefT (List ℕ)). ((‵ (flft κ q) ⊛ ‵ ftrue) ⊛ ‵ (Slice .own s (u ∷ [])))
         ⊛ raw (ensured 𝓤 H A keeping.ended (keeping.clauses 𝓤 H A mem run) (κ, tt) (bytes, tt) tt s)))) (id⊢ 𝓤 _) $ await ! tt $ pick ! (λ s.
         split ! $ move ! (1 ∷ []) $ use1 W (raw (fact 𝓤 (Kept s))) (kept s) $ heard ! (Kept s) (λ e. split ! $ move ! (1 ∷ []) $
-        -- [what the part owns; the token; what the bytes own; room for _3; …; room for _2; …; _1; …; room for _0; …]
+        -- [what the part owns; the token; what the bytes own; room for _3; …; room for _2; …; _1;
+        -- …; room for _0; …]
         peeks ! Slice (Is Slice) (shows 𝓤 H A Slice) s (u ∷ []) (λ is.
         land ! (from ! (stop !)) (init ! 5 refl (shr-slice-lawful 𝓤 H A W erased κ u8 .typed s (u ∷ []) is .0)) $
         use2 W (raw (Counting 𝓤 H A mem run .pre (to-count s u)) ⊛ ‵ (Slice .own s (u ∷ []))) (goes-count s u) $ split ! $
-        -- [what the callee asks; what the part owns; what the bytes own; room for _3; …; _2; …; _1; …; room for _0; …]
+        -- [what the callee asks; what the part owns; what the bytes own; room for _3; …; _2; …; _1;
+        -- …; room for _0; …]
         calls-at ! fm (Counting 𝓤 H A mem run) known-count (to-count s u) (and-then ! (load ! (from ! (stop !)) (look ! 5 refl)) (no-more !)) (λ w.
         use1 W (later (some (λ (n : ℕ). ((‵ (flft κ q) ⊛ ‵ ftrue) ⊛ ‵ (u32 .own n (w ∷ [])))
         ⊛ raw (ensured 𝓤 H A counting.ended (counting.clauses 𝓤 H A mem run) (κ, tt) (s, tt) tt n)))) (id⊢ 𝓤 _) $ await ! tt $ pick ! (λ n.
         split ! $ move ! (1 ∷ []) $ use1 W (raw (fact 𝓤 (Counted s n))) (counted s n) $ heard ! (Counted s n) (λ e′. split ! $ move ! (1 ∷ []) $
-        -- [what the number owns; the token; what the part owns; what the bytes own; room for _3; …; _2; …; _1; …; room for _0; …]
+        -- [what the number owns; the token; what the part owns; what the bytes own; room for _3; …;
+        -- _2; …; _1; …; room for _0; …]
         peeks ! u32 (Is u32) (shows 𝓤 H A u32) n (w ∷ []) (λ is′.
         land ! (from ! (stop !)) (init ! 4 refl (uint-lawful 𝓤 H A W w32 .typed n _ is′ .0)) $
         use3 W (raw (Over 𝓤 H A mem run .pre (to-over s u n w))) (goes-over s u n w) $
@@ -192,7 +200,8 @@ module _ {M : Type 1} (𝓤 : URA M) (H : Heap 𝓤) (A : Atoms 𝓤) (W : Given
         use1 W (later (some (λ (r : Reader). ((‵ (flft κ q) ⊛ ‵ ftrue) ⊛ ‵ (B (κ, tt) .own r (u′ ∷ [])))
         ⊛ raw (ensured 𝓤 H A over.ended (over.clauses 𝓤 H A mem run) (κ, tt) (s, (n, tt)) tt r)))) (id⊢ 𝓤 _) $ await ! tt $ pick ! (λ r.
         split ! $ move ! (1 ∷ []) $ use1 W (raw (fact 𝓤 (Made s n r))) (made s n r) $ heard ! (Made s n r) (λ m. split ! $ move ! (1 ∷ []) $
-        -- [what the reader owns; the token; what the bytes own; _3; …; _2; …; _1; …; room for _0; …]
+        -- [what the reader owns; the token; what the bytes own; _3; …; _2; …; _1; …; room for _0;
+        -- …]
         peeks ! (B (κ, tt)) (Is (B (κ, tt))) (shows 𝓤 H A (B (κ, tt))) r (u′ ∷ []) (λ is″.
         land ! (from ! (stop !)) (init ! 9 refl (LL.lawful (D (κ, tt)) (L (κ, tt)) 𝓤 H A W .typed r _ is″ .0)) $
         returns ! (look ! 9 refl) $ forget ! 3 refl $ forget ! 5 refl $ forget ! 7 refl $ forget ! 9 refl $

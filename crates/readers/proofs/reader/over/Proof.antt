@@ -1,5 +1,8 @@
--- The slice and the number passed become the reader's fields: a `&[u8]` is Copy, so what the book owns is had for the exit and inside the reader.
--- A reader over a part of the book or another slice, or with another number than the one passed, would fall at the fact that the exit says.
+-- Function: `over` (src/reader.rt).
+-- Why it holds: The slice and the number passed become the reader's fields: a `&[u8]` is Copy, so
+-- what the book owns is had for the exit and inside the reader.
+-- What would break it: A reader over a part of the book or another slice, or with another number
+-- than the one passed, would be caught at the fact that the exit says.
 use mathlib.Core.Path.{refl}
 use Prim.Native.Nat.{ℕ, _<_, _^_}
 use mathlib.Core.List.{List, [], _∷_}

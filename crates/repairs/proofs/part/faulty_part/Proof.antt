@@ -1,6 +1,8 @@
--- The verdict is `checkTwo`'s, so the tests of its number and list pick the case of `partAt` and of
--- `placeAt`. A part of the other list, an empty one too, or one shown for another answer, falls at
--- its return.
+-- Function: `faulty_part` (src/part.rt).
+-- Why it holds: The verdict is `checkTwo`'s, so the tests of its number and list pick the case of
+-- `partAt` and of `placeAt`.
+-- What would break it: A part of the other list, an empty one too, or one shown for another answer,
+-- would be caught at its return.
 use borrow.Author.Needs.{needs}
 use mathlib.Core.Path.{_≡_, refl, ap, _∙_}
 use mathlib.Core.Logic.{_⊎_, inl, inr}

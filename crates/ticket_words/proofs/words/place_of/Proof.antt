@@ -1,5 +1,8 @@
--- The test of the number is the definition's own, and the key has the three words that follow.
--- A fresh ticket read as placed, or two numbers of the key swapped, falls at the returns.
+-- Function: `place_of` (src/words.rt).
+-- Why it holds: The test of the number is the definition's own, and the key has the three words
+-- that follow.
+-- What would break it: A fresh ticket read as placed, or two numbers of the key swapped, would be
+-- caught at the returns.
 use borrow.Author.Tests.{eq-eqb, ne-eqb}
 use Rattle.ticket_words.specs.Words.{placeOf}
 use Rattle.ticket_words.proofs.words.place_of.Statement.{statement}

@@ -1,5 +1,6 @@
--- The test of the number is the definition's own.
--- The two relations swapped fall at the returns.
+-- Function: `relation_of` (src/words.rt).
+-- Why it holds: The test of the number is the definition's own.
+-- What would break it: The two relations swapped would be caught at the returns.
 use borrow.Author.Tests.{eq-eqb, ne-eqb}
 use Rattle.ticket_words.specs.Words.{relationOf}
 use Rattle.ticket_words.proofs.words.relation_of.Statement.{statement}

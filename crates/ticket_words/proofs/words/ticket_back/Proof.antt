@@ -1,5 +1,7 @@
--- The test of the count is the definition's own.
--- Words that moved though nothing was written, or stayed though something was, fall at the returns.
+-- Function: `ticket_back` (src/words.rt).
+-- Why it holds: The test of the count is the definition's own.
+-- What would break it: Words that moved though nothing was written, or stayed though something was,
+-- would be caught at the returns.
 use borrow.Author.Needs.{needs}
 use borrow.Author.Tests.{eq-eqb, ne-eqb}
 use Rattle.ticket_words.specs.Words.{ticketBack}

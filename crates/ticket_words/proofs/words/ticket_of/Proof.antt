@@ -1,5 +1,6 @@
--- Each of the three parts is what the function of that name makes of the words.
--- A part made of another word falls at the return.
+-- Function: `ticket_of` (src/words.rt).
+-- Why it holds: Each of the three parts is what the function of that name makes of the words.
+-- What would break it: A part made of another word would be caught at the return.
 use borrow.Author.Needs.{needs}
 use Rattle.tickets.specs.Ticket.{asked, ticketAt}
 use Rattle.ticket_words.specs.Words.{ticketOf}

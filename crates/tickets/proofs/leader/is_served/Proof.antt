@@ -1,5 +1,8 @@
--- The documents are compared first and the starts only within one document, as `aboveb` does; before a fresh place stands no leader.
--- A comparison the wrong way round, or one that takes equal starts, falls at its return.
+-- Function: `is_served` (src/leader.rt).
+-- Why it holds: The documents are compared first and the starts only within one document, as
+-- `aboveb` does; before a fresh place stands no leader.
+-- What would break it: A comparison the wrong way round, or one that takes equal starts, would be
+-- caught at its return.
 use Prim.Native.Nat.{_≤_, _<_}
 use mathlib.Core.Path.{_≡_, sym}
 use mathlib.Core.Bool.{true, false}

@@ -1,6 +1,8 @@
--- Of another leader all followers lie past the place, of the place's own those after its follower;
--- each return is one case of the definition. A number one off, or a leader of another document
--- taken for the place's own, falls at its return.
+-- Function: `past_from` (src/leader.rt).
+-- Why it holds: Of another leader all followers lie past the place, of the place's own those after
+-- its follower; each return is one case of the definition.
+-- What would break it: A number one off, or a leader of another document taken for the place's own,
+-- would be caught at its return.
 use mathlib.Core.Path.{_≡_}
 use native.Mathlib.Omega.{arith}
 use borrow.Author.Needs.{needs}

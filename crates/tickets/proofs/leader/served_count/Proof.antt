@@ -1,5 +1,9 @@
--- The invariant: the search has passed k leaders, each of which stands before the leader of the place.
--- A leader passed over, or an index one off, falls at a return or at the next turn.
+-- Function: `served_count` (src/leader.rt).
+-- Why it holds: The invariant: the search has passed k leaders, each of which stands before the
+-- leader of the place.
+-- Measure: `count leaders - k`.
+-- What would break it: A leader passed over, or an index one off, would be caught at a return or at
+-- the next turn.
 use Prim.Native.Nat.{_-_}
 use mathlib.Core.Path.{sym, ap, _∙_}
 use mathlib.Core.Bool.{not}

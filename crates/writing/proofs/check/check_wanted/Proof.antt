@@ -1,5 +1,8 @@
--- Each test decides on the answer as the definition asks it: ragged entries, ragged nodes, a fault of the contents, and then the bodies alone.
--- A test out of its turn, or a fault passed over, falls at its return.
+-- Function: `check_wanted` (src/check.rt).
+-- Why it holds: Each test decides on the answer as the definition asks it: ragged entries, ragged
+-- nodes, a fault of the contents, and then the bodies alone.
+-- What would break it: A test out of its turn, or a fault passed over, would be caught at its
+-- return.
 use borrow.Author.Needs.{needs}
 use mathlib.Core.Path.{_≡_, _∙_}
 use mathlib.Core.List.{List}

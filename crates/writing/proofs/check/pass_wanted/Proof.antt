@@ -1,5 +1,9 @@
--- What is left from the place reached on is the whole, the next body starting there, and each turn passes the list that comes next.
--- A list passed over, or a body that starts elsewhere, falls at the next turn, a walk that ends too early at its return.
+-- Function: `pass_wanted` (src/check.rt).
+-- Why it holds: What is left from the place reached on is the whole, the next body starting there,
+-- and each turn passes the list that comes next.
+-- Measure: `lists - index`.
+-- What would break it: A list passed over, or a body that starts elsewhere, would be caught at the
+-- next turn, a walk that ends too early at its return.
 use borrow.Author.Needs.{needs}
 use mathlib.Core.Path.{_≡_, refl, sym, subst, ap, _∙_}
 use mathlib.Core.Logic.{inl, inr}

@@ -1,5 +1,9 @@
--- The entries still to be stored, the next body starting where the last ended, make the whole, and each turn stores the first of them.
--- An offset that doesn't move on with the bodies, or an entry stored one place off, falls at the next turn.
+-- Function: `put_contents` (src/put.rt).
+-- Why it holds: The entries still to be stored, the next body starting where the last ended, make
+-- the whole, and each turn stores the first of them.
+-- Measure: `lists - index`.
+-- What would break it: An offset that doesn't move on with the bodies, or an entry stored one place
+-- off, would be caught at the next turn.
 use borrow.Author.Needs.{needs}
 use mathlib.Core.Path.{_≡_, refl, sym, ap, _∙_}
 use mathlib.Core.List.{List, _∷_, flatMap}

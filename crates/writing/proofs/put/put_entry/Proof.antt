@@ -1,5 +1,7 @@
--- Each of the three stores is the number that comes next of those to be stored.
--- A number stored one place off, or two of them exchanged, falls at the return.
+-- Function: `put_entry` (src/put.rt).
+-- Why it holds: Each of the three stores is the number that comes next of those to be stored.
+-- What would break it: A number stored one place off, or two of them exchanged, would be caught at
+-- the return.
 use borrow.Author.Needs.{needs}
 use mathlib.Core.Path.{_≡_}
 use mathlib.Core.List.{List}

@@ -1,5 +1,9 @@
--- The words still to be stored, from where the next one goes, make the whole, and each store takes the first of them.
--- A word stored one place off falls at the next turn, a loop that ends too early at its return.
+-- Function: `put_numbers` (src/put.rt).
+-- Why it holds: The words still to be stored, from where the next one goes, make the whole, and
+-- each store takes the first of them.
+-- Measure: `length words - index`.
+-- What would break it: A word stored one place off would be caught at the next turn, a loop that
+-- ends too early at its return.
 use borrow.Author.Needs.{needs}
 use mathlib.Core.Path.{_≡_, refl, sym, ap, _∙_}
 use mathlib.Core.List.{List, _∷_, flatMap}

@@ -1,5 +1,8 @@
--- The check's own verdict refuses; what is taken has a book of just the size that is tested for, and the contents and the nodes behind them are its
--- bytes. A test of the room one byte off falls at its return, nodes written elsewhere at the last one.
+-- Function: `write_book` (src/write.rt).
+-- Why it holds: The check's own verdict refuses; what is taken has a book of just the size that is
+-- tested for, and the contents and the nodes after them are its bytes.
+-- What would break it: A test of the room one byte off would be caught at its return, nodes written
+-- elsewhere at the last one.
 use borrow.Author.Needs.{needs}
 use mathlib.Core.Path.{_≡_, refl, sym, ap, _∙_}
 use mathlib.Core.List.{List, _∷_, _++_}
@@ -62,7 +65,7 @@ module _ (entries list : List ℕ) (v : Verdict) (q : v ≡ checkWanted entries 
         let w = write-room entries list out was-taken (omega arith) in
         (e ∙ sym (w .0), sym (w .1))
 
-    -- the nodes behind the contents make the book
+    -- the nodes after the contents make the book
     book-made : (out front last : List ℕ) (lists : ℕ) → lists ≡ length entries / WANTED-WORDS → length (bytesFor entries list) ≤ length out
         → front ≡ written (wordsIn bytesOf (length (wanted entries) ∷ wordsIn entryNumbers (contentsFor (wanted entries)))) out
         → last ≡ sets front (4 * (1 + 3 * lists)) (wordsIn bytesOf list) → last ≡ written (bytesFor entries list) out
