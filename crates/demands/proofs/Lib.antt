@@ -1,5 +1,5 @@
--- What the library promises, each clause as a theorem below a comment in words. `Demands` states the
--- three demands on listings, and `Outputs` demand 1 for the other calls that write. `Marks` and
+-- What the library promises, each clause as a theorem below a comment in words. `Demands` states
+-- the three demands on listings, and `Outputs` demand 1 for the other calls that write. `Marks` and
 -- `Books` state demand 2 for numbering and for books. `Pieces` is the rule for lists that are cut
 -- into pieces, and `Promised` what else is promised.
 pub mod Demands

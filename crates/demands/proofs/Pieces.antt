@@ -88,8 +88,8 @@ module _ (relation : Relation) where
       → pairsOf (asked relation Ancestor) (whole as′) descendants ≡ piecePairs (asked relation Ancestor) as′ (descendants ∷ [])
   ancestors-piece-by-piece as′ descendants no-cut = in-ancestor-order relation as′ descendants no-cut
 
-  -- The first n pairs of the whole past one place come from the pieces in turn: the first n of the
-  -- first piece, then as many of the second as still fit, and so on:
+  -- The first n pairs of the whole past one place come from the pieces in turn, from each as many
+  -- as still fit:
   module _ (place : Spot) (n : ℕ) where
     -- in descendant order of the descendants' pieces,
     pub descendants-page-by-page : (ancestors : List ℕ) (ds : List (List ℕ)) → All WholeNodes ds
@@ -125,7 +125,7 @@ module _ (relation : Relation) where
 -- The check of one list. Each piece has whole nodes, and no more of them than a call takes.
 module _ (ws : List (List ℕ)) (fit : All Fits ws) where
   -- The whole list draws none of the answers 3 to 7 exactly when each piece is taken and any two
-  -- pass: they are taken together, and each node of the later stands after each of the earlier.
+  -- pass. Two pass if they are taken together and the later one's nodes stand after the earlier's.
   pub pieces-checked : DrawsNone (whole ws) ↔ (All Taken ws × EveryTwo (λ v w. TakenTogether v w × StandsAfter w v) ws)
   pieces-checked = whole-checked ws fit
 
@@ -156,14 +156,14 @@ module _ (v w : List ℕ) (v-taken : Taken v) (w-taken : Taken w) where
 
 -- Two lists, both cut into pieces.
 module _ (as′ ds : List (List ℕ)) where
-  -- No two nodes of the whole lists are at odds exactly when no node of an ancestor piece is at odds
-  -- with a node of a descendant piece.
+  -- No two nodes of the whole lists are at odds exactly when no node of an ancestor piece is at
+  -- odds with a node of a descendant piece.
   pub pieces-agree : All WholeNodes as′ → All WholeNodes ds
       → (jointb (nodes (whole as′)) (nodes (whole ds)) ≡ false) ↔ All (λ a. All (λ d. jointb (nodes a) (nodes d) ≡ false) ds) as′
   pieces-agree no-ancestor-cut no-descendant-cut = whole-agrees as′ ds no-ancestor-cut no-descendant-cut
 
-  -- So the whole lists draw none of the answers 3 to 8 exactly when the pieces of each pass as above
-  -- and each ancestor piece is taken together with each descendant piece.
+  -- So the whole lists draw none of the answers 3 to 8 exactly when the pieces of each pass, and
+  -- each ancestor piece is taken together with each descendant piece.
   pub both-lists-checked : All Fits as′ → All Fits ds
       → (DrawsNone (whole as′) × DrawsNone (whole ds) × (jointb (nodes (whole as′)) (nodes (whole ds)) ≡ false))
       ↔ (PiecesPass as′ × PiecesPass ds × All (λ a. All (λ d. TakenTogether a d) ds) as′)

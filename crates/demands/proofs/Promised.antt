@@ -1,6 +1,6 @@
 -- What else is promised: of one list, of the forest, of a book's answers, of the printing program
--- and of the C interface. Each clause is a comment in words and the theorem that says it, which only
--- cites its proof. A change that broke one would be caught here.
+-- and of the C interface. Each clause is a comment in words and the theorem that says it, which
+-- only cites its proof. A change that broke one would be caught here.
 use mathlib.Core.Path.{_≡_}
 use mathlib.Core.Logic.{_↔_, _⊎_}
 use mathlib.Core.Bool.{true, false, cond, _&&_}
@@ -114,7 +114,7 @@ pub writing-is-never-long : (entries list : List ℕ) → checkWanted entries li
 writing-is-never-long entries list = wanted-never-long entries list
 
 -- The printing program. Pages of a book's first two lists, from a fresh ticket until one is done,
--- make what is to be printed: their lines one after the other, and then their number.
+-- make what is to be printed: their lines, and then the number of pairs.
 module _ (book : List ℕ) (good : printedAnswer book ≡ TAKEN) (cs : List Call) (c : Call) (one : c .ancestors ≡ listAt book 0)
     (two : c .descendants ≡ listAt book 1) (same : All (λ k. SameLists k c) cs) where
   abbrev first : Ticket
