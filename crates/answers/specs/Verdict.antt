@@ -7,7 +7,7 @@ use Rattle.answers.specs.declared.verdict.Counted.{Counted}
 use Rattle.answers.specs.declared.verdict.Verdict.{Verdict}
 use Rattle.answers.specs.Answer.{TAKEN}
 
--- the list that an answer names; an answer that isn't one list's own names the ancestors
+-- the list that an answer names; where no single list is at fault, that is the ancestors
 abbrev pub ANCESTORS : ℕ
 ANCESTORS = 0
 
@@ -22,7 +22,7 @@ verdict answer list index = record { answer = answer; list = list; index = index
 abbrev pub taken : Verdict
 taken = verdict TAKEN ANCESTORS 0
 
--- whether the verdict is a refusal: its answer is another than TAKEN
+-- whether the verdict is a refusal: its answer isn't TAKEN
 unfoldable pub refusedb : Verdict → Bool
 refusedb v = not (eqb (v .answer) TAKEN)
 

@@ -6,7 +6,7 @@ use crate::verdict::Verdict;
 ghost use mathlib.Core.Path.{_≡_};
 ghost use Rattle.answers.specs.Verdict.{ANCESTORS, verdict, taken, counted};
 
-// Returns `answer` as a call gives it that wrote nothing and blames no node.
+// Returns `answer` for a call that wrote nothing, where no node is at fault.
 pub fn wrote_nothing(answer: u32) -> Counted
     ensures { λ r. ⌜ r ≡ counted (verdict answer ANCESTORS 0) 0 ⌝ }
 {

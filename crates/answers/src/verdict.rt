@@ -23,7 +23,7 @@ pub struct Counted {
     pub count: usize,
 }
 
-// Returns the verdict of an `answer` that blames no node: it names list 0 and index 0.
+// Returns `answer` as a verdict that points at no node: it names list 0 and index 0.
 pub fn without_node(answer: u32) -> Verdict
     ensures { λ r. ⌜ r ≡ verdict answer ANCESTORS 0 ⌝ }
 {

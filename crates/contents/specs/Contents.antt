@@ -14,8 +14,8 @@ use Rattle.contents.specs.declared.entry.Entry.{Entry}
 abbrev pub MOST-LISTS : ℕ
 MOST-LISTS = 16
 
--- an entry of the contents: a list's tag, the offset of its body from the book's first byte, and
--- its node count
+-- an entry of the contents: a list's tag, where its body starts in the book, and how many nodes it
+-- has
 abbrev pub entry : ℕ → ℕ → ℕ → Entry
 entry tag offset count = record { tag = tag; offset = offset; count = count }
 
@@ -63,8 +63,8 @@ ascendb [] = true
 ascendb (e ∷ []) = true
 ascendb (e ∷ f ∷ es) = ltb (e .tag) (f .tag) && ascendb (f ∷ es)
 
--- the first body starts at `at`, each next one where the last ended, and the book of `size` bytes
--- ends with the last
+-- the bodies lie one right after the other from byte `at` on, up to the end of the book's `size`
+-- bytes
 unfoldable pub laidb : ℕ → List Entry → ℕ → Bool
 laidb at [] size = eqb at size
 laidb at (e ∷ es) size = eqb (e .offset) at && laidb (at + NODE-BYTES * e .count) es size

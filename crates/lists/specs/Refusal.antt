@@ -37,8 +37,8 @@ pub data Faulty (words : List ℕ) : Type 0 where
   cross : (e n : Node) → Follows e n (nodes words) → e .document ≡ n .document → n .start ≤ e .end → insideb n e ≡ false → Faulty words
   depth : (e n : Node) → Follows e n (nodes words) → insideb n e ≡ true → n .level ≤ e .level → Faulty words
 
--- JOINT: a node of one list and a node of the other, of one document, are neither identical, nor
--- apart, nor one inside the other with a higher level
+-- JOINT: two nodes of one document, one from each list, differ, aren't apart, and neither is nested
+-- in the other
 pub record AtOdds (xs ys : List Node) : Type 0 where
   pub x : Node
   pub y : Node
