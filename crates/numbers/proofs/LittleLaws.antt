@@ -85,7 +85,7 @@ bytes-of-number a b c d p q r s =
       digit d 0 (n / 16777216) s (omega arith),
     )
 
--- and so are lists of numbers and of bytes
+-- the same holds of lists of numbers and of bytes
 pub numbers-of-bytes : (ns : List ℕ) → All (λ n. n < 4294967296) ns → numbers (wordsIn bytesOf ns) ≡ ns
 unfolding numbers wordsIn flatMap bytesOf
 numbers-of-bytes [] h = refl

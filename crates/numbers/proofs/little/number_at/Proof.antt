@@ -1,6 +1,6 @@
 -- Function: `number_at` (src/little.rt).
--- Why it holds: For an index below the number of numbers, the four bytes from `NUMBER_BYTES *
--- index` on are the number's. For any other index the definition gives 0.
+-- Why it holds: For an index below the number of numbers, the four bytes that start at
+-- `NUMBER_BYTES * index` are the number's. For any other index the definition gives 0.
 -- What would break it: A byte one off would be caught at the last return, and an index too large at
 -- a call's requirement.
 use borrow.Author.Needs.{needs}
