@@ -1,3 +1,3 @@
-// What the printing program does with a book.
+// Prints what the program prints of a book.
 mod pages;
 pub mod print;

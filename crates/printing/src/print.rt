@@ -1,4 +1,4 @@
-// What is printed of a book.
+// Prints a book.
 use crate::pages::print_pages;
 use crate::pages::print_refusal;
 use answers::answer::ABSENT;
@@ -40,8 +40,8 @@ fn print_lists(book: &[u8], lists: u32) -> u32
 }
 
 // Joins the first list of a book with the second and prints the pairs on standard output, inside
-// and in descendant order, a line each, and then their number; or one line that says why not.
-// Returns the answer.
+// and in descendant order, a line each. Then it prints their number; or it prints one line that
+// says why nothing is listed. Returns the answer.
 pub fn print_book(book: &[u8]) -> u32
     ensures { λ r. ⌜ r ≡ printedAnswer (now (book .entry)) ⌝ }
 {
