@@ -37,7 +37,7 @@ pub put-parted : {before : List ℕ} {at : ℕ} {after : List ℕ} {to : ℕ} (u
     → (vs : List ℕ) {after′ : List ℕ} {to′ : ℕ} → (to′ ≡ to + length vs) × (after′ ≡ sets after to vs) → Put before at (us ++ a ∷ vs) after′ to′
 put-parted {before} {at} us a p vs {after′} {to′} e = subst (λ ws. Put before at ws after′ to′) (append-snoc us a vs) (put-next p vs e)
 
--- a byte that a text doesn't reach may be put before the text or after it
+-- a text and what lies after it may be stored in either order
 set-apart : (ws : List ℕ) (at : ℕ) (us : List ℕ) (next v : ℕ) → at + length us ≤ next → sets (set ws next v) at us ≡ set (sets ws at us) next v
 set-apart ws at [] next v h = refl
 set-apart ws at (u ∷ us) next v h =

@@ -42,7 +42,8 @@ struct Lines {
     bytes: usize,
 }
 
-// What was printed of a listing: the answer, whether all pairs were printed, and their number if so.
+// What was printed of a listing: the answer, whether all pairs were printed, and if so their
+// number.
 struct Printed {
     answer: u32,
     count: u64,

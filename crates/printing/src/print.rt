@@ -39,9 +39,9 @@ fn print_lists(book: &[u8], lists: u32) -> u32
     print_pages(&first[0..words], &second[0..more])
 }
 
-// Joins the first list of a book with the second and prints the pairs on standard output, inside
-// and in descendant order, a line each. Then it prints their number; or it prints one line that
-// says why nothing is listed. Returns the answer.
+// Joins the first list of a book with the second, relation inside, in descendant order. Prints a
+// line for each pair on standard output and then their number, or on refusal the one line that says
+// why. Returns the answer.
 pub fn print_book(book: &[u8]) -> u32
     ensures { λ r. ⌜ r ≡ printedAnswer (now (book .entry)) ⌝ }
 {

@@ -45,7 +45,7 @@ pub length-contents : (ws : List Wanted) → length (wordsIn entryNumbers (conte
 unfolding contentsFor entryNumbers
 length-contents ws = length-items entryNumbers 3 (λ e. refl) (contentsFor ws) ∙ ap (λ k. 3 * k) (length-laid (contentsEnd (length ws)) ws)
 
--- what it says of the first body and of the later ones that bodies lie one after the other
+-- where bodies lie one after the other, the first starts at the place `at` and the others after it
 pub laid-first : (at : ℕ) (e : Entry) (es : List Entry) (size : ℕ) → laidb at (e ∷ es) size ≡ true
     → (e .offset ≡ at) × (laidb (at + NODE-BYTES * e .count) es size ≡ true)
 unfolding laidb

@@ -1,6 +1,6 @@
 -- Function: `elder_of` (src/climb.rt).
 -- Why it holds: At each turn `elder` was passed on the way up, and `parent` is its parent.
--- Measure: `elder`, which falls with each turn because a parent comes before its child.
+-- Measure: `elder`, which is less at each turn because a parent comes before its child.
 -- What would break it: A way that starts too high or skips a parent would be caught at the loop.
 -- One that stops at a node that ended before this one would be caught at a return.
 use borrow.Author.Needs.{needs}

@@ -1,5 +1,5 @@
 -- Function: `reads_back` (src/unnumber.rt).
--- Why it holds: The rows left read back from the position exactly where all rows do.
+-- Why it holds: At each turn the rows left read back from the position exactly if all rows do.
 -- Measure: `position`, the marks still to step back over.
 -- What would break it: A mark passed that doesn't fit, or a walk that ends with a row or an element
 -- left, would be caught at its return.
