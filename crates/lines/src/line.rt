@@ -1,4 +1,4 @@
-// Puts the lines themselves.
+// Puts each kind of line into a text.
 use crate::text::TABLE_BYTES;
 use crate::text::TWO_DIGITS;
 use crate::text::put_byte;

@@ -1,3 +1,3 @@
-// Prints what the program prints of a book.
+// Prints the pairs of a book's first two lists.
 mod pages;
 pub mod print;

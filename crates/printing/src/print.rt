@@ -1,4 +1,4 @@
-// Prints a book.
+// Checks a book and prints the pairs of its first two lists.
 use crate::pages::print_pages;
 use crate::pages::print_refusal;
 use answers::answer::ABSENT;

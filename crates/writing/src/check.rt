@@ -29,7 +29,7 @@ ghost use Rattle.books.specs.Book.{checkBodies};
 ghost use Rattle.writing.specs.Wanted.{WANTED-WORDS, wanted, contentsFor, bodiesFor, wantedFault};
 ghost use Rattle.writing.specs.WriteCall.{checkWanted};
 
-// Walks along the contents that the book will have, where each body starts where the last one ends.
+// Walks along the contents that the book will have: each body starts where the last one ends.
 // Returns the place after them, or the first refusal.
 fn pass_wanted(entries: &[u32]) -> Step
     requires { ⌜ length (now entries) / WANTED-WORDS ≤ MOST-LISTS ⌝ }
