@@ -67,7 +67,7 @@ fn put_texts(words: &mut [u32]) {
     let count = node_count(words);
     let mut place = 0;
     let mut index = 0;
-    // Rests on arithmetic alone: putting a node keeps the number of words.
+    // Rests on arithmetic alone: `words` keeps its length, so each turn has room for a node.
     while index < count {
         let text = Node {
             document: 5,

@@ -14,8 +14,7 @@ pub remains-append : {A : Type 0} (key : A → List ℕ) (place : Spot) (xs ys :
 unfolding remains
 remains-append key place xs ys = keep-append (λ x. pastb place (key x)) xs ys
 
--- applying a function to the place reached is reaching the place with the function applied to each
--- mark
+-- a function of the place reached is the place reached with that function applied to every mark
 pub reached-map : {A P Q : Type 0} (f : P → Q) (mark : A → P) (place : P) (xs : List A)
     → f (reached mark place xs) ≡ reached (λ x. f (mark x)) (f place) xs
 unfolding reached

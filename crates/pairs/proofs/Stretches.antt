@@ -167,7 +167,7 @@ module _ (order : Order) (x : Node) (ws : List ℕ) (from to m fit : ℕ) (p : P
       (omega (arith, length-drop (from / 4) (nodes ws), length-nodes ws)) f t g)
       (ap (λ k. take k (drop (from / 4) (nodes ws))) w)
 
--- all nodes start from 0 on, so the first one does
+-- every node starts at 0 or later, so the search finds the first
 pub first-zero : (ns : List Node) → firstAt (startsFrom 0) ns ≡ 0
 unfolding firstAt
 first-zero [] = refl

@@ -28,8 +28,8 @@ ghost use Rattle.tickets.specs.Ticket.{asked};
 ghost use Rattle.pairs.specs.Private.Sweep.{Placed, stretch, fromStart, servedGroup, servedAll};
 
 // Returns the word of `stack` from which on the ancestors have the relation with `descendant`,
-// which lies inside all of them. Directly inside it can only lie in the innermost, as the levels
-// rise towards it.
+// which lies inside all of them. It can lie directly inside only the innermost, as the levels rise
+// towards it.
 fn first_match(relation: Relation, stack: &[u32], used: usize, descendant: Node) -> usize
     requires { ⌜ Placed (now stack) used × Chain (opened used (now stack)) × Upon descendant (opened used (now stack)) ⌝ }
     ensures { λ r. ⌜ (r % NODE-WORDS ≡ 0) × (r ≤ used)

@@ -128,7 +128,8 @@ together ws t c h =
     pairs-passed (λ w. Taken w × HasNode w) TakenTogether ws (all-both (λ w a b. (a, b)) ws t c)
     (every-two-map (λ v w k a b. ⊎-elim (λ l. lower-taken v w (documents-part v w (a .0) (b .0) (a .1) (b .1) l) (a .0) (b .0)) (λ x. x) k) ws h)
 
--- so it is enough to check each piece, the borders, and any two pieces whose documents may meet
+-- so the whole draws none of the answers 3 to 7 exactly when each piece, the borders, and any two
+-- pieces whose documents may meet pass their checks
 pub borders-checked : (ws : List (List ℕ)) → All Fits ws → All HasNode ws → DrawsNone (whole ws) ↔ (All Taken ws
     × EachNext (λ v w. StartsAfter w v) ws
     × EveryTwo (λ v w. (lastNode v .document < firstNode w .document) ⊎ TakenTogether v w) ws)

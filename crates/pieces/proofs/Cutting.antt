@@ -67,7 +67,8 @@ all-pieces P (w ∷ ws) = (
   λ h. all-append P (nodes w) (pieceNodes ws) (h .0) (all-pieces P ws .1 (h .1)),
 )
 
--- what holds of each node of a piece and every node of the later pieces
+-- what holds of each node of a piece and every node of the later pieces holds across the piece and
+-- each later one, and the other way round
 module _ (R : Node → Node → Type 0) (w : List ℕ) (ws : List (List ℕ)) where
   pub to-later : All (λ e. All (R e) (pieceNodes ws)) (nodes w) → All (Across R w) ws
   to-later h = all-turned (λ e v. All (R e) (nodes v)) (nodes w) ws (all-map (λ e k. all-pieces (R e) ws .0 k) (nodes w) h)

@@ -89,8 +89,8 @@ runningb descendants a k = ltb k (count descendants) && openb (nodeAt descendant
 abbrev pub runEnd : List ℕ → Node → ℕ → ℕ
 runEnd descendants a from = firstAt (λ d. not (openb d a)) (drop from (nodes descendants)) + from
 
--- The ancestor is open at every descendant up to the later place `to`. So its run ends at the same
--- descendant from there on as from here on.
+-- The ancestor is open at every descendant from the place `from` up to the later place `to`. So a
+-- search for the end of its run finds the same from either place.
 abbrev pub Further : List ℕ → Node → ℕ → ℕ → Type 0
 Further descendants a from to =
     (to % NODE-WORDS ≡ 0) × (from ≤ to) × Running descendants a (to / NODE-WORDS)
