@@ -2,12 +2,11 @@
 -- and that byte parts them.
 -- What would break it: A line longer than its room, or a field in another's place, would be caught
 -- here.
-use mathlib.Core.Path.{_≡_, sym, subst}
+use mathlib.Core.Path.{sym, subst}
 use mathlib.Core.List.{List, [], _∷_, _++_, append-assoc}
 use Prim.Native.Nat.{ℕ, _+_, _≤_, _<_}
 use native.Mathlib.Omega.{arith}
 use lib.ListN.{length, length-append}
-use lib.Seq.{sets}
 use Rattle.nodes.specs.declared.node.Node.{Node}
 use Rattle.lines.specs.Line.{BLANK, LINE-FEED, LINE-BYTES, decimal, pairWith, pairLine}
 use Rattle.lines.proofs.Digits.{digits-32, digits-64}

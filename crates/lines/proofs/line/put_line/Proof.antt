@@ -3,13 +3,10 @@
 -- there is room.
 -- What would break it: A field of another number, or one left out, would be caught at the return.
 use borrow.Author.Needs.{needs}
-use mathlib.Core.Path.{_≡_}
 use mathlib.Core.List.{List, [], _∷_, _++_}
 use Prim.Native.Nat.{ℕ, _+_}
 use native.Mathlib.Omega.{arith}
 use denote.Ref.{now}
-use lib.ListN.{length}
-use lib.Seq.{sets}
 use Rattle.nodes.specs.declared.node.Node.{Node}
 use Rattle.lines.specs.Line.{BLANK, LINE-FEED, decimal, pairWith, pairLine}
 use Rattle.lines.proofs.Digits.{digits-32}

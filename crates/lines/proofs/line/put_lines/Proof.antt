@@ -11,11 +11,10 @@ use Prim.Native.Nat.{ℕ, _+_, _*_, _-_, _/_, _≤_, _<_, zero-le}
 use native.Mathlib.Omega.{arith}
 use denote.Ref.{now}
 use lib.ListN.{length}
-use lib.Seq.{sets, length-sets}
+use lib.Seq.{length-sets}
 use borrow.Author.Tests.{ltb-true, ltb-false}
 use Rattle.nodes.specs.declared.node.Node.{Node}
 use Rattle.nodes.specs.Words.{count, nodeAt}
-use Rattle.answers.specs.Output.{written}
 use Rattle.lines.specs.Line.{LINE-BYTES, pairWith, pairLine, linesFor}
 use Rattle.lines.proofs.Putting.{Put, Told, Begins, put-next, put-written}
 use Rattle.lines.proofs.PairLines.{firstLines, lines-none, lines-more, lines-fit, lines-all}

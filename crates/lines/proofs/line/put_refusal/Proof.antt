@@ -9,10 +9,8 @@ use Prim.Native.Nat.{ℕ, _+_, _<_}
 use native.Mathlib.Omega.{arith}
 use denote.Ref.{now}
 use lib.ListN.{length}
-use lib.Seq.{sets}
 use Rattle.answers.specs.Answer.{padded, nameOf, letterAt}
 use Rattle.laws.specs.Choose.{keep}
-use Rattle.answers.specs.Output.{written}
 use Rattle.lines.specs.Line.{BLANK, LINE-FEED, decimal, word, unfilled, refusalLine}
 use Rattle.lines.proofs.Blanks.{unfilled-few}
 use Rattle.lines.proofs.Digits.{digits-32}
