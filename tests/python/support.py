@@ -8,7 +8,7 @@ from pathlib import Path
 
 ROOT = Path(__file__).resolve().parents[2]
 PYTHON = ROOT / "bindings" / "python"
-sys.path[:0] = [str(PYTHON), str(ROOT / "examples")]
+sys.path[:0] = [str(PYTHON), str(ROOT / "tests" / "oracles"), str(ROOT / "examples")]
 
 import make_books as model  # noqa: E402
 from belfrychest import NONE, TEXT, Answer, Order, Relation, Ticket, Verdict  # noqa: E402
@@ -61,7 +61,7 @@ BOOK = model.FIGURE
 INSIDE = Ticket.fresh(relation=Relation.INSIDE, order=Order.DESCENDANT)
 
 
-# What examples/make_books.py has not: listings, numbering and links, naively.
+# What tests/oracles/make_books.py has not: listings, numbering and links, naively.
 
 def key(pair, order):
     (document, ancestor, *_), (_, descendant, *_) = pair

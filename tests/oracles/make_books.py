@@ -1,7 +1,7 @@
 #!/usr/bin/env python3
 """Makes the sample books, the books that the figures are run on, and what is printed of each.
 
-Run it in the repository's root: python3 examples/make_books.py
+Run it in the repository's root: python3 tests/oracles/make_books.py
 
 The books are put together number by number, and what they answer is worked out here from the scope's words alone, naively
 and pair by pair: nothing of the library is called. So the stored outputs say what the program has to print, and not what it printed.
