@@ -1,4 +1,4 @@
-"""What the tests share: the scope's figures, random lists, and a naive model of its words."""
+"""What the tests share: the scope's figures, random lists, and the naive model of tests/oracles."""
 import os
 import subprocess
 import sys
@@ -10,7 +10,8 @@ ROOT = Path(__file__).resolve().parents[2]
 PYTHON = ROOT / "bindings" / "python"
 sys.path[:0] = [str(PYTHON), str(ROOT / "tests" / "oracles"), str(ROOT / "examples")]
 
-import make_books as model  # noqa: E402
+import figure_books  # noqa: E402
+import scope as model  # noqa: E402
 from belfrychest import NONE, TEXT, Answer, Order, Relation, Ticket, Verdict  # noqa: E402
 
 LISTINGS = [{"relation": relation, "order": order} for relation in Relation for order in Order]
@@ -57,87 +58,24 @@ TABLE = words([
 Z = in_five((2, 10, 2), (3, 7, 3))
 S = in_five((4, 6, 4), (8, 9, 3))
 ENTRIES = array("I", [2, 2, 3, 2])
-BOOK = model.FIGURE
+BOOK = figure_books.FIGURE
 INSIDE = Ticket.fresh(relation=Relation.INSIDE, order=Order.DESCENDANT)
 
 
-# What tests/oracles/make_books.py has not: listings, numbering and links, naively.
+# The model of tests/oracles, in the binding's terms.
 
 def key(pair, order):
-    (document, ancestor, *_), (_, descendant, *_) = pair
-    ancestor_first = order == Order.ANCESTOR
-    return (document, *((ancestor, descendant) if ancestor_first else (descendant, ancestor)))
+    return model.key(pair, order.name.lower())
 
 
 def listing(ancestors, descendants, relation, order):
-    related = [
-        (x, y) for x in ancestors for y in descendants
-        if model.inside(y, x) and (relation == Relation.INSIDE or y[3] == x[3] + 1)
-    ]
-    return sorted(related, key=lambda pair: key(pair, order))
+    return model.listing(ancestors, descendants, relation.name.lower(), order.name.lower())
 
 
 def two_lists(ancestors, descendants):
-    for number, nodes in enumerate((ancestors, descendants)):
-        answer, index = model.check_list(nodes)
-        if answer != "TAKEN":
-            return Verdict(Answer[answer], number, index)
-    joint = any(model.odds(x, y) for x in ancestors for y in descendants)
-    return Verdict(Answer.JOINT if joint else Answer.TAKEN)
-
-
-def mark_fault(mark, begun, depth):
-    if mark > 65536:
-        return "MARK"
-    if depth == 0 and (mark == 0 or mark == 65536 or begun):
-        return "STRAY"
-    return "DEEP" if mark > 0 and depth == 64 else None
-
-
-def numbered(document, marks):
-    rows, opened = [], []
-    for position, mark in enumerate(marks, 1):
-        fault = mark_fault(mark, bool(rows), len(opened))
-        if fault:
-            return fault, []
-        if mark == 0:
-            rows[opened.pop()][2] = position
-            continue
-        rows.append([document, position, position, len(opened) + 1, mark])
-        if mark < 65536:
-            opened.append(len(rows) - 1)
-    return ("UNCLOSED", []) if opened or not rows else ("TAKEN", [tuple(row) for row in rows])
-
-
-def unnumbered(rows):
-    """The only marks that could have this table are tried."""
-    length = rows[0][2] if rows else 0
-    if length > 4096 or any(not 1 <= row[1] <= length for row in rows):
-        return "TABLE", []
-    marks = [0] * length
-    for row in rows:
-        marks[row[1] - 1] = row[4]
-    same = numbered(rows[0][0] if rows else 0, marks) == ("TAKEN", rows)
-    return ("TAKEN", marks) if same else ("TABLE", [])
-
-
-def parent(nodes, index):
-    around = (j for j, x in enumerate(nodes) if model.inside(nodes[index], x))
-    return max(around, key=lambda j: nodes[j][3], default=NONE)
-
-
-def forest(nodes):
-    everyone = range(len(nodes))
-    parents = [parent(nodes, i) for i in everyone]
-
-    def sibling(i, j):
-        return j > i and parents[j] == parents[i] and nodes[j][0] == nodes[i][0]
-
-    return [
-        (parents[i], min((j for j in everyone if parents[j] == i), default=NONE),
-         min((j for j in everyone if sibling(i, j)), default=NONE))
-        for i in everyone
-    ]
+    answer, number, index = model.check_two(words(ancestors), words(descendants))
+    placed = Answer.LEVEL <= Answer[answer] <= Answer.DEPTH
+    return Verdict(Answer[answer], *((number, index) if placed else ()))
 
 
 # Random marks and lists.
@@ -153,7 +91,7 @@ def random_marks(rng, length):
 
 def random_tree(rng, length=10, documents=(5, 6)):
     """The nodes of some documents, as (document, start, end, level)."""
-    tables = (numbered(document, random_marks(rng, rng.randint(0, length)))[1]
+    tables = (model.number(document, random_marks(rng, rng.randint(0, length)))[1]
               for document in documents)
     return [row[:4] for table in tables for row in table]
 

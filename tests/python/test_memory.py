@@ -8,7 +8,8 @@ from mmap import mmap
 from types import SimpleNamespace
 
 from support import (
-    BOOK, ENTRIES, INSIDE, MARKS, PAINT, S, TABLE, Z, in_five, model, painted, starts, words,
+    BOOK, ENTRIES, INSIDE, MARKS, PAINT, S, TABLE, Z, figure_books, in_five, painted, starts,
+    words,
 )
 
 import belfrychest as belfry
@@ -152,7 +153,7 @@ class Memory(unittest.TestCase):
                 self.assertEqual((lent.address, lent.length), expected)
 
     def test_no_call_copies_a_list(self):
-        nodes = words(model.siblings(belfry.MOST, 2))
+        nodes = words(figure_books.siblings(belfry.MOST, 2))
         book = belfry.book_write(array("I", [2, belfry.MOST]), nodes)
         out = painted(8)
         for call in (
