@@ -29,8 +29,7 @@ static struct notes expected, found;
 static uint32_t out[MOST_PAIRS * BELFRY_PAIR_WORDS];
 static unsigned long seen[ANSWERS];
 
-static void note(struct notes *notes, uint64_t number)
-{
+static void note(struct notes *notes, uint64_t number) {
     if (notes->count == MOST_NOTES) {
         fprintf(stderr, "agree: a case with too many answers\n");
         exit(2);
@@ -38,8 +37,7 @@ static void note(struct notes *notes, uint64_t number)
     notes->note[notes->count++] = number;
 }
 
-static void note_verdict(struct notes *notes, belfry_verdict v)
-{
+static void note_verdict(struct notes *notes, belfry_verdict v) {
     if (notes == &expected && v.answer < ANSWERS)
         seen[v.answer]++;
     note(notes, v.answer);
@@ -48,22 +46,19 @@ static void note_verdict(struct notes *notes, belfry_verdict v)
 }
 
 /* The output before a call; some words after its end are part of it, which no call may alter. */
-static void clear_out(size_t words)
-{
+static void clear_out(size_t words) {
     for (size_t i = 0; i < words + BELFRY_PAIR_WORDS; i++)
         out[i] = 0xa5a5a5a5 + i;
 }
 
-static void note_out(struct notes *notes, size_t words)
-{
+static void note_out(struct notes *notes, size_t words) {
     uint64_t sum = 14695981039346656037u;
     for (size_t i = 0; i < words + BELFRY_PAIR_WORDS; i++)
         sum = (sum ^ out[i]) * 1099511628211u;
     note(notes, sum);
 }
 
-static void note_ticket(struct notes *notes, belfry_ticket t)
-{
+static void note_ticket(struct notes *notes, belfry_ticket t) {
     note(notes, t.relation);
     note(notes, t.order);
     note(notes, t.placed);
@@ -72,8 +67,7 @@ static void note_ticket(struct notes *notes, belfry_ticket t)
     note(notes, t.second);
 }
 
-static void note_checks(struct notes *notes, const struct code *code, const struct input *in)
-{
+static void note_checks(struct notes *notes, const struct code *code, const struct input *in) {
     belfry_verdict one = code->check(in->ancestors, in->ancestor_words);
     belfry_verdict other = code->check(in->descendants, in->descendant_words);
     belfry_verdict two =
@@ -85,8 +79,7 @@ static void note_checks(struct notes *notes, const struct code *code, const stru
 
 /* Page after page with one room, from a ticket on, until one is done or nothing is written. */
 static void note_pages(struct notes *notes, const struct code *code, const struct input *in,
-                       belfry_ticket ticket, size_t room_words)
-{
+                       belfry_ticket ticket, size_t room_words) {
     belfry_page page;
     do {
         clear_out(room_words);
@@ -101,8 +94,7 @@ static void note_pages(struct notes *notes, const struct code *code, const struc
     } while (!page.done && page.count > 0);
 }
 
-static void note_listings(struct notes *notes, const struct code *code, const struct input *in)
-{
+static void note_listings(struct notes *notes, const struct code *code, const struct input *in) {
     for (uint32_t kind = 0; kind < 4; kind++) {
         belfry_ticket fresh = BELFRY_TICKET(kind & 1, kind >> 1);
         belfry_ticket made_up = in->ticket;
@@ -114,15 +106,13 @@ static void note_listings(struct notes *notes, const struct code *code, const st
     }
 }
 
-static void note_written(struct notes *notes, belfry_result result, size_t room_words)
-{
+static void note_written(struct notes *notes, belfry_result result, size_t room_words) {
     note_verdict(notes, result.verdict);
     note(notes, result.count);
     note_out(notes, room_words);
 }
 
-static void note_others(struct notes *notes, const struct code *code, const struct input *in)
-{
+static void note_others(struct notes *notes, const struct code *code, const struct input *in) {
     for (size_t i = 0; i < 2; i++) {
         clear_out(in->rooms[i]);
         note_written(notes, code->links(in->ancestors, in->ancestor_words, out, in->rooms[i]),
@@ -140,8 +130,7 @@ static void note_others(struct notes *notes, const struct code *code, const stru
     note(notes, body.bytes);
 }
 
-static void note_all(struct notes *notes, const struct code *code, const struct input *in)
-{
+static void note_all(struct notes *notes, const struct code *code, const struct input *in) {
     notes->count = 0;
     note_checks(notes, code, in);
     note_listings(notes, code, in);
@@ -149,8 +138,7 @@ static void note_all(struct notes *notes, const struct code *code, const struct 
 }
 
 /* Runs a case on all codes, and ends where one differs from the archive. */
-static void compare(const struct input *in, const char *name, unsigned long number)
-{
+static void compare(const struct input *in, const char *name, unsigned long number) {
     note_all(&expected, &codes[0], in);
     for (size_t i = 1; i < CODES; i++) {
         note_all(&found, &codes[i], in);
@@ -167,8 +155,7 @@ static void compare(const struct input *in, const char *name, unsigned long numb
 }
 
 /* A random number below a limit. */
-static uint32_t below(uint32_t limit)
-{
+static uint32_t below(uint32_t limit) {
     static uint64_t state = 2026;
     return random_number(&state) % limit;
 }
@@ -177,6 +164,7 @@ enum {
     MOST_SMALL = 24,
     SMALL_MARKS = 200,
     SMALL_LISTS = 2,
+    SMALL_NODES = SMALL_LISTS * MOST_SMALL,
     CONTENTS_BYTES = BELFRY_BOOK_BYTES(SMALL_LISTS, 0)
 };
 
@@ -184,12 +172,11 @@ enum {
 struct small {
     size_t words[SMALL_LISTS], marks, bytes;
     uint32_t list[SMALL_LISTS][BELFRY_NODE_WORDS * MOST_SMALL], mark[SMALL_MARKS];
-    uint8_t book[BELFRY_BOOK_BYTES(SMALL_LISTS, SMALL_LISTS * MOST_SMALL) + 1];
+    uint8_t book[BELFRY_BOOK_BYTES(SMALL_LISTS, SMALL_NODES) + 1];
 };
 
 static void put_node(struct small *s, size_t list, uint32_t document, uint32_t start, uint32_t end,
-                     uint32_t level)
-{
+                     uint32_t level) {
     uint32_t node[BELFRY_NODE_WORDS] = {document, start, end, level};
     if (s->words[list] == BELFRY_NODE_WORDS * MOST_SMALL)
         return;
@@ -199,8 +186,7 @@ static void put_node(struct small *s, size_t list, uint32_t document, uint32_t s
 
 /* A random forest between two positions: each of its nodes goes to one list, to both or to none,
    and levels may jump. */
-static void grow(struct small *s, uint32_t document, uint32_t from, uint32_t to, uint32_t level)
-{
+static void grow(struct small *s, uint32_t document, uint32_t from, uint32_t to, uint32_t level) {
     while (from <= to && to - from < UINT32_MAX / 2 && level <= BELFRY_MOST_LEVELS) {
         uint32_t start = from + below(to - from + 1) / 2, end = start + below(to - start + 1);
         uint32_t lists = below(4);
@@ -215,8 +201,7 @@ static void grow(struct small *s, uint32_t document, uint32_t from, uint32_t to,
     }
 }
 
-static void fill_lists(struct small *s)
-{
+static void fill_lists(struct small *s) {
     uint32_t width = 1 + below(24), from = below(4) ? below(3) : UINT32_MAX - width;
     uint32_t document = below(4) ? below(3) : UINT32_MAX - 2;
     s->words[0] = s->words[1] = 0;
@@ -225,8 +210,7 @@ static void fill_lists(struct small *s)
 }
 
 /* Most damage is a word that is off by a little, so that the nodes nearly fit. */
-static void damage_list(uint32_t *list, size_t *words)
-{
+static void damage_list(uint32_t *list, size_t *words) {
     static const uint32_t others[] = {0, 1, BELFRY_MOST_LEVELS, BELFRY_MOST_LEVELS + 1, UINT32_MAX};
     if (*words < BELFRY_NODE_WORDS)
         return;
@@ -241,8 +225,7 @@ static void damage_list(uint32_t *list, size_t *words)
 
 /* Marks that open, close and stand for texts at random, most often all closed at the end; some have
    one mark changed. */
-static void fill_marks(struct small *s)
-{
+static void fill_marks(struct small *s) {
     static const uint32_t others[] = {BELFRY_CLOSE,    1,         BELFRY_TEXT - 1, BELFRY_TEXT,
                                       BELFRY_TEXT + 1, UINT32_MAX};
     size_t depth = 0, wanted = below(24);
@@ -264,16 +247,14 @@ static void fill_marks(struct small *s)
         s->marks = below(s->marks + 1);
 }
 
-static void put_number(uint8_t *at, uint32_t number)
-{
+static void put_number(uint8_t *at, uint32_t number) {
     for (size_t i = 0; i < BELFRY_NUMBER_BYTES; i++)
         at[i] = number >> 8 * i;
 }
 
 /* The book of both lists under the tags of zones and samples; some have a byte changed, are cut
    short or go on. */
-static void fill_book(struct small *s)
-{
+static void fill_book(struct small *s) {
     size_t end = CONTENTS_BYTES;
     put_number(s->book, SMALL_LISTS);
     for (size_t list = 0; list < SMALL_LISTS; list++) {
@@ -292,8 +273,7 @@ static void fill_book(struct small *s)
         s->bytes = below(2) ? below(end) : end + 1;
 }
 
-static void compare_random(unsigned long number)
-{
+static void compare_random(unsigned long number) {
     static struct small s;
     fill_lists(&s);
     for (size_t damages = below(3); damages > 0; damages--) {
@@ -321,8 +301,7 @@ static void compare_random(unsigned long number)
     compare(&in, "random case", number);
 }
 
-static void compare_shape(const char *name)
-{
+static void compare_shape(const char *name) {
     static struct shape lists, document;
     static uint8_t book[4];
     build_shape(&lists, name, BELFRY_MOST_NODES);
@@ -347,8 +326,7 @@ static void compare_shape(const char *name)
 
 /* Lists and marks of as many words as are given, whose nodes are siblings, or a nest as deep as
    levels go. */
-static void compare_limit(size_t words, size_t mark_words, int nested)
-{
+static void compare_limit(size_t words, size_t mark_words, int nested) {
     static uint32_t list[BELFRY_NODE_WORDS * (BELFRY_MOST_NODES + 1)], mark[BELFRY_MOST_NODES + 1];
     static uint8_t book[CONTENTS_BYTES];
     for (uint32_t i = 0; i < words / BELFRY_NODE_WORDS; i++) {
@@ -373,8 +351,7 @@ static void compare_limit(size_t words, size_t mark_words, int nested)
 }
 
 /* The answers that no case drew, of those that the calls compared here can give. */
-static int are_seen(void)
-{
+static int are_seen(void) {
     int all = 1;
     for (uint32_t answer = 0; answer < ANSWERS; answer++)
         if (seen[answer] == 0 && answer != BELFRY_TABLE) {
@@ -384,8 +361,7 @@ static int are_seen(void)
     return all;
 }
 
-int main(int argc, char **argv)
-{
+int main(int argc, char **argv) {
     unsigned long cases = argc == 2 ? strtoul(argv[1], NULL, 10) : 0;
     if (cases == 0) {
         fprintf(stderr, "usage: agree CASES\n");

@@ -1,8 +1,8 @@
 /* Belfrychest for C99 and C++: it pairs every zone with the samples under it, and loses none.
  *
  * A node is four numbers: document, start, end, level. A list is an array of nodes. A listing joins
- * two lists: the ancestors (zones) and the descendants (samples). docs/SCOPE.md says what each number
- * means; this header says what a caller has to know of each call.
+ * two lists: the ancestors (zones) and the descendants (samples). docs/SCOPE.md says what each
+ * number means; this header says what a caller has to know of each call.
  *
  * What the library does can be called in two ways:
  *
@@ -117,11 +117,11 @@ extern "C" {
  * other: C++ refuses it; in C, clang and gcc (from 10 on, with -Wextra) warn of it. */
 typedef enum belfry_relation {
     BELFRY_INSIDE = 0,
-    BELFRY_DIRECTLY = 1
+    BELFRY_DIRECTLY = 1,
 } belfry_relation;
 typedef enum belfry_order {
     BELFRY_DESCENDANT_ORDER = 0,
-    BELFRY_ANCESTOR_ORDER = 1
+    BELFRY_ANCESTOR_ORDER = 1,
 } belfry_order;
 #define BELFRY_FRESH 0
 #define BELFRY_PLACED 1
@@ -276,20 +276,23 @@ uint32_t belfry_version(void);
 /* Checks one list. It reads the list and writes nothing.
  * Answers: RAGGED, LONG, then LEVEL to DEPTH for the first node at which one applies, with its
  * index; the list is 0. */
-BELFRY_MUST_USE BELFRY_NONNULL
+BELFRY_MUST_USE
+BELFRY_NONNULL
 belfry_verdict belfry_check(const uint32_t *list, size_t words);
 
 /* Checks two lists that are to be joined. It reads both and writes nothing.
  * Answers: those of belfry_check for the ancestors, then for the descendants, with the list at
  * fault; then JOINT. */
-BELFRY_MUST_USE BELFRY_NONNULL
+BELFRY_MUST_USE
+BELFRY_NONNULL
 belfry_verdict belfry_check_two(const uint32_t *ancestors, size_t ancestor_words,
                                 const uint32_t *descendants, size_t descendant_words);
 
 /* Checks two lists as belfry_check_two does, and says where to repair: the part of the list at
  * fault from the faulty node to its end. It reads both lists and writes nothing; the part is in the
  * caller's own list, from word `from` on. It is empty unless the answer is LEVEL to DEPTH. */
-BELFRY_MUST_USE BELFRY_NONNULL
+BELFRY_MUST_USE
+BELFRY_NONNULL
 belfry_part belfry_faulty(const uint32_t *ancestors, size_t ancestor_words,
                           const uint32_t *descendants, size_t descendant_words);
 
@@ -305,16 +308,18 @@ belfry_part belfry_faulty(const uint32_t *ancestors, size_t ancestor_words,
  * in all accepted calls has been handed out, once.
  * Answers: those of belfry_check_two, never ROOM. A refusal returns the ticket as it was and isn't
  * done, so a repaired list goes on from there. */
-BELFRY_MUST_USE BELFRY_NONNULL
+BELFRY_MUST_USE
+BELFRY_NONNULL
 belfry_page belfry_list(const uint32_t *ancestors, size_t ancestor_words,
-                        const uint32_t *descendants, size_t descendant_words,
-                        belfry_ticket ticket, uint32_t *out, size_t out_words);
+                        const uint32_t *descendants, size_t descendant_words, belfry_ticket ticket,
+                        uint32_t *out, size_t out_words);
 
 /* Numbers a document's marks. It reads the marks and writes a row for each element and text, in
  * start order; as many rows as there are marks are always enough.
  * Answers: LONG, then MARK, STRAY or DEEP for the first faulty mark, UNCLOSED, ROOM; list and index
  * are 0. */
-BELFRY_MUST_USE BELFRY_NONNULL
+BELFRY_MUST_USE
+BELFRY_NONNULL
 belfry_result belfry_number(uint32_t document, const uint32_t *marks, size_t mark_words,
                             uint32_t *out, size_t out_words);
 
@@ -322,35 +327,40 @@ belfry_result belfry_number(uint32_t document, const uint32_t *marks, size_t mar
  * BELFRY_MOST_NODES words are always enough. The document's number is read from the table, and is 0
  * on refusal.
  * Answers: RAGGED, LONG, TABLE, ROOM. */
-BELFRY_MUST_USE BELFRY_NONNULL
-belfry_unnumbered belfry_unnumber(const uint32_t *table, size_t table_words,
-                                  uint32_t *out, size_t out_words);
+BELFRY_MUST_USE
+BELFRY_NONNULL
+belfry_unnumbered belfry_unnumber(const uint32_t *table, size_t table_words, uint32_t *out,
+                                  size_t out_words);
 
 /* Picks a tag's list out of a table. It reads the table and writes the node of each row with that
  * tag, in row order; as many nodes as there are rows are always enough. It checks nothing else of
  * the table.
  * Answers: RAGGED, LONG, ROOM; list and index are 0. */
-BELFRY_MUST_USE BELFRY_NONNULL
-belfry_result belfry_pick(const uint32_t *table, size_t table_words, uint32_t tag,
-                          uint32_t *out, size_t out_words);
+BELFRY_MUST_USE
+BELFRY_NONNULL
+belfry_result belfry_pick(const uint32_t *table, size_t table_words, uint32_t tag, uint32_t *out,
+                          size_t out_words);
 
 /* Links a list's nodes to the forest of what contains what. It reads the list and writes a link for
  * each node: the index of its parent, which is the innermost node that contains it, of its first
  * child, and of the next node with the same parent in the same document, or BELFRY_NONE.
  * Answers: those of belfry_check, then ROOM. */
-BELFRY_MUST_USE BELFRY_NONNULL
+BELFRY_MUST_USE
+BELFRY_NONNULL
 belfry_result belfry_links(const uint32_t *list, size_t words, uint32_t *out, size_t out_words);
 
 /* Checks a book. It reads the book and writes nothing.
  * Answers: CONTENTS, then LEVEL to DEPTH for the first body at fault, with the list's place in the
  * book and the node's index in that list. */
-BELFRY_MUST_USE BELFRY_NONNULL
+BELFRY_MUST_USE
+BELFRY_NONNULL
 belfry_book belfry_book_check(const uint8_t *book, size_t bytes);
 
 /* Finds the body of a tag's list. It reads the book, checks all of it, and writes nothing; the body
  * is in the caller's own bytes.
  * Answers: those of belfry_book_check, then ABSENT. */
-BELFRY_MUST_USE BELFRY_NONNULL
+BELFRY_MUST_USE
+BELFRY_NONNULL
 belfry_body belfry_book_body(const uint8_t *book, size_t bytes, uint32_t tag);
 
 /* Writes a book. It reads the entries, a tag and a number of nodes for each list, and the nodes of
@@ -358,10 +368,10 @@ belfry_body belfry_book_body(const uint8_t *book, size_t bytes, uint32_t tag);
  * ascend, and the numbers must add up to the nodes.
  * Answers: RAGGED, CONTENTS, then LEVEL to DEPTH for the first list at fault, with its place and
  * the node's index in that list, then ROOM. */
-BELFRY_MUST_USE BELFRY_NONNULL
-belfry_result belfry_book_write(const uint32_t *entries, size_t entry_words,
-                                const uint32_t *nodes, size_t node_words,
-                                uint8_t *out, size_t out_bytes);
+BELFRY_MUST_USE
+BELFRY_NONNULL
+belfry_result belfry_book_write(const uint32_t *entries, size_t entry_words, const uint32_t *nodes,
+                                size_t node_words, uint8_t *out, size_t out_bytes);
 
 /* Writes an answer's name into all eight bytes, padded with blanks; eight blanks for a number above
  * BELFRY_ABSENT. It is never refused. */
@@ -421,9 +431,10 @@ static inline belfry_verdict belfry_check_nodes(const belfry_node *list, size_t 
  * Answers: those of belfry_check_nodes for the ancestors, then for the descendants, with the list
  * at fault; then JOINT. */
 BELFRY_MUST_USE
-static inline belfry_verdict belfry_check_two_lists(
-    const belfry_node *ancestors, size_t ancestor_count,
-    const belfry_node *descendants, size_t descendant_count) {
+static inline belfry_verdict belfry_check_two_lists(const belfry_node *ancestors,
+                                                    size_t ancestor_count,
+                                                    const belfry_node *descendants,
+                                                    size_t descendant_count) {
     return belfry_check_two(BELFRY_WORDS_OF(ancestors, ancestor_count, document),
                             BELFRY_WORDS_OF(descendants, descendant_count, document));
 }
@@ -432,9 +443,10 @@ static inline belfry_verdict belfry_check_two_lists(
  * index `from` of the list at fault.
  * Answers: those of belfry_check_two_lists. */
 BELFRY_MUST_USE
-static inline belfry_node_part belfry_faulty_nodes(
-    const belfry_node *ancestors, size_t ancestor_count,
-    const belfry_node *descendants, size_t descendant_count) {
+static inline belfry_node_part belfry_faulty_nodes(const belfry_node *ancestors,
+                                                   size_t ancestor_count,
+                                                   const belfry_node *descendants,
+                                                   size_t descendant_count) {
     const belfry_part words =
         belfry_faulty(BELFRY_WORDS_OF(ancestors, ancestor_count, document),
                       BELFRY_WORDS_OF(descendants, descendant_count, document));
@@ -447,21 +459,19 @@ static inline belfry_node_part belfry_faulty_nodes(
  * for no pair, a loop until done would never end.
  * Answers: those of belfry_check_two_lists. */
 BELFRY_MUST_USE
-static inline belfry_page belfry_list_pairs(
-    const belfry_node *ancestors, size_t ancestor_count,
-    const belfry_node *descendants, size_t descendant_count,
-    belfry_ticket ticket, belfry_pair *out, size_t room) {
+static inline belfry_page belfry_list_pairs(const belfry_node *ancestors, size_t ancestor_count,
+                                            const belfry_node *descendants, size_t descendant_count,
+                                            belfry_ticket ticket, belfry_pair *out, size_t room) {
     return belfry_list(BELFRY_WORDS_OF(ancestors, ancestor_count, document),
-                       BELFRY_WORDS_OF(descendants, descendant_count, document),
-                       ticket, BELFRY_WORDS_OF(out, room, ancestor.document));
+                       BELFRY_WORDS_OF(descendants, descendant_count, document), ticket,
+                       BELFRY_WORDS_OF(out, room, ancestor.document));
 }
 
 /* Numbers a document's marks, as belfry_number does.
  * Answers: LONG, then MARK, STRAY or DEEP for the first faulty mark, UNCLOSED, ROOM. */
 BELFRY_MUST_USE
-static inline belfry_result belfry_number_rows(uint32_t document,
-                                               const uint32_t *marks, size_t mark_count,
-                                               belfry_row *out, size_t room) {
+static inline belfry_result belfry_number_rows(uint32_t document, const uint32_t *marks,
+                                               size_t mark_count, belfry_row *out, size_t room) {
     return belfry_number(document, mark_count != 0 ? marks : belfry_no_words(), mark_count,
                          BELFRY_WORDS_OF(out, room, document));
 }
@@ -489,8 +499,7 @@ static inline belfry_result belfry_pick_nodes(const belfry_row *table, size_t ro
 BELFRY_MUST_USE
 static inline belfry_result belfry_link_nodes(const belfry_node *list, size_t count,
                                               belfry_link *out, size_t room) {
-    return belfry_links(BELFRY_WORDS_OF(list, count, document),
-                        BELFRY_WORDS_OF(out, room, parent));
+    return belfry_links(BELFRY_WORDS_OF(list, count, document), BELFRY_WORDS_OF(out, room, parent));
 }
 
 /* Writes a book, as belfry_book_write does: `nodes` holds the nodes of all lists one after the
@@ -514,10 +523,10 @@ static inline belfry_book belfry_open_book(const uint8_t *book, size_t bytes) {
 
 /* Returns the node whose sixteen bytes of a book start at `bytes`. */
 static inline belfry_node belfry_read_node(const uint8_t *bytes) {
-    const belfry_node node = {
-        belfry_read_number(bytes), belfry_read_number(bytes + BELFRY_NUMBER_BYTES),
-        belfry_read_number(bytes + 2 * BELFRY_NUMBER_BYTES),
-        belfry_read_number(bytes + 3 * BELFRY_NUMBER_BYTES)};
+    const belfry_node node = {belfry_read_number(bytes),
+                              belfry_read_number(bytes + BELFRY_NUMBER_BYTES),
+                              belfry_read_number(bytes + 2 * BELFRY_NUMBER_BYTES),
+                              belfry_read_number(bytes + 3 * BELFRY_NUMBER_BYTES)};
     return node;
 }
 
@@ -557,7 +566,7 @@ static inline const char *belfry_answer_name(uint32_t answer, char out[BELFRY_NA
 BELFRY_NONNULL
 static inline void belfry_store_ticket(belfry_ticket ticket, uint8_t out[BELFRY_TICKET_BYTES]) {
     const uint32_t numbers[] = {BELFRY_TICKET_FORM, ticket.relation, ticket.order, ticket.placed,
-                                ticket.document, ticket.first, ticket.second};
+                                ticket.document,    ticket.first,    ticket.second};
     for (size_t i = 0; i < sizeof numbers / sizeof *numbers; i++)
         belfry_write_number(numbers[i], out + BELFRY_NUMBER_BYTES * i);
 }

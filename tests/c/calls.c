@@ -6,8 +6,8 @@ enum { MOST = 64 };
 
 static const uint32_t none = BELFRY_NONE;
 static const uint32_t marks[] = {1, 2, 2, 3, 65536, 0, 0, 3, 0, 0, 0};
-static const uint32_t table[] = {5, 1, 11, 1, 1, 5, 2, 10, 2, 2, 5, 3, 7, 3, 2,
-                                 5, 4, 6, 4, 3, 5, 5, 5, 5, 65536, 5, 8, 9, 3, 3};
+static const uint32_t table[] = {5, 1, 11, 1, 1, 5, 2, 10, 2, 2,     5, 3, 7, 3, 2,
+                                 5, 4, 6,  4, 3, 5, 5, 5,  5, 65536, 5, 8, 9, 3, 3};
 static const uint32_t zones[] = {5, 2, 10, 2, 5, 3, 7, 3};
 static const uint32_t samples[] = {5, 4, 6, 4, 5, 8, 9, 3};
 /* A book of the zones and the samples. */
@@ -123,7 +123,7 @@ static uint32_t number_at(const uint8_t *book, size_t index) {
 
 static void call_book(void) {
     const uint32_t numbers[] = {2, 2, 28, 2, 3, 60, 2, 5, 2, 10, 2, 5,
-                                3, 7, 3, 5, 4, 6, 4, 5, 8, 9, 3};
+                                3, 7, 3,  5, 4, 6,  4, 5, 8, 9,  3};
     uint8_t book[BELFRY_BOOK_BYTES(2, 4) + 1];
     memset(book, PAINT, sizeof book);
     belfry_result written = belfry_book_write(entries, 4, nodes, 16, book, sizeof book);
@@ -166,7 +166,7 @@ static void call_name(void) {
     belfry_name(BELFRY_ABSENT, name);
     printf("belfry_name\n");
     for (size_t i = 0; i < BELFRY_NAME_BYTES; i++)
-        expect("a byte of the name", name[i], (uint8_t)"ABSENT  "[i]);
+        expect("a byte of the name", name[i], (uint8_t) "ABSENT  "[i]);
     expect("the byte after the name", name[BELFRY_NAME_BYTES], PAINT);
 }
 

@@ -3,8 +3,7 @@
 #include "expect.h"
 
 static const belfry_node zones[] = {{5, 2, 30, 2}, {5, 3, 7, 3}, {5, 9, 20, 3}, {5, 10, 15, 4}};
-static const belfry_node samples[] = {
-    {5, 4, 6, 4}, {5, 11, 12, 5}, {5, 16, 17, 4}, {5, 21, 22, 3}};
+static const belfry_node samples[] = {{5, 4, 6, 4}, {5, 11, 12, 5}, {5, 16, 17, 4}, {5, 21, 22, 3}};
 /* The zones around each sample, added up. */
 enum { ALL_PAIRS = 2 + 3 + 2 + 1, ROOM = 16 };
 
@@ -25,10 +24,10 @@ static void count_nodes_for_words(void) {
     belfry_pair out[ROOM];
     memcpy(zone_words, zones, sizeof zone_words);
     memcpy(sample_words, samples, sizeof sample_words);
-    expect_page("the call of words, lengths in nodes",
-                belfry_list(zone_words, 4, sample_words, 4, fresh_ticket(), out_words,
-                            COUNT(out_words)),
-                1, 1);
+    expect_page(
+        "the call of words, lengths in nodes",
+        belfry_list(zone_words, 4, sample_words, 4, fresh_ticket(), out_words, COUNT(out_words)), 1,
+        1);
     expect_verdict("the call of words, a length of three", belfry_check(zone_words, 3),
                    BELFRY_RAGGED, 0, 0);
     expect_page("the call of nodes",
@@ -39,8 +38,8 @@ static void count_nodes_for_words(void) {
 static void give_null_lists(void) {
     belfry_pair out[ROOM];
     expect_verdict("belfry_check_nodes", belfry_check_nodes(NULL, 0), BELFRY_TAKEN, 0, 0);
-    expect_verdict("belfry_check_two_lists", belfry_check_two_lists(NULL, 0, NULL, 0),
-                   BELFRY_TAKEN, 0, 0);
+    expect_verdict("belfry_check_two_lists", belfry_check_two_lists(NULL, 0, NULL, 0), BELFRY_TAKEN,
+                   0, 0);
     const belfry_node_part part = belfry_faulty_nodes(NULL, 0, NULL, 0);
     expect_verdict("belfry_faulty_nodes", part.verdict, BELFRY_TAKEN, 0, 0);
     expect("the part's nodes", part.count, 0);
@@ -190,8 +189,13 @@ static void refuse_bytes(const uint8_t *stored, size_t bytes, belfry_ticket_faul
  * version of the library stores, and bytes that were cut off are refused. */
 static void store_ticket(void) {
     const belfry_ticket ticket = {1, 9, 0xFFFFFFFF, 0x04030201, 0x10, 0x8000};
-    const uint8_t wanted[] = {BELFRY_TICKET_FORM, 0, 0, 0, 1, 0, 0, 0, 9, 0, 0, 0, 255, 255,
-                              255, 255, 1, 2, 3, 4, 16, 0, 0, 0, 0, 128, 0, 0};
+    /* clang-format off */
+    const uint8_t wanted[] = {
+        BELFRY_TICKET_FORM, 0, 0, 0,
+        1, 0, 0, 0,  9, 0, 0, 0,  255, 255, 255, 255,
+        1, 2, 3, 4,  16, 0, 0, 0,  0, 128, 0, 0,
+    };
+    /* clang-format on */
     uint8_t stored[BELFRY_TICKET_BYTES + 1];
     belfry_ticket back;
     memset(stored, PAINT, sizeof stored);
@@ -230,8 +234,12 @@ static const struct {
     const char *name;
     void (*make)(void);
 } mistakes[] = {
-    {"length", count_nodes_for_words}, {"null", give_null},    {"overflow", overflow},
-    {"room", give_no_room},            {"ticket", store_ticket}, {"name", print_name},
+    {"length", count_nodes_for_words},
+    {"null", give_null},
+    {"overflow", overflow},
+    {"room", give_no_room},
+    {"ticket", store_ticket},
+    {"name", print_name},
 };
 
 int main(int count, char **arguments) {

@@ -7,13 +7,13 @@ enum { ROOM = 8 };
 
 static const belfry_node zones[] = {{5, 2, 30, 2}, {5, 3, 7, 3}, {5, 9, 20, 3}, {5, 10, 15, 4}};
 /* The last one is at fault: it comes after a node that starts later. */
-static const belfry_node samples[] = {{5, 4, 6, 4},   {5, 11, 12, 5}, {5, 16, 17, 4},
-                                      {5, 40, 40, 2}, {5, 39, 39, 2}};
+static const belfry_node samples[] = {
+    {5, 4, 6, 4}, {5, 11, 12, 5}, {5, 16, 17, 4}, {5, 40, 40, 2}, {5, 39, 39, 2}};
 static const uint32_t marks[] = {1, 2, 2, 3, 65536, 0, 0, 3, 0, 0, 0};
-static const belfry_row table[] = {{5, 1, 11, 1, 1}, {5, 2, 10, 2, 2}, {5, 3, 7, 3, 2},
+static const belfry_row table[] = {{5, 1, 11, 1, 1}, {5, 2, 10, 2, 2},    {5, 3, 7, 3, 2},
                                    {5, 4, 6, 4, 3},  {5, 5, 5, 5, 65536}, {5, 8, 9, 3, 3}};
 static const belfry_entry entries[] = {{2, 4}, {3, 0}, {9, 2}};
-static const belfry_node stored[] = {{5, 2, 30, 2}, {5, 3, 7, 3},   {5, 9, 20, 3},
+static const belfry_node stored[] = {{5, 2, 30, 2},  {5, 3, 7, 3}, {5, 9, 20, 3},
                                      {5, 10, 15, 4}, {5, 4, 6, 4}, {5, 11, 12, 5}};
 
 /* The same in words. */
@@ -91,8 +91,7 @@ static void number_marks(size_t count, size_t room) {
     belfry_row out[ROOM];
     paint();
     memset(out, PAINT, sizeof out);
-    const belfry_result words =
-        belfry_number(5, marks, count, by_words, BELFRY_ROW_WORDS * room);
+    const belfry_result words = belfry_number(5, marks, count, by_words, BELFRY_ROW_WORDS * room);
     expect_same_result("belfry_number_rows", belfry_number_rows(5, marks, count, out, room), words,
                        out, sizeof out);
 }
@@ -113,8 +112,8 @@ static void pick_tag(size_t count, size_t room) {
     belfry_node out[ROOM];
     paint();
     memset(out, PAINT, sizeof out);
-    const belfry_result words = belfry_pick(table_words, BELFRY_ROW_WORDS * count, 2, by_words,
-                                            BELFRY_NODE_WORDS * room);
+    const belfry_result words =
+        belfry_pick(table_words, BELFRY_ROW_WORDS * count, 2, by_words, BELFRY_NODE_WORDS * room);
     expect_same_result("belfry_pick_nodes", belfry_pick_nodes(table, count, 2, out, room), words,
                        out, sizeof out);
 }
@@ -123,8 +122,8 @@ static void link_samples(size_t count, size_t room) {
     belfry_link out[ROOM];
     paint();
     memset(out, PAINT, sizeof out);
-    const belfry_result words = belfry_links(sample_words, BELFRY_NODE_WORDS * count, by_words,
-                                             BELFRY_LINK_WORDS * room);
+    const belfry_result words =
+        belfry_links(sample_words, BELFRY_NODE_WORDS * count, by_words, BELFRY_LINK_WORDS * room);
     expect_same_result("belfry_link_nodes", belfry_link_nodes(samples, count, out, room), words,
                        out, sizeof out);
 }

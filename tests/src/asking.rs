@@ -27,14 +27,22 @@ pub fn check(list: &[u32]) -> Answer {
 
 pub fn check_two(ancestors: &[u32], descendants: &[u32]) -> Answer {
     let expected = lists::check_two(ancestors, descendants);
-    assert_eq!(raw::check_two(ancestors, descendants), raw_verdict(expected), "given and expected: check of {ancestors:?} and {descendants:?}");
+    assert_eq!(
+        raw::check_two(ancestors, descendants),
+        raw_verdict(expected),
+        "given and expected: check of {ancestors:?} and {descendants:?}"
+    );
     expected.answer
 }
 
 pub fn faulty(ancestors: &[u32], descendants: &[u32]) -> Answer {
     let lists::Part { verdict, from, words } = lists::faulty(ancestors, descendants);
     let expected = raw::Part { verdict: raw_verdict(verdict), from, words };
-    assert_eq!(raw::faulty(ancestors, descendants), expected, "given and expected: faulty part of {ancestors:?} and {descendants:?}");
+    assert_eq!(
+        raw::faulty(ancestors, descendants),
+        expected,
+        "given and expected: faulty part of {ancestors:?} and {descendants:?}"
+    );
     verdict.answer
 }
 
@@ -50,23 +58,39 @@ pub fn meaning(ticket: &raw::Ticket) -> Ticket {
 /// The ticket that comes back from this page: as it was, with another place if something was written.
 fn ticket_after(ticket: raw::Ticket, page: &pages::Page) -> raw::Ticket {
     match page.place {
-        Some([document, first, second]) if !page.pairs.is_empty() => raw::Ticket { placed: 1, document, first, second, ..ticket },
+        Some([document, first, second]) if !page.pairs.is_empty() => {
+            raw::Ticket { placed: 1, document, first, second, ..ticket }
+        }
         _ => ticket,
     }
 }
 
-pub fn list(ancestors: &[u32], descendants: &[u32], ticket: raw::Ticket, out: &mut [u32]) -> Answer {
+pub fn list(
+    ancestors: &[u32],
+    descendants: &[u32],
+    ticket: raw::Ticket,
+    out: &mut [u32],
+) -> Answer {
     let page = pages::page(ancestors, descendants, &meaning(&ticket), out.len());
     let words = page.pairs.iter().map(pages::Pair::words).collect::<Vec<_>>().concat();
     let after = ticket_after(ticket, &page);
-    let expected = raw::Page { verdict: raw_verdict(page.verdict), done: page.done.into(), count: page.pairs.len(), ticket: after };
-    hold(&("page", ancestors, descendants, ticket), out, &words, expected, |out| raw::list(ancestors, descendants, ticket, out));
+    let expected = raw::Page {
+        verdict: raw_verdict(page.verdict),
+        done: page.done.into(),
+        count: page.pairs.len(),
+        ticket: after,
+    };
+    hold(&("page", ancestors, descendants, ticket), out, &words, expected, |out| {
+        raw::list(ancestors, descendants, ticket, out)
+    });
     page.verdict.answer
 }
 
 pub fn number(document: u32, marks: &[u32], out: &mut [u32]) -> Answer {
     let expected = marks::number(document, marks, out.len());
-    hold(&("number", document, marks), out, &expected.words, raw_written(&expected), |out| raw::number(document, marks, out));
+    hold(&("number", document, marks), out, &expected.words, raw_written(&expected), |out| {
+        raw::number(document, marks, out)
+    });
     expected.verdict.answer
 }
 
@@ -79,13 +103,17 @@ pub fn unnumber(table: &[u32], out: &mut [u32]) -> Answer {
 
 pub fn pick(table: &[u32], tag: u32, out: &mut [u32]) -> Answer {
     let expected = marks::pick(table, tag, out.len());
-    hold(&("pick", table, tag), out, &expected.words, raw_written(&expected), |out| raw::pick(table, tag, out));
+    hold(&("pick", table, tag), out, &expected.words, raw_written(&expected), |out| {
+        raw::pick(table, tag, out)
+    });
     expected.verdict.answer
 }
 
 pub fn links(list: &[u32], out: &mut [u32]) -> Answer {
     let expected = links::links(list, out.len());
-    hold(&("links", list), out, &expected.words, raw_written(&expected), |out| raw::links(list, out));
+    hold(&("links", list), out, &expected.words, raw_written(&expected), |out| {
+        raw::links(list, out)
+    });
     expected.verdict.answer
 }
 
@@ -99,13 +127,19 @@ pub fn book_check(book: &[u8]) -> Answer {
 pub fn book_body(book: &[u8], tag: u32) -> Answer {
     let books::Body { verdict, from, bytes } = books::body(book, tag);
     let expected = raw::Body { verdict: raw_verdict(verdict), from, bytes };
-    assert_eq!(raw::book_body(book, tag), expected, "given and expected: tag {tag} in the book {book:?}");
+    assert_eq!(
+        raw::book_body(book, tag),
+        expected,
+        "given and expected: tag {tag} in the book {book:?}"
+    );
     verdict.answer
 }
 
 pub fn book_write(entries: &[u32], nodes: &[u32], out: &mut [u8]) -> Answer {
     let expected = books::write(entries, nodes, out.len());
-    hold(&("write", entries, nodes), out, &expected.words, raw_written(&expected), |out| raw::book_write(entries, nodes, out));
+    hold(&("write", entries, nodes), out, &expected.words, raw_written(&expected), |out| {
+        raw::book_write(entries, nodes, out)
+    });
     expected.verdict.answer
 }
 
@@ -115,5 +149,7 @@ pub fn name(number: u32, out: &mut [u8]) {
         fn belfry_name(answer: u32, out: *mut u8);
     }
     assert_eq!(raw::name(number), row(number), "given and expected: name of {number}");
-    hold(&("name", number), out, &row(number), (), |out| unsafe { belfry_name(number, out.as_mut_ptr()) });
+    hold(&("name", number), out, &row(number), (), |out| unsafe {
+        belfry_name(number, out.as_mut_ptr())
+    });
 }

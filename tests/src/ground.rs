@@ -50,7 +50,9 @@ impl<T> Deref for Lent<T> {
     fn deref(&self) -> &[T] {
         match self {
             Lent::Heap(words) => words,
-            Lent::Guarded(guarded) => unsafe { slice::from_raw_parts(guarded.first, guarded.count) },
+            Lent::Guarded(guarded) => unsafe {
+                slice::from_raw_parts(guarded.first, guarded.count)
+            },
         }
     }
 }
@@ -59,7 +61,9 @@ impl<T> DerefMut for Lent<T> {
     fn deref_mut(&mut self) -> &mut [T] {
         match self {
             Lent::Heap(words) => words,
-            Lent::Guarded(guarded) => unsafe { slice::from_raw_parts_mut(guarded.first, guarded.count) },
+            Lent::Guarded(guarded) => unsafe {
+                slice::from_raw_parts_mut(guarded.first, guarded.count)
+            },
         }
     }
 }
@@ -73,7 +77,14 @@ const PRIVATE_AND_ANONYMOUS: i32 = 0x22;
 const GUARD: usize = 1 << 16;
 
 extern "C" {
-    fn mmap(address: *mut u8, bytes: usize, protection: i32, flags: i32, file: i32, offset: i64) -> *mut u8;
+    fn mmap(
+        address: *mut u8,
+        bytes: usize,
+        protection: i32,
+        flags: i32,
+        file: i32,
+        offset: i64,
+    ) -> *mut u8;
     fn mprotect(address: *mut u8, bytes: usize, protection: i32) -> i32;
     fn munmap(address: *mut u8, bytes: usize) -> i32;
 }
@@ -90,7 +101,8 @@ impl<T> Guarded<T> {
     fn new(count: usize, ground: Ground) -> Guarded<T> {
         let bytes = count * size_of::<T>();
         let between = (bytes / GUARD + 1) * GUARD;
-        let base = unsafe { mmap(null_mut(), between + 2 * GUARD, NOTHING, PRIVATE_AND_ANONYMOUS, -1, 0) };
+        let base =
+            unsafe { mmap(null_mut(), between + 2 * GUARD, NOTHING, PRIVATE_AND_ANONYMOUS, -1, 0) };
         assert_ne!(base as isize, -1, "no memory for {bytes} bytes");
         let skipped = if let Ground::BeforeGuard = ground { between - bytes } else { 0 };
         let first = unsafe { base.add(GUARD + skipped) }.cast();

@@ -28,7 +28,9 @@ impl Lists {
 
     /// Whether nodes of the pair's starts stand in the lists, be they these or others.
     fn hold_starts(&self, pair: &Pair) -> bool {
-        let stands = |list: &[Node], node: &Node| list.iter().any(|other| (other.document, other.start) == (node.document, node.start));
+        let stands = |list: &[Node], node: &Node| {
+            list.iter().any(|other| (other.document, other.start) == (node.document, node.start))
+        };
         stands(&self.ancestors, &pair.ancestor) && stands(&self.descendants, &pair.descendant)
     }
 }
@@ -52,7 +54,16 @@ pub struct History {
 
 impl History {
     pub fn from(ticket: Ticket) -> History {
-        History { first_ticket: ticket, ticket, standing: None, handed_out: Vec::new(), done: 0, pages: 0, refused: 0, altered: 0 }
+        History {
+            first_ticket: ticket,
+            ticket,
+            standing: None,
+            handed_out: Vec::new(),
+            done: 0,
+            pages: 0,
+            refused: 0,
+            altered: 0,
+        }
     }
 
     /// Makes the next call, with an output of `room` words, and returns its answer. If it was
@@ -61,13 +72,21 @@ impl History {
         let [coat, _] = u32::COATS;
         let mut out = vec![coat; room];
         let page = raw::list(ancestors, descendants, self.ticket, &mut out);
-        assert!(out[PAIR_WORDS * page.count..].iter().all(|&word| word == coat), "altered after {} pairs", page.count);
+        assert!(
+            out[PAIR_WORDS * page.count..].iter().all(|&word| word == coat),
+            "altered after {} pairs",
+            page.count
+        );
         if page.verdict.answer != 0 {
             assert_eq!((page.count, page.done, page.ticket), (0, 0, self.ticket), "a refused call");
             self.refused += 1;
             return page;
         }
-        assert!(page.done == 1 || page.count == room / PAIR_WORDS, "not done, and {} pairs in a room of {room} words", page.count);
+        assert!(
+            page.done == 1 || page.count == room / PAIR_WORDS,
+            "not done, and {} pairs in a room of {room} words",
+            page.count
+        );
         let lists = Lists { ancestors: nodes(ancestors), descendants: nodes(descendants) };
         self.take(&lists, &out[..PAIR_WORDS * page.count]);
         self.keep_standing(&lists);
@@ -89,13 +108,20 @@ impl History {
     /// and no document and two starts again.
     fn take(&mut self, lists: &Lists, words: &[u32]) {
         let order = meaning(&self.first_ticket).order;
-        let starts = |pair: &Pair| (pair.ancestor.document, pair.ancestor.start, pair.descendant.start);
+        let starts =
+            |pair: &Pair| (pair.ancestor.document, pair.ancestor.start, pair.descendant.start);
         for two in nodes(words).chunks(2) {
             let pair = Pair { ancestor: two[0], descendant: two[1] };
             assert!(lists.hold(&pair), "handed out, and not in the lists: {pair:?}");
             assert!(self.is_asked_for(&pair), "handed out, and not asked for: {pair:?}");
-            assert!(self.handed_out.iter().all(|earlier| starts(earlier) != starts(&pair)), "twice: {pair:?}");
-            assert!(self.handed_out.last().map_or(true, |last| last.key(order) < pair.key(order)), "out of order: {pair:?}");
+            assert!(
+                self.handed_out.iter().all(|earlier| starts(earlier) != starts(&pair)),
+                "twice: {pair:?}"
+            );
+            assert!(
+                self.handed_out.last().map_or(true, |last| last.key(order) < pair.key(order)),
+                "out of order: {pair:?}"
+            );
             self.handed_out.push(pair);
         }
         self.pages += usize::from(!words.is_empty());
@@ -105,10 +131,12 @@ impl History {
     /// accepted call they are all that are asked for.
     fn keep_standing(&mut self, lists: &Lists) {
         let mut standing = self.standing.take().unwrap_or_else(|| {
-            let all = pairs(meaning(&self.first_ticket).relation, &lists.ancestors, &lists.descendants);
+            let all =
+                pairs(meaning(&self.first_ticket).relation, &lists.ancestors, &lists.descendants);
             all.into_iter().filter(|pair| self.is_asked_for(pair)).collect()
         });
-        self.altered += standing.iter().filter(|pair| !lists.hold(pair) && lists.hold_starts(pair)).count();
+        self.altered +=
+            standing.iter().filter(|pair| !lists.hold(pair) && lists.hold_starts(pair)).count();
         standing.retain(|pair| lists.hold(pair));
         self.standing = Some(standing);
     }

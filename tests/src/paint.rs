@@ -18,13 +18,29 @@ impl Word for u8 {
 
 /// Makes the call twice, on the output painted in either coat. Each time it must give this answer, with these words at the output's beginning and
 /// the paint behind them. The question is shown if it doesn't.
-pub fn hold<T: Word, A: Debug + PartialEq>(question: &dyn Debug, out: &mut [T], words: &[T], answer: A, call: impl Fn(&mut [T]) -> A) {
+pub fn hold<T: Word, A: Debug + PartialEq>(
+    question: &dyn Debug,
+    out: &mut [T],
+    words: &[T],
+    answer: A,
+    call: impl Fn(&mut [T]) -> A,
+) {
     for coat in T::COATS {
         out.fill(coat);
         let given = call(out);
         assert_eq!(given, answer, "given and expected answer, room {}: {question:?}", out.len());
-        assert_eq!(&out[..words.len()], words, "given and expected words, room {}: {question:?}", out.len());
+        assert_eq!(
+            &out[..words.len()],
+            words,
+            "given and expected words, room {}: {question:?}",
+            out.len()
+        );
         let behind = &out[words.len()..];
-        assert!(behind.iter().all(|&word| word == coat), "altered behind {} words, room {}: {out:?} {question:?}", words.len(), out.len());
+        assert!(
+            behind.iter().all(|&word| word == coat),
+            "altered behind {} words, room {}: {out:?} {question:?}",
+            words.len(),
+            out.len()
+        );
     }
 }

@@ -3,7 +3,8 @@
 use crate::telling::Telling;
 
 /// Words at which arithmetic on 32 bits, or a comparison of halves, would go wrong.
-pub const EDGES: [u32; 9] = [0, 1, 2, 65_535, 65_536, (1 << 31) - 1, 1 << 31, u32::MAX - 1, u32::MAX];
+pub const EDGES: [u32; 9] =
+    [0, 1, 2, 65_535, 65_536, (1 << 31) - 1, 1 << 31, u32::MAX - 1, u32::MAX];
 
 /// A generator of the kind xorshift64*.
 pub struct Random {

@@ -58,8 +58,14 @@ fn guards_guard() {
     let before = Ground::BeforeGuard.lend(&[1_u8, 2, 3]);
     let mut behind = Ground::AfterGuard.lend(&[1_u8, 2, 3]);
     assert_eq!(near.write(&before).expect("three bytes are sent"), 3);
-    assert_eq!(near.write(beside(&before, 3)).expect_err("a guard is read").raw_os_error(), BAD_ADDRESS);
-    assert_eq!(near.write(beside(&behind, -1)).expect_err("a guard is read").raw_os_error(), BAD_ADDRESS);
+    assert_eq!(
+        near.write(beside(&before, 3)).expect_err("a guard is read").raw_os_error(),
+        BAD_ADDRESS
+    );
+    assert_eq!(
+        near.write(beside(&behind, -1)).expect_err("a guard is read").raw_os_error(),
+        BAD_ADDRESS
+    );
     assert_eq!(far.read(&mut behind).expect_err("an input is written").raw_os_error(), BAD_ADDRESS);
     let mut out = Ground::BeforeGuard.room(3);
     assert_eq!(far.read(&mut out).expect("three bytes are received"), 3);

@@ -21,7 +21,8 @@ const ROOM: usize = 29;
 
 /// A zone, and inside it, side by side, the other nodes, with space between them and between their levels.
 fn sound(count: usize) -> Vec<Node> {
-    let inner = |place: u32| Node { document: 5, start: 10 * place + 10, end: 10 * place + 15, level: 4 };
+    let inner =
+        |place: u32| Node { document: 5, start: 10 * place + 10, end: 10 * place + 15, level: 4 };
     let zone = Node { document: 5, start: 10, end: 10 * count as u32 + 10, level: 2 };
     [zone].into_iter().chain((1..count as u32).map(inner)).collect()
 }
@@ -77,11 +78,17 @@ fn refuses_two(ancestors: &[Node], descendants: &[Node], verdict: Verdict, part:
     let (ancestors, descendants) = (words(ancestors), words(descendants));
     let expected = raw_verdict(verdict);
     assert_eq!(raw::check_two(&ancestors, &descendants), expected);
-    assert_eq!(raw::faulty(&ancestors, &descendants), raw::Part { verdict: expected, from: part[0], words: part[1] });
-    let odd = Ticket { relation: 7, order: u32::MAX, placed: 3, document: 5, first: 20, second: 10 };
+    assert_eq!(
+        raw::faulty(&ancestors, &descendants),
+        raw::Part { verdict: expected, from: part[0], words: part[1] }
+    );
+    let odd =
+        Ticket { relation: 7, order: u32::MAX, placed: 3, document: 5, first: 20, second: 10 };
     for ticket in [FRESH, odd, Ticket { order: 1, ..FRESH }, Ticket { placed: 1, ..FRESH }] {
         let page = raw::Page { verdict: expected, done: 0, count: 0, ticket };
-        hold(&verdict, &mut [0; ROOM], &[], page, |out| raw::list(&ancestors, &descendants, ticket, out));
+        hold(&verdict, &mut [0; ROOM], &[], page, |out| {
+            raw::list(&ancestors, &descendants, ticket, out)
+        });
     }
 }
 
@@ -129,14 +136,21 @@ fn refuses_book(lists: &[Tagged], verdict: Verdict) {
     }
     let (entries, nodes) = parts(lists);
     let refused = raw::Written { verdict: expected, count: 0 };
-    hold(&verdict, &mut vec![0; book.len()], &[], refused, |out| raw::book_write(&entries, &nodes, out));
+    hold(&verdict, &mut vec![0; book.len()], &[], refused, |out| {
+        raw::book_write(&entries, &nodes, out)
+    });
 }
 
 /// Lists that differ in one word of one node, so that the node is at odds with the one that it was.
 #[test]
 fn two_lists_at_odds() {
-    let edits: [fn(&mut Node); 5] =
-        [|node| node.start -= 1, |node| node.start += 1, |node| node.end -= 1, |node| node.end += 1, |node| node.level += 1];
+    let edits: [fn(&mut Node); 5] = [
+        |node| node.start -= 1,
+        |node| node.start += 1,
+        |node| node.end -= 1,
+        |node| node.end += 1,
+        |node| node.level += 1,
+    ];
     let places = (0..NODES).map(|index| (NODES, index)).chain([(MOST, MOST - 1)]);
     for ((count, index), edit) in places.flat_map(|place| edits.map(|edit| (place, edit))) {
         let mut edited = sound(count);
@@ -171,7 +185,8 @@ fn any_mark() {
 #[test]
 fn any_mark_too_deep() {
     let deepest = MOST_LEVEL as usize;
-    let sound: Vec<u32> = [vec![1; deepest - 1], vec![TEXT; NODES], vec![CLOSE; deepest - 1]].concat();
+    let sound: Vec<u32> =
+        [vec![1; deepest - 1], vec![TEXT; NODES], vec![CLOSE; deepest - 1]].concat();
     for place in deepest - 1..deepest - 1 + NODES {
         for mark in [1, TEXT] {
             draws(&[&sound[..place], &[1, mark, CLOSE, CLOSE], &sound[place..]].concat(), Deep);
@@ -206,9 +221,14 @@ fn any_number_of_the_contents() {
         for number in [was - 1, was + 1, was ^ 1 << 28, was ^ 1 << 31] {
             let mut damaged = book.clone();
             damaged[place..place + NUMBER_BYTES].copy_from_slice(&number.to_le_bytes());
-            let tags_ascend = (place == first_tag && number < was) || (place == last_tag && number > was);
+            let tags_ascend =
+                (place == first_tag && number < was) || (place == last_tag && number > was);
             let answer = if tags_ascend { Taken } else { Contents };
-            assert_eq!(asking::book_check(&damaged), answer, "the number at byte {place} is {number}");
+            assert_eq!(
+                asking::book_check(&damaged),
+                answer,
+                "the number at byte {place} is {number}"
+            );
         }
     }
 }

@@ -20,7 +20,8 @@ fn shape(random: &mut Random, size: usize) -> Vec<Node> {
     let mut open: Vec<usize> = Vec::with_capacity(size);
     let mut position = 0;
     for _ in 0..random.below(size) {
-        let level = open.last().map_or(0, |&index| nodes[index].level) + 1 + u32::from(random.one_in(6));
+        let level =
+            open.last().map_or(0, |&index| nodes[index].level) + 1 + u32::from(random.one_in(6));
         let text = Node { document: 0, start: position, end: position, level };
         match random.below(5) {
             0 | 1 => close(&mut nodes, open.pop(), position),
@@ -64,7 +65,12 @@ fn settle(random: &mut Random, document: u32, nodes: &mut [Node]) {
         _ => position * (u32::MAX / (last + 1)),
     };
     for node in nodes {
-        *node = Node { document, start: place(node.start), end: place(node.end), level: node.level + raised };
+        *node = Node {
+            document,
+            start: place(node.start),
+            end: place(node.end),
+            level: node.level + raised,
+        };
     }
 }
 
@@ -111,12 +117,16 @@ pub fn any_family(random: &mut Random) -> Vec<Node> {
 
 /// So many zones of document 5, each inside the one before.
 pub fn nest(count: usize) -> Vec<Node> {
-    (0..count as u32).map(|depth| Node { document: 5, start: depth, end: 10_000 - depth, level: 1 + depth }).collect()
+    (0..count as u32)
+        .map(|depth| Node { document: 5, start: depth, end: 10_000 - depth, level: 1 + depth })
+        .collect()
 }
 
 /// So many texts of document 5, side by side inside all those zones.
 pub fn texts(count: usize) -> Vec<Node> {
-    (100..100 + count as u32).map(|start| Node { document: 5, start, end: start, level: MOST_LEVEL }).collect()
+    (100..100 + count as u32)
+        .map(|start| Node { document: 5, start, end: start, level: MOST_LEVEL })
+        .collect()
 }
 
 /// Some of the nodes, in their order.
@@ -129,7 +139,12 @@ fn wild(random: &mut Random) -> Vec<Node> {
     let mut nodes = Vec::new();
     for _ in 0..random.below(5) {
         let (document, start) = (random.pick(&DOCUMENTS[1..3]), random.small(12));
-        nodes.push(Node { document, start, end: start + random.small(6), level: 1 + random.small(3) });
+        nodes.push(Node {
+            document,
+            start,
+            end: start + random.small(6),
+            level: 1 + random.small(3),
+        });
     }
     if !random.one_in(6) {
         nodes.sort_by_key(|node| (node.document, node.start));

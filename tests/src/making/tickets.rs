@@ -6,7 +6,8 @@ use crate::random::Random;
 use belfrychest::raw::Ticket;
 
 /// A ticket for all pairs that are inside, in descendant order.
-pub const FRESH: Ticket = Ticket { relation: 0, order: 0, placed: 0, document: 0, first: 0, second: 0 };
+pub const FRESH: Ticket =
+    Ticket { relation: 0, order: 0, placed: 0, document: 0, first: 0, second: 0 };
 
 /// One of the words that mean the first of two choices, or the second.
 fn choice(random: &mut Random, second: bool) -> u32 {
@@ -37,5 +38,12 @@ pub fn made_up(random: &mut Random, ancestors: &[u32], descendants: &[u32]) -> T
     let (relation, by_ancestor, placed) = (random.one_in(3), random.one_in(2), !random.one_in(3));
     let order = if by_ancestor { Order::Ancestor } else { Order::Descendant };
     let [document, first, second] = key(random, ancestors, descendants, order);
-    Ticket { relation: choice(random, relation), order: choice(random, by_ancestor), placed: choice(random, placed), document, first, second }
+    Ticket {
+        relation: choice(random, relation),
+        order: choice(random, by_ancestor),
+        placed: choice(random, placed),
+        document,
+        first,
+        second,
+    }
 }

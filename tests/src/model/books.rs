@@ -48,7 +48,10 @@ pub fn bytes(lists: &[Tagged]) -> Vec<u8> {
 
 /// The whole numbers that the bytes make.
 pub fn numbers(bytes: &[u8]) -> Vec<u32> {
-    bytes.chunks_exact(NUMBER_BYTES).map(|number| u32::from_le_bytes(number.try_into().expect("four bytes"))).collect()
+    bytes
+        .chunks_exact(NUMBER_BYTES)
+        .map(|number| u32::from_le_bytes(number.try_into().expect("four bytes")))
+        .collect()
 }
 
 /// The entries of a book whose contents break no rule.
@@ -58,12 +61,20 @@ fn contents(book: &[u8]) -> Option<Vec<Entry>> {
     if lists > MOST_LISTS || book.len() < contents_end(lists) {
         return None;
     }
-    let read = |place: usize| Entry { tag: numbers[place], offset: numbers[place + 1] as usize, count: numbers[place + 2] as usize };
+    let read = |place: usize| Entry {
+        tag: numbers[place],
+        offset: numbers[place + 1] as usize,
+        count: numbers[place + 2] as usize,
+    };
     let entries: Vec<Entry> = (0..lists).map(|list| read(1 + 3 * list)).collect();
-    let body_end = |lists_before: usize| contents_end(lists) + entries[..lists_before].iter().map(|entry| NODE_BYTES * entry.count).sum::<usize>();
+    let body_end = |lists_before: usize| {
+        contents_end(lists)
+            + entries[..lists_before].iter().map(|entry| NODE_BYTES * entry.count).sum::<usize>()
+    };
     let tags_ascend = entries.windows(2).all(|two| two[0].tag < two[1].tag);
     let counts_fit = entries.iter().all(|entry| entry.count <= MOST);
-    let laid = (0..lists).all(|list| entries[list].offset == body_end(list)) && book.len() == body_end(lists);
+    let laid = (0..lists).all(|list| entries[list].offset == body_end(list))
+        && book.len() == body_end(lists);
     (tags_ascend && counts_fit && laid).then_some(entries)
 }
 
@@ -74,7 +85,9 @@ pub fn body_nodes(book: &[u8], entry: &Entry) -> Vec<Node> {
 
 /// The first fault in lists, the answer with the list's number and the node's index.
 fn list_fault<'a>(lists: impl Iterator<Item = &'a Vec<Node>>) -> Option<Verdict> {
-    let faults = lists.enumerate().map(|(list, nodes)| first_fault(nodes).map(|(answer, index)| Verdict { answer, list: list as u32, index }));
+    let faults = lists.enumerate().map(|(list, nodes)| {
+        first_fault(nodes).map(|(answer, index)| Verdict { answer, list: list as u32, index })
+    });
     faults.flatten().next()
 }
 
@@ -90,7 +103,8 @@ pub fn check(book: &[u8]) -> Opened {
     match contents(book) {
         None => refused(Verdict::of(Answer::Contents)),
         Some(entries) => {
-            let bodies: Vec<Vec<Node>> = entries.iter().map(|entry| body_nodes(book, entry)).collect();
+            let bodies: Vec<Vec<Node>> =
+                entries.iter().map(|entry| body_nodes(book, entry)).collect();
             let taken = Verdict::of(Answer::Taken);
             list_fault(bodies.iter()).map_or(Opened { verdict: taken, entries }, refused)
         }
@@ -119,11 +133,13 @@ pub fn body(book: &[u8], tag: u32) -> Body {
 
 /// The lists that (tag, count) entries make of the nodes, if the entries break no rule.
 fn wanted(entries: &[u32], nodes: &[u32]) -> Option<Vec<Tagged>> {
-    let entries: Vec<(u32, usize)> = entries.chunks(WANTED_WORDS).map(|entry| (entry[0], entry[1] as usize)).collect();
+    let entries: Vec<(u32, usize)> =
+        entries.chunks(WANTED_WORDS).map(|entry| (entry[0], entry[1] as usize)).collect();
     let tags_ascend = entries.windows(2).all(|two| two[0].0 < two[1].0);
     let counts_fit = entries.iter().all(|&(_, count)| count <= MOST);
     let all: usize = entries.iter().map(|&(_, count)| count).sum();
-    if entries.len() > MOST_LISTS || !tags_ascend || !counts_fit || NODE_WORDS * all != nodes.len() {
+    if entries.len() > MOST_LISTS || !tags_ascend || !counts_fit || NODE_WORDS * all != nodes.len()
+    {
         return None;
     }
     let mut left = nodes.chunks(NODE_WORDS).map(node);

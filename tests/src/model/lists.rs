@@ -15,7 +15,10 @@ fn fault(before: &[Node], node: &Node) -> Option<Answer> {
         Some(Answer::Level)
     } else if node.end < node.start {
         Some(Answer::Span)
-    } else if before.last().map_or(false, |last| (node.document, node.start) <= (last.document, last.start)) {
+    } else if before
+        .last()
+        .map_or(false, |last| (node.document, node.start) <= (last.document, last.start))
+    {
         Some(Answer::Order)
     } else if before.iter().any(crosses) {
         Some(Answer::Cross)
@@ -28,7 +31,9 @@ fn fault(before: &[Node], node: &Node) -> Option<Answer> {
 
 /// The first faulty node's answer and index.
 pub fn first_fault(nodes: &[Node]) -> Option<(Answer, u32)> {
-    (0..nodes.len()).find_map(|index| fault(&nodes[..index], &nodes[index]).map(|answer| (answer, index as u32)))
+    (0..nodes.len()).find_map(|index| {
+        fault(&nodes[..index], &nodes[index]).map(|answer| (answer, index as u32))
+    })
 }
 
 /// The check of the list that has this number.
@@ -39,7 +44,11 @@ pub fn check_as(list: u32, words: &[u32]) -> Verdict {
     if words.len() / NODE_WORDS > MOST {
         return Verdict { answer: Answer::Long, list, index: 0 };
     }
-    first_fault(&nodes(words)).map_or(Verdict::of(Answer::Taken), |(answer, index)| Verdict { answer, list, index })
+    first_fault(&nodes(words)).map_or(Verdict::of(Answer::Taken), |(answer, index)| Verdict {
+        answer,
+        list,
+        index,
+    })
 }
 
 pub fn check(words: &[u32]) -> Verdict {

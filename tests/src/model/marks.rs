@@ -55,7 +55,11 @@ fn check(marks: &[u32]) -> Answer {
 /// The words of the table of accepted marks: a row for each opening and each text.
 fn table(document: u32, marks: &[u32]) -> Vec<u32> {
     let open = open_elements(marks);
-    let close_of = |place: usize| (place..marks.len()).find(|&later| open[later + 1] == open[place]).expect("accepted marks close");
+    let close_of = |place: usize| {
+        (place..marks.len())
+            .find(|&later| open[later + 1] == open[place])
+            .expect("accepted marks close")
+    };
     let row = |place: usize| {
         let end = if marks[place] == TEXT { place } else { close_of(place) };
         [document, place as u32 + 1, end as u32 + 1, open[place] as u32 + 1, marks[place]]
@@ -127,6 +131,11 @@ pub fn pick(table: &[u32], tag: u32, room: usize) -> Written<u32> {
     if let Some(answer) = row_fault(table) {
         return Written::refused(Verdict::of(answer));
     }
-    let picked: Vec<u32> = table.chunks(ROW_WORDS).filter(|row| row[NODE_WORDS] == tag).flat_map(|row| &row[..NODE_WORDS]).copied().collect();
+    let picked: Vec<u32> = table
+        .chunks(ROW_WORDS)
+        .filter(|row| row[NODE_WORDS] == tag)
+        .flat_map(|row| &row[..NODE_WORDS])
+        .copied()
+        .collect();
     Written::within(room, picked.len() / NODE_WORDS, picked)
 }

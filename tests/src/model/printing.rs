@@ -31,7 +31,9 @@ pub fn joined(book: &[u8]) -> Result<Vec<Pair>, Answer> {
 
 /// The program's whole output.
 pub fn printed(book: &[u8]) -> String {
-    let line = |pair: &Pair| format!("{} {} {}\n", pair.ancestor.document, pair.ancestor.start, pair.descendant.start);
+    let line = |pair: &Pair| {
+        format!("{} {} {}\n", pair.ancestor.document, pair.ancestor.start, pair.descendant.start)
+    };
     match joined(book) {
         Ok(pairs) => pairs.iter().map(line).chain([format!("pairs {}\n", pairs.len())]).collect(),
         Err(answer) => format!("refused {} {}\n", answer as u32, NAMES[answer as usize]),
