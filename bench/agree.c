@@ -45,7 +45,7 @@ static void note_verdict(struct notes *notes, belfry_verdict v) {
     note(notes, v.index);
 }
 
-/* The output before a call; some words after its end are part of it, which no call may alter. */
+/* Paints the output before a call, and some words after its end, which no call may alter. */
 static void clear_out(size_t words) {
     for (size_t i = 0; i < words + BELFRY_PAIR_WORDS; i++)
         out[i] = 0xa5a5a5a5 + i;
@@ -77,7 +77,8 @@ static void note_checks(struct notes *notes, const struct code *code, const stru
     note_verdict(notes, two);
 }
 
-/* Page after page with one room, from a ticket on, until one is done or nothing is written. */
+/* Notes page after page with one room, from a ticket on, until one is done or nothing is written.
+ * */
 static void note_pages(struct notes *notes, const struct code *code, const struct input *in,
                        belfry_ticket ticket, size_t room_words) {
     belfry_page page;
@@ -154,7 +155,7 @@ static void compare(const struct input *in, const char *name, unsigned long numb
     }
 }
 
-/* A random number below a limit. */
+/* Returns a random number below a limit. */
 static uint32_t below(uint32_t limit) {
     static uint64_t state = 2026;
     return random_number(&state) % limit;
@@ -184,8 +185,8 @@ static void put_node(struct small *s, size_t list, uint32_t document, uint32_t s
     s->words[list] += BELFRY_NODE_WORDS;
 }
 
-/* A random forest between two positions: each of its nodes goes to one list, to both or to none,
-   and levels may jump. */
+/* Grows a random forest between two positions. Each of its nodes goes to one list, to both or to
+ * none, and levels may jump. */
 static void grow(struct small *s, uint32_t document, uint32_t from, uint32_t to, uint32_t level) {
     while (from <= to && to - from < UINT32_MAX / 2 && level <= BELFRY_MOST_LEVELS) {
         uint32_t start = from + below(to - from + 1) / 2, end = start + below(to - start + 1);
@@ -209,7 +210,7 @@ static void fill_lists(struct small *s) {
         grow(s, document + i, from, from + width, below(4) ? 1 : 58 + below(6));
 }
 
-/* Most damage is a word that is off by a little, so that the nodes nearly fit. */
+/* Damages a list. Most damage is a word that is off by a little, so that the nodes nearly fit. */
 static void damage_list(uint32_t *list, size_t *words) {
     static const uint32_t others[] = {0, 1, BELFRY_MOST_LEVELS, BELFRY_MOST_LEVELS + 1, UINT32_MAX};
     if (*words < BELFRY_NODE_WORDS)
@@ -223,8 +224,8 @@ static void damage_list(uint32_t *list, size_t *words) {
         list[at] += below(5) - 2;
 }
 
-/* Marks that open, close and stand for texts at random, most often all closed at the end; some have
-   one mark changed. */
+/* Fills in marks that open, close and stand for texts at random, most often all closed at the end.
+ * Some have one mark changed. */
 static void fill_marks(struct small *s) {
     static const uint32_t others[] = {BELFRY_CLOSE,    1,         BELFRY_TEXT - 1, BELFRY_TEXT,
                                       BELFRY_TEXT + 1, UINT32_MAX};
@@ -252,8 +253,8 @@ static void put_number(uint8_t *at, uint32_t number) {
         at[i] = number >> 8 * i;
 }
 
-/* The book of both lists under the tags of zones and samples; some have a byte changed, are cut
-   short or go on. */
+/* Fills in the book of both lists under the tags of zones and samples. Some have a byte changed,
+ * are cut short or go on. */
 static void fill_book(struct small *s) {
     size_t end = CONTENTS_BYTES;
     put_number(s->book, SMALL_LISTS);
@@ -324,8 +325,8 @@ static void compare_shape(const char *name) {
     compare(&in, name, BELFRY_MOST_NODES);
 }
 
-/* Lists and marks of as many words as are given, whose nodes are siblings, or a nest as deep as
-   levels go. */
+/* Compares lists and marks of as many words as are given. Their nodes are siblings, or a nest as
+ * deep as levels go. */
 static void compare_limit(size_t words, size_t mark_words, int nested) {
     static uint32_t list[BELFRY_NODE_WORDS * (BELFRY_MOST_NODES + 1)], mark[BELFRY_MOST_NODES + 1];
     static uint8_t book[CONTENTS_BYTES];
@@ -350,7 +351,8 @@ static void compare_limit(size_t words, size_t mark_words, int nested) {
     compare(&in, "the limits", words);
 }
 
-/* The answers that no case drew, of those that the calls compared here can give. */
+/* Tells whether some case drew each answer that the calls compared here can give, and prints those
+ * that none drew. */
 static int are_seen(void) {
     int all = 1;
     for (uint32_t answer = 0; answer < ANSWERS; answer++)

@@ -61,7 +61,7 @@ static inline int pass_run(struct open **top, struct stand *s, uint32_t document
     return 1;
 }
 
-/* Whether the nodes at which both lists stand, and which start together, are identical. */
+/* Tells whether the nodes at which both lists stand, and which start together, are identical. */
 static inline int are_identical(const struct node *x, const struct node *y) {
     return x->end == y->end && x->level == y->level;
 }
@@ -85,12 +85,12 @@ static inline int pass_document(struct open *stack, struct stand *x, struct stan
     }
 }
 
-/* The document of a list's next node, or PAST. */
+/* Returns the document of a list's next node, or PAST. */
 static inline uint64_t document_of(const struct stand *s) {
     return s->next < s->end ? s->next->document : PAST;
 }
 
-/* Whether nothing is wrong with two lists, alone and together. */
+/* Tells whether nothing is wrong with two lists, alone and together. */
 static int are_right(struct lists l) {
     struct open stack[STACK_NODES];
     struct stand x = {l.ancestor, l.ancestors_end, PAST};
@@ -108,7 +108,7 @@ static int are_right(struct lists l) {
     }
 }
 
-/* One list is two of which the second is empty. What is wrong is left to the first pass. */
+/* Checks one list as two of which the second is empty. What is wrong is left to the first pass. */
 static belfry_verdict check_one(const uint32_t *list, size_t words) {
     if (word_fault(words) == BELFRY_TAKEN && are_right(lists_of(list, words, list, 0)))
         return verdict_of(BELFRY_TAKEN);
@@ -126,7 +126,7 @@ static belfry_verdict check_both(const uint32_t *ancestors, size_t ancestor_word
 
 /* The listings. A pair has a leader, by which the order goes first, and a follower. */
 
-/* The first leader at the ticket's place or past it, by halving. */
+/* Returns the first leader at the ticket's place or past it, by halving. */
 static const struct node *first_leader(const belfry_ticket *t, const struct node *n,
                                        const struct node *end) {
     const struct node place = {t->document, t->first, 0, 0};
@@ -142,8 +142,8 @@ static const struct node *first_leader(const belfry_ticket *t, const struct node
     return n;
 }
 
-/* From which start on the followers of the first leader lie past the ticket's place: 0, which is
-   all of them, unless that leader is the place's own. */
+/* Returns the start from which on the followers of the first leader lie past the ticket's place. It
+ * is 0, which takes all of them, unless that leader is the place's own. */
 static uint64_t first_start(const belfry_ticket *t, const struct node *leader,
                             const struct node *end) {
     if (!t->placed || leader == end || leader->document != t->document || leader->start != t->first)
@@ -151,7 +151,7 @@ static uint64_t first_start(const belfry_ticket *t, const struct node *leader,
     return (uint64_t)t->second + 1;
 }
 
-/* The first node of a row that starts there or later. */
+/* Returns the first node of a row that starts there or later. */
 static inline const struct node *from_start(const struct node *n, const struct node *end,
                                             uint64_t start) {
     if (start > 0)
@@ -241,19 +241,19 @@ static int sweep_descendants(struct lists l, const belfry_ticket *ticket, struct
 /* How many descendants further on the search for the end of a run looks. */
 enum { STRIDE = 8 };
 
-/* Whether an ancestor that starts before a node is open at it. */
+/* Tells whether an ancestor that starts before a node is open at it. */
 static inline int is_open(const struct node *a, const struct node *n) {
     return n->document == a->document && n->start <= a->end;
 }
 
-/* The same of a node that may be the list's end. */
+/* Tells the same of a node that may be the list's end. */
 static inline int is_open_at(const struct node *a, const struct node *n, const struct node *end) {
     return n < end && is_open(a, n);
 }
 
-/* Where the run of descendants ends that begins with one at which the ancestor is open. Most runs
-   are of one, so the next is tried first, then a guess and the descendant before it. After that the
-   run is followed by strides. */
+/* Returns where the run of descendants ends that begins with one at which the ancestor is open.
+ * Most runs are of one, so the next is tried first, then a guess and the descendant before it.
+ * After that the run is followed by strides. */
 static inline const struct node *end_of_run(const struct node *a, const struct node *d,
                                             const struct node *d_end, const struct node *guess) {
     if (!is_open_at(a, ++d, d_end))
@@ -273,10 +273,10 @@ static inline const struct node *end_of_run(const struct node *a, const struct n
     return d;
 }
 
-/* The descendant of a run to look at after one that isn't one level deeper. Where more than a
-   stride is left, and the next zone holds this one and the one after it, all that the zone holds
-   are passed: the rest of the run, the rest but one, or what strides reach. A zone that has ended,
-   or holds no more than this one, makes way for the zone after it. */
+/* Returns the descendant of a run to look at after one that isn't one level deeper. Where more than
+ * a stride is left, and the next zone holds this one and the one after it, all that the zone holds
+ * are passed: the rest of the run, the rest but one, or what strides reach. A zone that has ended,
+ * or holds no more than this one, makes way for the zone after it. */
 static inline const struct node *past_inner(const struct node **next_zone,
                                             const struct node *zones_end, const struct node *d,
                                             const struct node *run_end) {
@@ -344,8 +344,9 @@ struct kin {
     uint32_t parent, elder;
 };
 
-/* The kin of a node. The way up from the node before, along the parents already written, leads to
-   the parent; the last node passed on it is the elder sibling. The document is tested once. */
+/* Returns the kin of a node. The way up from the node before, along the parents already written,
+ * leads to the parent; the last node passed on it is the elder sibling. The document is tested
+ * once. */
 static inline struct kin kin_of(const struct node *nodes, uint32_t i,
                                 uint32_t (*links)[BELFRY_LINK_WORDS]) {
     uint32_t parent = i - 1, elder = BELFRY_NONE;

@@ -25,9 +25,9 @@ int qemu_plugin_version = 1;
 
 static uint64_t executed;
 
-/* Each instruction adds one whenever it is executed. Counting whole blocks would be faster and
-   wrong: QEMU puts an instruction that crosses a page off to the next block, and tells the plugin
-   of it in both. */
+/* Lets each instruction add one whenever it is executed. Counting whole blocks would be faster and
+ * wrong: QEMU puts an instruction that crosses a page off to the next block, and tells the plugin
+ * of it in both. */
 static void count_block(plugin_id id, struct qemu_plugin_tb *block) {
     (void)id;
     for (size_t i = 0; i < qemu_plugin_tb_n_insns(block); i++)

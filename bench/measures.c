@@ -25,7 +25,7 @@ static void put_numbers(const uint32_t *numbers, size_t count) {
     book_bytes += count * sizeof numbers[0];
 }
 
-/* The book of the shape's two lists. */
+/* Builds the book of the shape's two lists. */
 static void build_book(void) {
     uint32_t zones_at = BELFRY_BOOK_BYTES(BOOK_LISTS, 0);
     uint32_t samples_at = BELFRY_BOOK_BYTES(BOOK_LISTS, shape.zones);
@@ -69,7 +69,7 @@ int prepare_measure(struct measure *measure, const char *name, const char *shape
     return 1;
 }
 
-/* All pages of a listing. */
+/* Fetches all pages of a listing, and returns how many pairs they have. */
 static size_t list_all(const struct measure *measure, const struct code *code) {
     belfry_ticket ticket = measure->ticket;
     size_t pairs = 0;

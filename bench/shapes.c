@@ -56,7 +56,7 @@ static void put_zone_with_sample(struct building *b) {
     close_element(b);
 }
 
-/* Zones side by side, a sample in each. */
+/* Builds zones side by side, a sample in each. */
 static void build_flat(struct building *b) {
     while (has_room(b, 1, 1))
         put_zone_with_sample(b);
@@ -75,7 +75,7 @@ static void build_nests(struct building *b) {
     }
 }
 
-/* Such nests with a sample before and a sample after each inner zone. */
+/* Builds such nests with a sample before and a sample after each inner zone. */
 static void build_between(struct building *b) {
     size_t deep = BELFRY_MOST_LEVELS - 1 - b->depth;
     if (deep > b->most / 2)
@@ -97,7 +97,7 @@ uint32_t random_number(uint64_t *state) {
     return *state >> 33;
 }
 
-/* A walk that opens a zone, opens a sample or closes what is open, at random. */
+/* Builds a walk that opens a zone, opens a sample or closes what is open, at random. */
 static void build_random(struct building *b) {
     uint64_t state = 1;
     size_t lowest = b->depth, deepest = lowest + DEEPEST_RANDOM;
@@ -114,7 +114,7 @@ static void build_random(struct building *b) {
         close_element(b);
 }
 
-/* Zones side by side, of which `holders` hold `samples` each. */
+/* Builds zones side by side, of which `holders` hold `samples` each. */
 static void build_some(struct building *b, size_t holders, size_t samples) {
     size_t apart = b->most < holders ? 1 : b->most / holders;
     for (size_t i = 0; i < b->most; i++) {
@@ -135,7 +135,7 @@ static void build_documents(struct building *b) {
     }
 }
 
-/* The random tree's zones, as samples too. */
+/* Builds the random tree's zones, as samples too. */
 static void build_twice(struct building *b) {
     struct shape *s = b->shape;
     build_random(b);

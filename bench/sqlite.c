@@ -35,7 +35,7 @@ static sqlite3_stmt *prepared(const char *text) {
     return statement;
 }
 
-/* Document and position as one number, as the tables' keys are. */
+/* Returns document and position as one number, as the tables' keys are. */
 static sqlite3_int64 place_of(const uint32_t *node, size_t position) {
     return (sqlite3_int64)node[0] << 32 | node[position];
 }
@@ -61,8 +61,8 @@ static void fill(const char *table, const uint32_t *nodes, size_t count) {
     sqlite3_finalize(insert);
 }
 
-/* The query for the listing inside in an order. That a sample starts before its zone ends follows
-   from how it ends; it lets the key end the search. */
+/* Returns the query for the listing inside in an order. That a sample starts before its zone ends
+ * follows from how it ends; it lets the key end the search. */
 static sqlite3_stmt *query(const char *order, const char *before) {
     char text[512];
     snprintf(text, sizeof text,

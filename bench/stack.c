@@ -119,7 +119,7 @@ static void make_call(void) {
     made(made_by);
 }
 
-/* The bytes that a call leaves without paint. */
+/* Counts the bytes that a call leaves without paint. */
 static size_t unpainted(void (*make)(const struct code *code), const struct code *code,
                         unsigned char paint) {
     size_t left = 0;
@@ -137,8 +137,8 @@ static size_t unpainted(void (*make)(const struct code *code), const struct code
     return sizeof area - left;
 }
 
-/* The stack of a call, in whole words of it. A byte that happens to be written in the paint's
-   colour has another colour the second time. */
+/* Returns the stack of a call, in whole words of it. A byte that happens to be written in the
+ * paint's colour has another colour the second time. */
 static size_t stack_of(void (*make)(const struct code *code), const struct code *code) {
     static const unsigned char paints[PAINTS] = {0xa5, 0x5a};
     size_t most = 0;
@@ -166,7 +166,7 @@ static void prepare(const char *shape_name) {
     book_bytes = sizeof contents + zone_words * sizeof lists.zone[0];
 }
 
-/* The last node of each list, and of the book, gets a level that is too high. */
+/* Gives the last node of each list, and of the book, a level that is too high. */
 static void damage(void) {
     lists.zone[zone_words - 1] = BELFRY_MOST_LEVELS + 1;
     lists.sample[sample_words - 1] = BELFRY_MOST_LEVELS + 1;

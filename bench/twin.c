@@ -8,9 +8,9 @@ static belfry_verdict check_one(const uint32_t *list, size_t words) {
 }
 
 #if FUSED
-/* Whether nothing is wrong with two lists, alone and together: one pass. The loops are those of
-   are_agreeing, written out: shared, they take both compilers three or four instructions a node
-   more. */
+/* Tells whether nothing is wrong with two lists, alone and together: one pass. The loops are those
+ * of are_agreeing, written out: shared, they take both compilers three or four instructions a node
+ * more. */
 static int are_taken(struct lists l) {
     struct node stack[STACK_NODES], *top = stack;
     *top = EVERYTHING;
@@ -85,7 +85,7 @@ static inline struct node *open_ancestors(struct node *stack, struct node *top, 
 }
 
 /* Pairs each descendant with the ancestors open at it, past the ticket's place. Directly inside it
-   can only lie in the innermost. It says whether all found room. */
+ * can only lie in the innermost. Tells whether all found room. */
 static int sweep_descendants(struct lists l, const belfry_ticket *ticket, struct writing *w) {
     const struct node place = {ticket->document, ticket->first, 0, 0};
     struct node stack[STACK_NODES], *top = stack;
@@ -108,8 +108,8 @@ static int sweep_descendants(struct lists l, const belfry_ticket *ticket, struct
     return 1;
 }
 
-/* Pairs each ancestor with the run of descendants that start in it, past the ticket's place. It
-   says whether all found room. */
+/* Pairs each ancestor with the run of descendants that start in it, past the ticket's place. Tells
+ * whether all found room. */
 static int sweep_ancestors(struct lists l, const belfry_ticket *ticket, struct writing *w) {
     const struct node place = {ticket->document, ticket->first, 0, 0};
     if (ticket->placed)
@@ -136,8 +136,8 @@ static inline int has_ended(const struct node *earlier, const struct node *n) {
     return earlier->document != n->document || earlier->end < n->start;
 }
 
-/* The links of a list that was taken. The last node left on the way to a node's parent is its elder
-   sibling, if it is of the same document. */
+/* Links the nodes of a list that was taken. The last node left on the way to a node's parent is its
+ * elder sibling, if it is of the same document. */
 static void link_nodes(const struct node *nodes, size_t count,
                        uint32_t (*links)[BELFRY_LINK_WORDS]) {
     uint32_t open[BELFRY_MOST_LEVELS];

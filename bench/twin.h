@@ -46,7 +46,7 @@ enum { STACK_NODES = BELFRY_MOST_LEVELS + 1 };
 
 static const struct node EVERYTHING = {0, 0, UINT32_MAX, 0};
 
-/* The top of the stack once those are taken off that ended before the node. */
+/* Returns the top of the stack once those are taken off that ended before the node. */
 static inline struct node *open_at(struct node *stack, struct node *top, const struct node *n) {
     if (n->document != top->document)
         return stack;
@@ -67,7 +67,7 @@ static inline uint32_t open_node(struct node *stack, struct node **top, const st
     return BELFRY_TAKEN;
 }
 
-/* What is wrong with a node. */
+/* Returns what is wrong with a node. */
 static inline uint32_t check_node(struct node *stack, struct node **top, const struct node *n) {
     const struct node *last = *top;
     if (n->level - 1 >= BELFRY_MOST_LEVELS)
@@ -90,7 +90,7 @@ static belfry_verdict verdict_of(uint32_t answer) {
     return (belfry_verdict){answer, 0, 0};
 }
 
-/* One list alone: the first pass, and the second. */
+/* Checks one list alone: the first pass, and the second. */
 static belfry_verdict check_list(const uint32_t *list, size_t words) {
     const struct node *nodes = (const struct node *)list, *end = nodes + words / BELFRY_NODE_WORDS;
     struct node stack[STACK_NODES], *top = stack;
@@ -115,8 +115,8 @@ static inline int is_before(const struct node *x, const struct node *y) {
     return x->document < y->document || (x->document == y->document && x->start < y->start);
 }
 
-/* The next node of two lists that both have more, in start order; NULL where each has another at
-   the same start, and where both have the same, it is taken once. */
+/* Returns the next node of two lists that both have more, in start order. It is NULL where each has
+ * another at the same start; where both have the same, that is taken once. */
 static inline const struct node *next_node(struct lists *l) {
     if (is_before(l->ancestor, l->descendant))
         return l->ancestor++;
@@ -125,7 +125,7 @@ static inline const struct node *next_node(struct lists *l) {
     return l->descendant++;
 }
 
-/* Whether two lists that were taken alone agree: the third pass. */
+/* Tells whether two lists that were taken alone agree: the third pass. */
 static int are_agreeing(struct lists l) {
     struct node stack[STACK_NODES], *top = stack;
     *top = EVERYTHING;
@@ -143,7 +143,7 @@ static int are_agreeing(struct lists l) {
     return 1;
 }
 
-/* All three passes. */
+/* Makes all three passes. */
 static belfry_verdict three_passes(const uint32_t *ancestors, size_t ancestor_words,
                                    const uint32_t *descendants, size_t descendant_words) {
     belfry_verdict verdict = check_list(ancestors, ancestor_words);
@@ -167,12 +167,12 @@ struct writing {
 
 /* What each form does in its own way. */
 
-/* Whether a list is taken, and two lists together. */
+/* Checks a list alone, or two lists together. */
 static belfry_verdict check_one(const uint32_t *list, size_t words);
 static belfry_verdict check_both(const uint32_t *ancestors, size_t ancestor_words,
                                  const uint32_t *descendants, size_t descendant_words);
 
-/* Write the pairs past the ticket's place. They say whether all found room. */
+/* Writes the pairs past the ticket's place, and tells whether all found room. */
 static int sweep_descendants(struct lists l, const belfry_ticket *ticket, struct writing *w);
 static int sweep_ancestors(struct lists l, const belfry_ticket *ticket, struct writing *w);
 
@@ -191,7 +191,7 @@ belfry_verdict TWIN(check_two)(const uint32_t *ancestors, size_t ancestor_words,
     return check_both(ancestors, ancestor_words, descendants, descendant_words);
 }
 
-/* The ticket after a page whose last pair is given. */
+/* Returns the ticket after a page whose last pair is given. */
 static belfry_ticket ticket_after(belfry_ticket ticket, const struct pair *last) {
     ticket.placed = 1;
     ticket.document = last->descendant.document;
@@ -231,7 +231,7 @@ belfry_result TWIN(links)(const uint32_t *list, size_t words, uint32_t *out, siz
     return result_of(verdict, count);
 }
 
-/* What is wrong with a document's marks, and how many rows its table has. */
+/* Returns what is wrong with a document's marks, and how many rows its table has. */
 static uint32_t check_marks(const uint32_t *marks, size_t count, size_t *rows) {
     size_t depth = 0, found = 0;
     for (size_t i = 0; i < count; i++) {
@@ -253,7 +253,7 @@ static uint32_t check_marks(const uint32_t *marks, size_t count, size_t *rows) {
     return count == 0 || depth > 0 ? BELFRY_UNCLOSED : BELFRY_TAKEN;
 }
 
-/* The rows of marks that were taken. An element's end is filled in at its close. */
+/* Writes the rows of marks that were taken. An element's end is filled in at its close. */
 static void write_rows(uint32_t document, const uint32_t *marks, size_t count,
                        uint32_t (*row)[BELFRY_ROW_WORDS]) {
     uint32_t *ends[BELFRY_MOST_LEVELS];
@@ -288,7 +288,7 @@ belfry_result TWIN(number)(uint32_t document, const uint32_t *marks, size_t mark
     return result_of(verdict_of(BELFRY_TAKEN), rows);
 }
 
-/* A number of a book, which may lie anywhere. */
+/* Returns a number of a book, which may lie anywhere. */
 static inline uint32_t number_at(const uint8_t *at) {
     return at[0] | (uint32_t)at[1] << 8 | (uint32_t)at[2] << 16 | (uint32_t)at[3] << 24;
 }
@@ -303,7 +303,7 @@ static inline struct entry entry_at(const uint8_t *book, size_t index) {
     return (struct entry){number_at(at), number_at(at + 4), number_at(at + 8)};
 }
 
-/* Whether the contents keep the rules, and how many lists they name. */
+/* Tells whether the contents keep the rules, and how many lists they name. */
 static int are_contents(const uint8_t *book, size_t bytes, uint32_t *lists) {
     if (bytes < BELFRY_NUMBER_BYTES || number_at(book) > BELFRY_MOST_LISTS)
         return 0;
@@ -322,7 +322,7 @@ static int are_contents(const uint8_t *book, size_t bytes, uint32_t *lists) {
     return end == bytes;
 }
 
-/* One list alone, out of a book's bytes. */
+/* Checks one list alone, out of a book's bytes. */
 static belfry_verdict check_body(const uint8_t *at, uint32_t count) {
     struct node stack[STACK_NODES], *top = stack;
     *top = EVERYTHING;

@@ -342,9 +342,9 @@ belfry_result belfry_pick(const uint32_t *table, size_t table_words, uint32_t ta
                           size_t out_words);
 
 /* Links a list's nodes to the forest of what contains what. It reads the list and writes a link for
- * each node: the index of its parent, which is the innermost node that contains it, of its first
- * child, and of the next node with the same parent in the same document, or BELFRY_NONE.
- * Answers: those of belfry_check, then ROOM. */
+ * each node. A link has the index of the node's parent, which is the innermost node that contains
+ * it, and of its first child. Its third index is that of the next node with the same parent in the
+ * same document. BELFRY_NONE says that there is none. Answers: those of belfry_check, then ROOM. */
 BELFRY_MUST_USE
 BELFRY_NONNULL
 belfry_result belfry_links(const uint32_t *list, size_t words, uint32_t *out, size_t out_words);
@@ -380,7 +380,7 @@ void belfry_name(uint32_t answer, uint8_t out[BELFRY_NAME_BYTES]);
 
 /* ---- What the calls of nodes stand on. ---- */
 
-/* Return the address that stands in for an array of no words, and of no bytes. */
+/* Returns the address that stands in for an array of no words, and of no bytes. */
 static inline uint32_t *belfry_no_words(void) {
     static uint32_t none;
     return &none;

@@ -17,8 +17,9 @@ static void expect_page(const char *what, belfry_page page, uint32_t done, size_
     expect("count", page.count, count);
 }
 
-/* Four nodes counted as four where words are wanted are one node: the call of words takes that and
- * says done, and all pairs but one are lost. Three are RAGGED. The call of nodes finds them all. */
+/* Counts four nodes as four where words are wanted, which is one node. The call of words takes that
+ * and says done, and all pairs but one are lost. Three are RAGGED. The call of nodes finds them
+ * all. */
 static void count_nodes_for_words(void) {
     uint32_t zone_words[16], sample_words[16], out_words[BELFRY_PAIR_WORDS * ROOM];
     belfry_pair out[ROOM];
@@ -34,7 +35,7 @@ static void count_nodes_for_words(void) {
                 belfry_list_pairs(zones, 4, samples, 4, fresh_ticket(), out, ROOM), 1, ALL_PAIRS);
 }
 
-/* Null with a count of 0, in the calls of lists. */
+/* Gives null with a count of 0 to the calls of lists. */
 static void give_null_lists(void) {
     belfry_pair out[ROOM];
     expect_verdict("belfry_check_nodes", belfry_check_nodes(NULL, 0), BELFRY_TAKEN, 0, 0);
@@ -57,7 +58,7 @@ static void give_null_lists(void) {
                    BELFRY_ROOM, 0, 0);
 }
 
-/* Null with a count of 0, in the calls of marks and tables. */
+/* Gives null with a count of 0 to the calls of marks and tables. */
 static void give_null_tables(void) {
     const uint32_t marks[] = {1, 0};
     const belfry_row table[] = {{5, 1, 2, 1, 1}};
@@ -74,7 +75,7 @@ static void give_null_tables(void) {
                    BELFRY_ROOM, 0, 0);
 }
 
-/* Null with a count of 0, in the calls of books and in a stored ticket. */
+/* Gives null with a count of 0 to the calls of books and for a stored ticket. */
 static void give_null_books(void) {
     const belfry_entry empty_list[] = {{2, 0}};
     uint8_t book[BELFRY_BOOK_BYTES(1, 0)];
@@ -154,8 +155,8 @@ static void overflow(void) {
     overflow_rooms();
 }
 
-/* Room for no pair: nothing is handed out, and the call isn't done while a pair remains, however
- * often it is made. After the last pair it is. */
+/* Gives room for no pair. Nothing is handed out, and the call isn't done while a pair remains,
+ * however often it is made. After the last pair it is. */
 static void give_no_room(void) {
     belfry_pair pairs[ROOM];
     uint32_t zone_words[16], sample_words[16], out[BELFRY_PAIR_WORDS - 1];
@@ -177,7 +178,8 @@ static void give_no_room(void) {
                 belfry_list_pairs(zones, 4, samples, 4, page.ticket, pairs, 0), 1, 0);
 }
 
-/* Bytes that aren't a ticket of this form are refused, and the caller's ticket stays as it was. */
+/* Checks that bytes which aren't a ticket of this form are refused, and that the caller's ticket
+ * stays as it was. */
 static void refuse_bytes(const uint8_t *stored, size_t bytes, belfry_ticket_fault fault) {
     const belfry_ticket kept = {1, 2, 3, 4, 5, 6};
     belfry_ticket ticket = kept;
@@ -185,7 +187,7 @@ static void refuse_bytes(const uint8_t *stored, size_t bytes, belfry_ticket_faul
     expect_ticket(ticket, kept);
 }
 
-/* A ticket is stored as its form and its words, the lowest byte first. Another form, as a later
+/* Stores a ticket as its form and its words, the lowest byte first. Another form, as a later
  * version of the library stores, and bytes that were cut off are refused. */
 static void store_ticket(void) {
     const belfry_ticket ticket = {1, 9, 0xFFFFFFFF, 0x04030201, 0x10, 0x8000};
@@ -216,7 +218,7 @@ static void store_ticket(void) {
     refuse_bytes(stored, BELFRY_TICKET_BYTES, BELFRY_TICKET_OTHER_FORM);
 }
 
-/* A name is printed as a string: without blanks, and with a zero at its end. */
+/* Prints a name as a string: without blanks, and with a zero at its end. */
 static void print_name(void) {
     const char full[] = "CONTENTS", part[] = "ROOM";
     char name[BELFRY_NAME_BYTES + 2];

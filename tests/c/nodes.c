@@ -69,7 +69,7 @@ static void check_both(size_t zone_count, size_t sample_count) {
     expect("the part's nodes", BELFRY_NODE_WORDS * part.count, words.words);
 }
 
-/* A page with room for some pairs, in ancestor order. */
+/* Lists a page with room for some pairs, in ancestor order. */
 static void list_both(size_t zone_count, size_t sample_count, size_t room) {
     const belfry_ticket fresh = BELFRY_TICKET(BELFRY_INSIDE, BELFRY_ANCESTOR_ORDER);
     belfry_pair out[ROOM];
@@ -178,7 +178,7 @@ static void read_book(void) {
     expect_output(out, sizeof out, stored, 0);
 }
 
-/* Each number of zones with each of samples. */
+/* Tries each number of zones with each of samples. */
 static void try_lists(void) {
     for (size_t i = 0; i < (COUNT(zones) + 1) * (COUNT(samples) + 1); i++) {
         const size_t zone_count = i % (COUNT(zones) + 1), sample_count = i / (COUNT(zones) + 1);
@@ -189,7 +189,7 @@ static void try_lists(void) {
     }
 }
 
-/* Each number of marks, rows and nodes, with enough room and with too little. */
+/* Tries each number of marks, rows and nodes, with enough room and with too little. */
 static void try_counts(void) {
     for (size_t count = 0; count <= COUNT(marks); count++) {
         number_marks(count, ROOM);
@@ -203,7 +203,7 @@ static void try_counts(void) {
     }
 }
 
-/* Each number of entries with each of nodes, with enough room and with a byte less. */
+/* Tries each number of entries with each of nodes, with enough room and with a byte less. */
 static void try_books(void) {
     uint8_t book[BELFRY_BOOK_BYTES(COUNT(entries), COUNT(stored))];
     for (size_t i = 0; i < (COUNT(entries) + 1) * (COUNT(stored) + 1); i++) {

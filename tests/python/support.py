@@ -33,7 +33,7 @@ def words(nodes):
 
 
 def in_five(*nodes):
-    """The list of nodes of document 5, given as (start, end, level)."""
+    """Returns the list of nodes of document 5, given as (start, end, level)."""
     return words((5, *node) for node in nodes)
 
 
@@ -46,7 +46,7 @@ def starts(pairs):
 
 
 def ticket(*numbers):
-    """The ticket of some words; those that aren't given are 0."""
+    """Returns the ticket of some words; those that aren't given are 0."""
     return Ticket.from_words(numbers + (0,) * (6 - len(numbers)))
 
 
@@ -90,7 +90,7 @@ def random_marks(rng, length):
 
 
 def random_tree(rng, length=10, documents=(5, 6)):
-    """The nodes of some documents, as (document, start, end, level)."""
+    """Returns the nodes of some documents, as (document, start, end, level)."""
     tables = (model.number(document, random_marks(rng, rng.randint(0, length)))[1]
               for document in documents)
     return [row[:4] for table in tables for row in table]
@@ -101,7 +101,7 @@ def some_of(rng, nodes):
 
 
 def damaged(rng, nodes):
-    """Half of the time one number of one node is another one."""
+    """Returns the nodes, half of the time with one number of one node changed."""
     made = [list(node) for node in nodes]
     if made and rng.random() < 0.5:
         other = rng.choice((0, 1, 2, 3, 5, 6, 7, 64, 65, NONE))
@@ -110,6 +110,6 @@ def damaged(rng, nodes):
 
 
 def tuples(out, count):
-    """The first pairs of an output, as two tuples each."""
+    """Returns the first pairs of an output, as two tuples each."""
     ends = range(8, 8 * count + 8, 8)
     return [(tuple(out[end - 8:end - 4]), tuple(out[end - 4:end])) for end in ends]

@@ -76,7 +76,7 @@ def in_document(*nodes):
 # Where a fault is, naively.
 
 def naive_partner(nodes, index, answer):
-    """The last earlier node that the faulty one is at odds with."""
+    """Returns the last earlier node that the faulty one is at odds with."""
     at, earlier = nodes[index], list(enumerate(nodes[:index]))
     if answer == Answer.ORDER:
         return index - 1
@@ -89,7 +89,7 @@ def naive_partner(nodes, index, answer):
 
 
 def naive_spots(zones, samples):
-    """The faulty node and its partner, each as (list, index)."""
+    """Returns the faulty node and its partner, each as (list, index)."""
     verdict = two_lists(zones, samples)
     if verdict.answer == Answer.JOINT:
         at_odds = [(s, z) for s, sample in enumerate(samples) for z, zone in enumerate(zones)
@@ -104,14 +104,16 @@ def naive_spots(zones, samples):
 
 
 def naive_row_fault(entries):
-    """The byte of the first tag that doesn't ascend, or of the first count that is too great."""
+    """Returns the byte of the first tag that doesn't ascend, or of the first count that is too
+    great.
+    """
     places = [4 + 12 * k for k, (tag, _, _) in enumerate(entries) if k and tag <= entries[k - 1][0]]
     places += [12 + 12 * k for k, (_, _, count) in enumerate(entries) if count > 4096]
     return min(places, default=None)
 
 
 def naive_byte(book):
-    """The byte at which a book's contents are wrong."""
+    """Returns the byte at which a book's contents are wrong."""
     lists = int.from_bytes(book[:4], "little")
     if len(book) < 4 or lists > 16:
         return len(book) if len(book) < 4 else 0
@@ -128,9 +130,9 @@ def naive_byte(book):
 
 
 def stored_answers():
-    """For each of the figures' books the numbers that it must draw: the answer of reading it with
-    its list and index, and that of joining its first two lists, which the program prints but for
-    books that are too long for it.
+    """Returns for each of the figures' books the numbers that it must draw: the answer of reading
+    it, its list and its index, and the answer of joining its first two lists. The program prints
+    the latter, unless the book is too long for it.
     """
     found, name = {}, None
     for line in (FIGURES / "stdout").read_text().splitlines():
@@ -300,7 +302,7 @@ class Show(unittest.TestCase):
 
 
 def panels(svg):
-    """The nodes of each panel: class, title, left, top, right, bottom and label."""
+    """Returns the nodes of each panel: class, title, left, top, right, bottom and label."""
     found = []
     for block in ElementTree.fromstring(svg).findall(f"{SVG}g"):
         groups = block.findall(f"{SVG}g")
@@ -513,7 +515,7 @@ class WithFiles(unittest.TestCase):
         self.folder = Path(folder.name)
 
     def path(self, name, data=None):
-        """The path of a file, which is written if there is data."""
+        """Returns the path of a file, which is written if there is data."""
         path = self.folder / name
         if data is not None:
             path.write_bytes(data)

@@ -23,14 +23,14 @@ except ImportError:
 
 
 def mapped(numbers):
-    """The numbers in a mapped file without a name."""
+    """Returns the numbers in a mapped file without a name."""
     file = mmap(-1, 4096)
     file[:4 * len(numbers)] = array("I", numbers).tobytes()
     return memoryview(file)[:4 * len(numbers)].cast("I")
 
 
 def shaped(numbers, *last):
-    """The numbers with a last dimension, or several."""
+    """Returns the numbers with a last dimension, or several."""
     held = bytearray(array("I", numbers).tobytes())
     items = len(numbers)
     for dimension in last:
@@ -39,7 +39,7 @@ def shaped(numbers, *last):
 
 
 def in_rows(numbers):
-    """Empty memory with `numbers` numbers a row."""
+    """Returns empty memory with `numbers` numbers a row."""
     return ((ctypes.c_uint32 * numbers) * 0)()
 
 

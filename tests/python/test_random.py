@@ -99,8 +99,8 @@ class AgainstTheModel(unittest.TestCase):
         return answer, result if answer == "TAKEN" else array("I")
 
     def placed(self, function, *arguments):
-        """The answer's name, list and index, and what the call returned; no bytes where it was
-        refused. The model says 0 where no place is meant.
+        """Returns the answer's name, list and index, and what the call returned, which is no bytes
+        where it was refused. The model says 0 where no place is meant.
         """
         try:
             return "TAKEN", 0, 0, function(*arguments)

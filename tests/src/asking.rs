@@ -10,7 +10,7 @@ use belfrychest::raw;
 /// The verdict of a call that is taken.
 pub const TAKEN: raw::Verdict = raw::Verdict { answer: 0, list: 0, index: 0 };
 
-/// The verdict of the model in the numbers of the C interface.
+/// Returns the verdict of the model in the numbers of the C interface.
 pub fn raw_verdict(verdict: Verdict) -> raw::Verdict {
     raw::Verdict { answer: verdict.answer as u32, list: verdict.list, index: verdict.index }
 }
@@ -46,7 +46,7 @@ pub fn faulty(ancestors: &[u32], descendants: &[u32]) -> Answer {
     verdict.answer
 }
 
-/// What the words of a ticket mean.
+/// Returns what the words of a ticket mean.
 pub fn meaning(ticket: &raw::Ticket) -> Ticket {
     Ticket {
         relation: if ticket.relation == 0 { Relation::Inside } else { Relation::Directly },
@@ -55,7 +55,8 @@ pub fn meaning(ticket: &raw::Ticket) -> Ticket {
     }
 }
 
-/// The ticket that comes back from this page: as it was, with another place if something was written.
+/// Returns the ticket that comes back from this page: as it was, or with another place if something
+/// was written.
 fn ticket_after(ticket: raw::Ticket, page: &pages::Page) -> raw::Ticket {
     match page.place {
         Some([document, first, second]) if !page.pairs.is_empty() => {
@@ -143,7 +144,7 @@ pub fn book_write(entries: &[u32], nodes: &[u32], out: &mut [u8]) -> Answer {
     expected.verdict.answer
 }
 
-/// The output holds a name's bytes at least.
+/// Checks the name of a number. The output has room for a name's bytes at least.
 pub fn name(number: u32, out: &mut [u8]) {
     extern "C" {
         fn belfry_name(answer: u32, out: *mut u8);

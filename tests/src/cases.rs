@@ -21,7 +21,7 @@ pub struct Function {
 }
 
 impl Function {
-    /// Runs so many cases, and fails unless each answer came that the function can give.
+    /// Runs `cases` cases, and fails unless each answer came that the function can give.
     pub fn hold(&self, first_seed: u64, cases: u64, ground: Ground) {
         let mut tally = Tally::default();
         each_case(first_seed, cases, |random| tally.count((self.case)(random, ground)));
@@ -140,7 +140,8 @@ fn book_write(random: &mut Random, ground: Ground) -> Answer {
     )
 }
 
-/// Names of numbers that have one and of numbers that have none. The output is a name's bytes long, or longer.
+/// Checks names of numbers that have one and of numbers that have none. The output is a name's
+/// bytes long, or longer.
 pub fn name(random: &mut Random, ground: Ground) {
     let number = if random.one_in(2) { random.small(20) } else { random.word() };
     asking::name(number, &mut ground.room(NAME_BYTES + 4 * random.below(2)));

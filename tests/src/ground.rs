@@ -16,7 +16,7 @@ pub enum Ground {
 }
 
 impl Ground {
-    /// A copy of the words there. Beside a guard it can't be written.
+    /// Returns a copy of the words there. Beside a guard it can't be written.
     pub fn lend<T: Word>(self, words: &[T]) -> Lent<T> {
         match self {
             Ground::Heap => Lent::Heap(words.to_vec()),
@@ -29,7 +29,7 @@ impl Ground {
         }
     }
 
-    /// An output of so many words there.
+    /// Returns an output of `count` words there.
     pub fn room<T: Word>(self, count: usize) -> Lent<T> {
         match self {
             Ground::Heap => Lent::Heap(vec![T::default(); count]),

@@ -26,7 +26,7 @@ impl Lists {
         self.ancestors.contains(&pair.ancestor) && self.descendants.contains(&pair.descendant)
     }
 
-    /// Whether nodes of the pair's starts stand in the lists, be they these or others.
+    /// Tells whether nodes of the pair's starts stand in the lists, be they these or others.
     fn hold_starts(&self, pair: &Pair) -> bool {
         let stands = |list: &[Node], node: &Node| {
             list.iter().any(|other| (other.document, other.start) == (node.document, node.start))
@@ -98,7 +98,8 @@ impl History {
         page
     }
 
-    /// Whether a pair has the relation that the first ticket asks for, and lies past its place.
+    /// Tells whether a pair has the relation that the first ticket asks for, and lies past its
+    /// place.
     fn is_asked_for(&self, pair: &Pair) -> bool {
         let asked = meaning(&self.first_ticket);
         pair.has(asked.relation) && asked.place.map_or(true, |place| pair.key(asked.order) > place)
@@ -141,7 +142,8 @@ impl History {
         self.standing = Some(standing);
     }
 
-    /// A call said done: every pair that stood unaltered has been handed out, once.
+    /// Checks at a call that said done that every pair that stood unaltered has been handed out,
+    /// once.
     fn hold_done(&self) {
         for pair in self.standing.iter().flatten() {
             let times = self.handed_out.iter().filter(|handed_out| *handed_out == pair).count();

@@ -8,7 +8,8 @@ pub mod tickets;
 use crate::model::MOST;
 use crate::random::Random;
 
-/// Words that make whole items of this size, as they are, or now and then not: a few too many or too few, or more items than any list may have.
+/// Returns the words as they are, which make whole items of this size. Now and then they don't:
+/// there are a few too many or too few, or more items than any list may have.
 fn misfit(random: &mut Random, mut words: Vec<u32>, size: usize) -> Vec<u32> {
     match random.below(1_000) {
         0..=5 => words.resize(

@@ -16,8 +16,9 @@ impl Word for u8 {
     const COATS: [u8; 2] = [0xA5, !0xA5];
 }
 
-/// Makes the call twice, on the output painted in either coat. Each time it must give this answer, with these words at the output's beginning and
-/// the paint behind them. The question is shown if it doesn't.
+/// Makes the call twice, on the output painted in either coat. Each time it must give this answer,
+/// with these words at the output's beginning and the paint after them. The question is shown if it
+/// doesn't.
 pub fn hold<T: Word, A: Debug + PartialEq>(
     question: &dyn Debug,
     out: &mut [T],

@@ -14,7 +14,7 @@ use outside::model::printing::printed;
 const DOCUMENT: u32 = 5;
 const BOOK: &[u8] = include_bytes!("../../examples/figure.book");
 
-/// A list of document 5 from (start, end, level).
+/// Returns a list of document 5 from (start, end, level).
 fn list(nodes: &[[u32; 3]]) -> Vec<u32> {
     nodes.iter().flat_map(|&[start, end, level]| [DOCUMENT, start, end, level]).collect()
 }
@@ -31,7 +31,7 @@ fn ticket(relation: u32, order: u32) -> Ticket {
     Ticket { relation, order, ..FRESH }
 }
 
-/// The starts of the pairs of one page, whether it was done, and the ticket for the next.
+/// Returns the starts of the pairs of one page, whether it was done, and the ticket for the next.
 fn page(
     ancestors: &[u32],
     descendants: &[u32],

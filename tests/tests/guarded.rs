@@ -47,7 +47,7 @@ fn right_behind_a_guard() {
 /// The system's number for memory that it can't read or write on behalf of the process.
 const BAD_ADDRESS: Option<i32> = Some(14);
 
-/// A byte beside a buffer. Nobody but the system is asked to read it.
+/// Returns a byte beside a buffer. Nobody but the system is asked to read it.
 fn beside(buffer: &Lent<u8>, places: isize) -> &[u8] {
     unsafe { slice::from_raw_parts(buffer.as_ptr().offset(places), 1) }
 }

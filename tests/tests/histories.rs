@@ -30,7 +30,8 @@ fn call(history: &mut History, lists: &Lists, room: usize) -> Page {
     history.call(&words(&lists.ancestors), &words(&lists.descendants), room)
 }
 
-/// The lists after no edit, one or two, which may damage them. All nodes of the documents are there to be put in.
+/// Returns the lists after no edit, one or two, which may damage them. All nodes of the documents
+/// are there to be put in.
 fn edited(random: &mut Random, lists: &Lists, all: &[Node]) -> Lists {
     let mut lists = lists.clone();
     for _ in 0..random.pick(&[0, 0, 0, 1, 1, 2]) {
@@ -69,8 +70,9 @@ fn put_in(list: &mut Vec<Node>, node: Node) {
     list.insert(place, node);
 }
 
-/// A listing that is followed through edits until it is done, or further: the first lists are sound, a refused edit is undone, and the last call has
-/// room for all. Another ticket is used now and then in between, on the same lists.
+/// Follows a listing through edits until it is done, or further. The first lists are sound, a
+/// refused edit is undone, and the last call has room for all. Another ticket is used now and then
+/// in between, on the same lists.
 fn follow(random: &mut Random, first_ticket: impl Fn(Ticket) -> Ticket) -> History {
     let all = family(random, SIZE);
     let mut lists = Lists { ancestors: some_of(random, &all), descendants: some_of(random, &all) };

@@ -21,12 +21,12 @@ use outside::tally::Tally;
 /// The greatest level, as a number of nodes.
 const DEEPEST: usize = MOST_LEVEL as usize;
 
-/// A document of so many marks: a root with texts.
+/// Returns a document of `marks` marks: a root with texts.
 fn document(marks: usize) -> Vec<u32> {
     [vec![1], vec![TEXT; marks - 2], vec![CLOSE]].concat()
 }
 
-/// So many words, which make neither nodes nor marks of a sound list.
+/// Returns `words` words, which make neither nodes nor marks of a sound list.
 fn fives(words: usize) -> Vec<u32> {
     vec![5; words]
 }
@@ -81,7 +81,8 @@ fn links_of_the_longest_list() {
     });
 }
 
-/// The words of all pairs of a nest and of the texts in it, in descendant order or in ancestor order.
+/// Returns the words of all pairs of a nest and of the texts in it, in descendant order or in
+/// ancestor order.
 fn all_pairs(zones: &[Node], texts: &[Node], order: u32) -> Vec<u32> {
     let pair = |zone: &Node, text: &Node| [zone.words(), text.words()].concat();
     match order {
@@ -228,7 +229,8 @@ fn rows_of_a_table() {
     assert_eq!(asking::pick(&fives(ROW_WORDS * (MOST + 1) + 1), 5, &mut out), Ragged);
 }
 
-/// The answers of a call with each room from none up to some words more than a result of this length needs: ROOM as long as it doesn't fit.
+/// Makes a call with each room from none up to some words more than a result of this length needs.
+/// It must answer ROOM as long as the result doesn't fit.
 fn fits_from(needed: usize, call: impl Fn(usize) -> Answer) {
     for room in 0..needed + 10 {
         assert_eq!(

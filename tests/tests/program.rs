@@ -15,7 +15,7 @@ use std::process::{Command, Stdio};
 /// Seeds that no other test has.
 const SEEDS: u64 = 1 << 43;
 
-/// The program, run by the emulator where there is one.
+/// Returns the program, run by the emulator where there is one.
 fn program() -> Command {
     let path = env::var("BELFRYCHEST_PROGRAM").expect("BELFRYCHEST_PROGRAM names the program");
     let emulator = env::var("BELFRYCHEST_EMULATOR").unwrap_or_default();

@@ -19,7 +19,8 @@ const NODES: usize = 40;
 /// The words of an output that stays as it was; no multiple of a pair's or a link's.
 const ROOM: usize = 29;
 
-/// A zone, and inside it, side by side, the other nodes, with space between them and between their levels.
+/// Returns a zone, and inside it, side by side, the other nodes, with space between them and
+/// between their levels.
 fn sound(count: usize) -> Vec<Node> {
     let inner =
         |place: u32| Node { document: 5, start: 10 * place + 10, end: 10 * place + 15, level: 4 };
@@ -53,7 +54,8 @@ const BEHIND_THE_FIRST: [Fault; 7] = [
     (Depth, |list, index| list[index].level = 1),
 ];
 
-/// Runs the test on each list of so many nodes that has a fault at this index, with the fault's answer.
+/// Runs the test on each list of `count` nodes that has a fault at this index, with the fault's
+/// answer.
 fn each_fault(count: usize, index: usize, test: impl Fn(&[Node], Answer)) {
     let faults = ANYWHERE.iter().chain(BEHIND_THE_FIRST.iter().filter(|_| index > 0));
     for (answer, put) in faults {
@@ -63,7 +65,8 @@ fn each_fault(count: usize, index: usize, test: impl Fn(&[Node], Answer)) {
     }
 }
 
-/// The same for each index of a list of forty nodes, and for the first and the last of the longest list.
+/// Does the same for each index of a list of forty nodes, and for the first and the last of the
+/// longest list.
 fn each_fault_anywhere(test: impl Fn(&[Node], Answer, usize)) {
     for index in 0..NODES {
         each_fault(NODES, index, |list, answer| test(list, answer, index));
@@ -126,7 +129,8 @@ fn any_list_of_a_book() {
     });
 }
 
-/// Fails unless a book of these lists is refused with this verdict when it is opened, when any tag is looked for in it, and when it is to be written.
+/// Fails unless a book of these lists is refused with this verdict. It is opened, each tag is
+/// looked for in it, and it is to be written.
 fn refuses_book(lists: &[Tagged], verdict: Verdict) {
     let book = bytes(lists);
     let expected = raw_verdict(verdict);

@@ -149,7 +149,7 @@ def _groups(ancestors: _Cut, descendants: _Cut, ticket: Ticket) -> Iterator[List
 
 
 def _is_passed(leading: memoryview, ticket: Ticket) -> bool:
-    """Whether all pairs that a leading piece can have come before the ticket's place."""
+    """Tells whether all pairs that a leading piece can have come before the ticket's place."""
     document, start, *_ = leading[-NODE_WORDS:]
     return ticket.placed and (document, start) < (ticket.document, ticket.first)
 

@@ -141,8 +141,8 @@ impl<'a> Pieces<'a> {
         Ok(())
     }
 
-    /// Whether a piece draws nothing after nodes that draw nothing: by itself, at the border, and
-    /// with each of the pieces before it.
+    /// Tells whether a piece draws nothing after nodes that draw nothing: by itself, at the border,
+    /// and with each of the pieces before it.
     fn follows(&self, before: &[Node], piece: &[Node]) -> bool {
         let border: Vec<Node> = before.last().into_iter().chain(piece.first()).copied().collect();
         let mut earlier = before.chunks(self.size).filter(|earlier| meet(earlier, piece));
@@ -219,14 +219,14 @@ impl<'a> Pieces<'a> {
     }
 }
 
-/// Whether two pieces may have a document in common. Both are in order and have a node.
+/// Tells whether two pieces may have a document in common. Both are in order and have a node.
 fn meet(x: &[Node], y: &[Node]) -> bool {
     let first = |piece: &[Node]| piece.first().map(|node| node.document);
     let last = |piece: &[Node]| piece.last().map(|node| node.document);
     first(x) <= last(y) && first(y) <= last(x)
 }
 
-/// Whether every pair that a leading piece has comes before the place.
+/// Tells whether every pair that a leading piece has comes before the place.
 fn is_passed(leading: &[Node], place: Place) -> bool {
     match (leading.last(), place) {
         (Some(last), Place::After { document, first, .. }) => {

@@ -27,12 +27,12 @@ pub struct Entry {
     pub count: usize,
 }
 
-/// Where the contents of so many lists end.
+/// Returns where the contents of `lists` lists end.
 pub fn contents_end(lists: usize) -> usize {
     NUMBER_BYTES + ENTRY_BYTES * lists
 }
 
-/// The bytes of a book that holds these lists, whether it keeps the rules or not.
+/// Returns the bytes of a book that holds these lists, whether it keeps the rules or not.
 pub fn bytes(lists: &[Tagged]) -> Vec<u8> {
     let mut numbers = vec![lists.len() as u32];
     let mut offset = contents_end(lists.len());
@@ -46,7 +46,7 @@ pub fn bytes(lists: &[Tagged]) -> Vec<u8> {
     numbers.into_iter().map(u32::to_le_bytes).collect::<Vec<_>>().concat()
 }
 
-/// The whole numbers that the bytes make.
+/// Returns the whole numbers that the bytes make.
 pub fn numbers(bytes: &[u8]) -> Vec<u32> {
     bytes
         .chunks_exact(NUMBER_BYTES)
@@ -54,7 +54,7 @@ pub fn numbers(bytes: &[u8]) -> Vec<u32> {
         .collect()
 }
 
-/// The entries of a book whose contents break no rule.
+/// Returns the entries of a book whose contents break no rule.
 fn contents(book: &[u8]) -> Option<Vec<Entry>> {
     let numbers = numbers(book);
     let lists = *numbers.first()? as usize;
@@ -78,12 +78,12 @@ fn contents(book: &[u8]) -> Option<Vec<Entry>> {
     (tags_ascend && counts_fit && laid).then_some(entries)
 }
 
-/// The nodes of a list that lies in a book.
+/// Returns the nodes of a list that lies in a book.
 pub fn body_nodes(book: &[u8], entry: &Entry) -> Vec<Node> {
     nodes(&numbers(&book[entry.offset..entry.offset + NODE_BYTES * entry.count]))
 }
 
-/// The first fault in lists, the answer with the list's number and the node's index.
+/// Returns the first fault in lists, the answer with the list's number and the node's index.
 fn list_fault<'a>(lists: impl Iterator<Item = &'a Vec<Node>>) -> Option<Verdict> {
     let faults = lists.enumerate().map(|(list, nodes)| {
         first_fault(nodes).map(|(answer, index)| Verdict { answer, list: list as u32, index })
@@ -131,7 +131,7 @@ pub fn body(book: &[u8], tag: u32) -> Body {
     }
 }
 
-/// The lists that (tag, count) entries make of the nodes, if the entries break no rule.
+/// Returns the lists that (tag, count) entries make of the nodes, if the entries break no rule.
 fn wanted(entries: &[u32], nodes: &[u32]) -> Option<Vec<Tagged>> {
     let entries: Vec<(u32, usize)> =
         entries.chunks(WANTED_WORDS).map(|entry| (entry[0], entry[1] as usize)).collect();

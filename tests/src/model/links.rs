@@ -9,7 +9,8 @@ pub const LINK_WORDS: usize = 3;
 /// Says that there is no such node.
 pub const NONE: u32 = u32::MAX;
 
-/// The index of the innermost node that contains the node of this index: one that contains it, and has none inside that contains it too.
+/// Returns the index of the innermost node that contains the node of this index: one that contains
+/// it, and has none inside that contains it too.
 fn parent(nodes: &[Node], index: usize) -> Option<usize> {
     let containers: Vec<usize> =
         (0..nodes.len()).filter(|&other| inside(&nodes[index], &nodes[other])).collect();

@@ -7,7 +7,7 @@ use super::MOST;
 /// The greatest level.
 pub const MOST_LEVEL: u32 = 64;
 
-/// The first of the answers 3 to 7 that applies to a node after those before it.
+/// Returns the first of the answers 3 to 7 that applies to a node after those before it.
 fn fault(before: &[Node], node: &Node) -> Option<Answer> {
     let crosses = |e: &Node| e.document == node.document && e.end >= node.start && !inside(node, e);
     let not_lower = |e: &Node| inside(node, e) && e.level >= node.level;
@@ -29,14 +29,14 @@ fn fault(before: &[Node], node: &Node) -> Option<Answer> {
     }
 }
 
-/// The first faulty node's answer and index.
+/// Returns the first faulty node's answer and index.
 pub fn first_fault(nodes: &[Node]) -> Option<(Answer, u32)> {
     (0..nodes.len()).find_map(|index| {
         fault(&nodes[..index], &nodes[index]).map(|answer| (answer, index as u32))
     })
 }
 
-/// The check of the list that has this number.
+/// Checks the list that has this number.
 pub fn check_as(list: u32, words: &[u32]) -> Verdict {
     if words.len() % NODE_WORDS != 0 {
         return Verdict { answer: Answer::Ragged, list, index: 0 };
@@ -55,7 +55,8 @@ pub fn check(words: &[u32]) -> Verdict {
     check_as(ANCESTORS, words)
 }
 
-/// Whether two nodes of one document are neither identical, nor apart, nor one inside the other where the inner one's level is higher.
+/// Tells whether two nodes of one document are neither identical, nor apart, nor one inside the
+/// other where the inner one's level is higher.
 fn at_odds(x: &Node, y: &Node) -> bool {
     let fits_into = |inner: &Node, outer: &Node| inside(inner, outer) && inner.level > outer.level;
     x.document == y.document && x != y && !apart(x, y) && !fits_into(x, y) && !fits_into(y, x)

@@ -51,7 +51,8 @@ impl Pair {
     }
 }
 
-/// Every pair of an ancestor and a descendant that has the relation, in no particular order.
+/// Returns every pair of an ancestor and a descendant that has the relation, in no particular
+/// order.
 pub fn pairs(relation: Relation, ancestors: &[Node], descendants: &[Node]) -> Vec<Pair> {
     let with_all =
         |&ancestor: &Node| descendants.iter().map(move |&descendant| Pair { ancestor, descendant });
@@ -75,7 +76,7 @@ pub struct Page {
     pub place: Option<Key>,
 }
 
-/// The page of two lists past a ticket's place, into an output of so many words.
+/// Returns the page of two lists past a ticket's place, into an output of `words` words.
 pub fn page(ancestors: &[u32], descendants: &[u32], ticket: &Ticket, words: usize) -> Page {
     let verdict = check_two(ancestors, descendants);
     if verdict.answer != Answer::Taken {
