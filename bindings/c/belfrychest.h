@@ -131,19 +131,20 @@ typedef enum belfry_order {
 #define BELFRY_TAKEN 0
 /* The words don't make whole nodes, rows or entries. */
 #define BELFRY_RAGGED 1
-/* There are more nodes, rows or marks than 4,096; for the program, more bytes than 61,440. */
+/* There are more than 4,096 nodes, rows or marks. For the program: more than 61,440 bytes. */
 #define BELFRY_LONG 2
 /* A node's level is 0 or above 64. */
 #define BELFRY_LEVEL 3
-/* A node ends below its start. */
+/* A node's end is below its start. */
 #define BELFRY_SPAN 4
 /* A node doesn't come after the one before it, by document and start. */
 #define BELFRY_ORDER 5
-/* A node starts within an earlier one and isn't inside it. */
+/* A node starts no later than an earlier node of its document ends, and isn't inside it. */
 #define BELFRY_CROSS 6
 /* A node is inside an earlier one whose level isn't lower. */
 #define BELFRY_DEPTH 7
-/* Each list passes alone, but a node of one and a node of the other are at odds. */
+/* Each list passes alone, but two nodes of one document, one of each list, overlap. They aren't
+ * identical, and neither is inside the other with a higher level. */
 #define BELFRY_JOINT 8
 /* The output is shorter than the result. */
 #define BELFRY_ROOM 9
@@ -157,7 +158,8 @@ typedef enum belfry_order {
 #define BELFRY_UNCLOSED 13
 /* No accepted marks have this table. */
 #define BELFRY_TABLE 14
-/* A book's contents break a rule. */
+/* A book's contents are wrong: the number of lists, the order of the tags, an offset, a count, or
+ * where the book ends. */
 #define BELFRY_CONTENTS 15
 /* The book has no list of that tag, or fewer lists than wanted. */
 #define BELFRY_ABSENT 16

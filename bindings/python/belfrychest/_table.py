@@ -60,36 +60,36 @@ HINTS = {
         "Nothing: the call did what it says."
     ),
     Answer.RAGGED: (
-        "Give whole nodes of 4 words, rows of 5 or entries of 2: a length is cut off, or counts "
+        "Give whole nodes of 4 words, rows of 5 or entries of 2. A length is cut off, or counts "
         "bytes or nodes instead of words."
     ),
     Answer.LONG: (
-        "Join longer lists with Pieces (Python, Rust). Or cut them; check each piece, every two "
-        "pieces of a list, and that the first node of each piece comes after the last one of the "
-        "piece before it, by document and start; then join every piece of one list with every "
-        "piece of the other. A document to be numbered has at most 4,096 marks, a book to be "
-        "printed 61,440 bytes."
+        "Join longer lists with Pieces (Python, Rust). Or cut them yourself: check each piece "
+        "alone, and every two pieces of a list together. The first node of each piece must come "
+        "after the last node of the piece before it, by document and start. Then join every piece "
+        "of one list with every piece of the other. One call takes at most 4,096 marks or rows, "
+        "and the program a book of at most 61,440 bytes."
     ),
     Answer.LEVEL: (
         "Give the node a level from 1 to 64."
     ),
     Answer.SPAN: (
-        "Let the node end where it starts, or later: start and end are swapped, or the end is "
+        "Let the node end where it starts, or later: start and end are swapped, or one of them is "
         "wrong."
     ),
     Answer.ORDER: (
-        "Sort the list by document and start, and give no document and start twice."
+        "Sort the list by document and start, and let no two nodes have the same document and "
+        "start."
     ),
     Answer.CROSS: (
-        "Let the node end inside the earlier one that it starts in, or start after that one's "
-        "end."
+        "Let the node end before that earlier node ends, or start after it ends."
     ),
     Answer.DEPTH: (
-        "Give the node a higher level than every node that it is inside."
+        "Give the node a higher level than every node that it is inside, by one or by more."
     ),
     Answer.JOINT: (
-        "Find the two nodes, one of each list, that overlap: they must be identical, apart, or "
-        "one inside the other with a higher level."
+        "Find the two nodes, one of each list, that overlap. Make them identical or apart, or put "
+        "one inside the other and give the inner one the higher level."
     ),
     Answer.ROOM: (
         "Give a longer output; nothing was written."
@@ -98,24 +98,24 @@ HINTS = {
         "Give marks from 0, a close, to 65,536, a text; the numbers between are tags."
     ),
     Answer.STRAY: (
-        "Let the first mark open the root and the last one close it, with every close and text "
-        "between."
+        "Let the first mark open the root, and let no mark follow the one that closes it."
     ),
     Answer.DEEP: (
-        "Nest at most 64 levels."
+        "Nest elements and texts at most 64 levels deep."
     ),
     Answer.UNCLOSED: (
-        "Close every element that was opened; there has to be a root."
+        "Close every element that is opened; there must be a root."
     ),
     Answer.TABLE: (
         "Give the whole table of one document as numbering wrote it: a row is missing, altered or "
         "out of place."
     ),
     Answer.CONTENTS: (
-        "Write the book again: it is no book, or cut off, or damaged. In writing, let the tags "
-        "ascend and the counts add up to the nodes, with at most 16 lists of 4,096 nodes."
+        "Write the book again: it is no book, or cut off, or damaged. In writing, let each tag be "
+        "above the one before it, and the counts add up to the nodes. There are at most 16 lists "
+        "of at most 4,096 nodes."
     ),
     Answer.ABSENT: (
-        "Ask for a tag that the book has; the program wants a book with two lists."
+        "Ask for a tag that the book has. The program needs a book with at least two lists."
     ),
 }

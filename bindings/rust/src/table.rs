@@ -11,19 +11,20 @@ pub enum Answer {
     Taken,
     /// The words don't make whole nodes, rows or entries.
     Ragged,
-    /// There are more nodes, rows or marks than 4,096; for the program, more bytes than 61,440.
+    /// There are more than 4,096 nodes, rows or marks. For the program: more than 61,440 bytes.
     Long,
     /// A node's level is 0 or above 64.
     Level,
-    /// A node ends below its start.
+    /// A node's end is below its start.
     Span,
     /// A node doesn't come after the one before it, by document and start.
     Order,
-    /// A node starts within an earlier one and isn't inside it.
+    /// A node starts no later than an earlier node of its document ends, and isn't inside it.
     Cross,
     /// A node is inside an earlier one whose level isn't lower.
     Depth,
-    /// Each list passes alone, but a node of one and a node of the other are at odds.
+    /// Each list passes alone, but two nodes of one document, one of each list, overlap. They
+    /// aren't identical, and neither is inside the other with a higher level.
     Joint,
     /// The output is shorter than the result.
     Room,
@@ -37,7 +38,8 @@ pub enum Answer {
     Unclosed,
     /// No accepted marks have this table.
     Table,
-    /// A book's contents break a rule.
+    /// A book's contents are wrong: the number of lists, the order of the tags, an offset, a count,
+    /// or where the book ends.
     Contents,
     /// The book has no list of that tag, or fewer lists than wanted.
     Absent,
@@ -50,44 +52,46 @@ pub(crate) const ROWS: &[(Answer, &str)] = &[
     (Answer::Taken, "Nothing: the call did what it says."),
     (
         Answer::Ragged,
-        "Give whole nodes of 4 words, rows of 5 or entries of 2: a length is cut off, or counts \
+        "Give whole nodes of 4 words, rows of 5 or entries of 2. A length is cut off, or counts \
         bytes or nodes instead of words.",
     ),
     (
         Answer::Long,
-        "Join longer lists with Pieces (Python, Rust). Or cut them; check each piece, every two \
-        pieces of a list, and that the first node of each piece comes after the last one of the \
-        piece before it, by document and start; then join every piece of one list with every \
-        piece of the other. A document to be numbered has at most 4,096 marks, a book to be \
-        printed 61,440 bytes.",
+        "Join longer lists with Pieces (Python, Rust). Or cut them yourself: check each piece \
+        alone, and every two pieces of a list together. The first node of each piece must come \
+        after the last node of the piece before it, by document and start. Then join every piece \
+        of one list with every piece of the other. One call takes at most 4,096 marks or rows, \
+        and the program a book of at most 61,440 bytes.",
     ),
     (Answer::Level, "Give the node a level from 1 to 64."),
     (
         Answer::Span,
-        "Let the node end where it starts, or later: start and end are swapped, or the end is \
+        "Let the node end where it starts, or later: start and end are swapped, or one of them is \
         wrong.",
     ),
-    (Answer::Order, "Sort the list by document and start, and give no document and start twice."),
     (
-        Answer::Cross,
-        "Let the node end inside the earlier one that it starts in, or start after that one's \
-        end.",
+        Answer::Order,
+        "Sort the list by document and start, and let no two nodes have the same document and \
+        start.",
     ),
-    (Answer::Depth, "Give the node a higher level than every node that it is inside."),
+    (Answer::Cross, "Let the node end before that earlier node ends, or start after it ends."),
+    (
+        Answer::Depth,
+        "Give the node a higher level than every node that it is inside, by one or by more.",
+    ),
     (
         Answer::Joint,
-        "Find the two nodes, one of each list, that overlap: they must be identical, apart, or \
-        one inside the other with a higher level.",
+        "Find the two nodes, one of each list, that overlap. Make them identical or apart, or put \
+        one inside the other and give the inner one the higher level.",
     ),
     (Answer::Room, "Give a longer output; nothing was written."),
     (Answer::Mark, "Give marks from 0, a close, to 65,536, a text; the numbers between are tags."),
     (
         Answer::Stray,
-        "Let the first mark open the root and the last one close it, with every close and text \
-        between.",
+        "Let the first mark open the root, and let no mark follow the one that closes it.",
     ),
-    (Answer::Deep, "Nest at most 64 levels."),
-    (Answer::Unclosed, "Close every element that was opened; there has to be a root."),
+    (Answer::Deep, "Nest elements and texts at most 64 levels deep."),
+    (Answer::Unclosed, "Close every element that is opened; there must be a root."),
     (
         Answer::Table,
         "Give the whole table of one document as numbering wrote it: a row is missing, altered or \
@@ -95,8 +99,12 @@ pub(crate) const ROWS: &[(Answer, &str)] = &[
     ),
     (
         Answer::Contents,
-        "Write the book again: it is no book, or cut off, or damaged. In writing, let the tags \
-        ascend and the counts add up to the nodes, with at most 16 lists of 4,096 nodes.",
+        "Write the book again: it is no book, or cut off, or damaged. In writing, let each tag be \
+        above the one before it, and the counts add up to the nodes. There are at most 16 lists \
+        of at most 4,096 nodes.",
     ),
-    (Answer::Absent, "Ask for a tag that the book has; the program wants a book with two lists."),
+    (
+        Answer::Absent,
+        "Ask for a tag that the book has. The program needs a book with at least two lists.",
+    ),
 ];

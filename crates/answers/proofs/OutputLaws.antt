@@ -1,7 +1,7 @@
--- Why it holds: Words stored right after those that were written, or right before them, lengthen
--- what is written; so an output is filled word by word, from either end.
--- What would break it: A store one place off, one that reached beyond the result, or a refusal that
--- altered a word would be caught here.
+-- Why it holds: Words stored right after those already written, or right before them, lengthen what
+-- is written. So an output is filled word by word, from either end.
+-- What would break it: A store one place off, a store beyond the result, or a refusal that altered
+-- a word would be caught here.
 use mathlib.Core.Path.{_≡_, refl, sym, ap, _∙_}
 use mathlib.Core.Logic.{inl, inr}
 use mathlib.Core.Bool.{true}
@@ -18,7 +18,7 @@ use Rattle.answers.specs.Answer.{TAKEN, ROOM}
 use Rattle.answers.specs.Output.{written, answerOf, ifTaken, outputOf, wordsIn}
 use Rattle.laws.proofs.Tests.{either}
 
--- items of one width have so many times that width of words
+-- items of `width` words each have `width` times as many words as there are items
 module _ {A : Type 0} (words : A → List ℕ) (width : ℕ) (wide : (x : A) → length (words x) ≡ width) where
   pub length-items : (xs : List A) → length (wordsIn words xs) ≡ width * length xs
   unfolding wordsIn flatMap
@@ -31,7 +31,7 @@ module _ {A : Type 0} (words : A → List ℕ) (width : ℕ) (wide : (x : A) →
       ap (λ k. width * k) (sym (add-one (length xs))) ∙ mul-add width (length xs) 1 ∙ ap (λ k. width * length xs + k) (mul-one width) in
       omega arith
 
--- the words of items, one after the other
+-- the words of two lists of items in a row
 module _ {A : Type 0} (words : A → List ℕ) where
   pub words-append : (xs ys : List A) → wordsIn words (xs ++ ys) ≡ wordsIn words xs ++ wordsIn words ys
   unfolding wordsIn flatMap
@@ -42,14 +42,14 @@ module _ {A : Type 0} (words : A → List ℕ) where
   unfolding wordsIn flatMap
   words-one-more xs x = words-append xs (x ∷ []) ∙ ap (λ zs. wordsIn words xs ++ zs) (append-nil (words x))
 
--- words stored, and others after them
+-- storing some words and then others right after them is one store of both
 pub sets-more : (us vs ws : List ℕ) (at next : ℕ) → next ≡ at + length us → sets (sets ws at us) next vs ≡ sets ws at (us ++ vs)
 sets-more [] vs ws at next q =
     let e : next ≡ at = omega arith in
     ap (λ k. sets ws k vs) e
 sets-more (u ∷ us) vs ws at next q = sets-more us vs (set ws at u) (suc at) next (omega arith)
 
--- written words come first
+-- an output begins with the words written,
 pub written-begins : (us out : List ℕ) → take (length us) (written us out) ≡ us
 unfolding written
 written-begins us out = take-append-seam us (drop (length us) out)
@@ -59,24 +59,24 @@ pub no-shorter : (us out : List ℕ) → length out ≤ length (written us out)
 unfolding written
 no-shorter us out = omega (arith, length-append us (drop (length us) out), length-drop (length us) out)
 
--- words stored at the beginning
+-- storing words at the beginning is writing them
 pub sets-written : (us out : List ℕ) → length us ≤ length out → sets out 0 us ≡ written us out
 unfolding written
 sets-written us out h =
     let e : 0 + length us ≡ length us = omega arith in
     sets-eq us out 0 (omega arith) ∙ ap (λ k. us ++ drop k out) e
 
--- words stored after others
+-- storing words right after a front part
 pub sets-behind : (front rest vs : List ℕ) → length front + length vs ≤ length (front ++ rest)
     → sets (front ++ rest) (length front) vs ≡ front ++ vs ++ drop (length vs) rest
 sets-behind front rest vs h = rw (sets-eq vs (front ++ rest) (length front) h, take-append-seam front rest, drop-append-add front rest (length vs))
 
--- words written after others that were written
+-- writing words after others is one writing of both
 pub written-behind : (us vs rest : List ℕ) → us ++ written vs (drop (length us) rest) ≡ written (us ++ vs) rest
 unfolding written
 written-behind us vs rest = rw (drop-drop (length vs) (length us) rest, length-append us vs) (sym (append-assoc us vs _))
 
--- words stored after those that were written
+-- storing words after those already written lengthens what is written
 pub written-more : (us vs out : List ℕ) → length us + length vs ≤ length out → sets (written us out) (length us) vs ≡ written (us ++ vs) out
 unfolding written
 written-more us vs out h =
@@ -84,13 +84,13 @@ written-more us vs out h =
     ∙ ap (λ rest. us ++ vs ++ rest) (drop-drop (length vs) (length us) out)
     ∙ ap (λ k. us ++ vs ++ drop k out) (sym (length-append us vs))
 
--- words stored as the last ones of a front
+-- storing words over the end of a front part
 sets-last : (front rest vs : List ℕ) (at : ℕ) → length front ≡ at + length vs → sets (front ++ rest) at vs ≡ take at front ++ vs ++ rest
 sets-last front rest vs at e =
     sets-eq vs (front ++ rest) at (omega (arith, length-append front rest))
     ∙ rw (take-append-le at front rest (omega arith), ← e, drop-append-seam front rest) refl
 
--- words stored right before those that were written
+-- storing words right before those already written lengthens what is written
 pub sets-before : (out : List ℕ) (at : ℕ) (vs later : List ℕ) → at + length vs ≤ length out
     → sets (take (at + length vs) out ++ written later (drop (at + length vs) out)) at vs ≡ take at out ++ written (vs ++ later) (drop at out)
 sets-before out at vs later h =
@@ -134,14 +134,14 @@ module _ (fault : ℕ) (result out : List ℕ) where
         | inr f ↦ absurd (eqb-false fault TAKEN f (rw f at h))
       ]
 
-  -- a refused call counts nothing and alters no word,
+  -- a refused call counts nothing and alters no word;
   pub refused-alters-nothing : (count : ℕ) → (answerOf fault result out ≡ TAKEN → ⊥)
       → (ifTaken fault result out count 0 ≡ 0) × (outputOf fault result out ≡ out)
   unfolding outputOf
   refused-alters-nothing count h = (if-refused count 0 h, if-refused (written result out) out h)
 
-  -- and no call alters a word beyond its result: after the items that it counts, of `width` words
-  -- each, come the words that were there,
+  -- no call alters a word beyond its result: after the items that it counts, of `width` words each,
+  -- come the words that were there;
   pub beyond-unaltered : (width count words : ℕ) → length result ≡ width * count → words ≡ width * ifTaken fault result out count 0
       → drop words (outputOf fault result out) ≡ drop words out
   unfolding outputOf ifTaken written
@@ -154,7 +154,7 @@ module _ (fault : ℕ) (result out : List ℕ) where
       e : eqb (answerOf fault result out) TAKEN ≡ true → words ≡ length result
       e h = w ∙ rw h (sym wide)
 
-  -- and none is added or taken away
+  -- and no call makes the output longer or shorter
   pub output-length : length (outputOf fault result out) ≡ length out
   unfolding outputOf ifTaken written
   output-length =

@@ -7,7 +7,10 @@ use mathlib.Core.List.{List, [], _∷_, map}
 use lib.Dec.{ltb}
 use lib.ListN.{getD}
 
--- the number of each answer
+-- The number of each answer.
+-- TAKEN also stands for "no fault". A definition whose name ends in Fault, or begins with check,
+-- gives the answer of the first fault, and TAKEN where there is none. Some of these give a bare
+-- number, others a verdict with that number in it.
 abbrev pub TAKEN : ℕ
 TAKEN = 0
 
@@ -73,6 +76,6 @@ letterAt text i = cond (ltb i (len text)) (code (charAt text i)) 32
 unfoldable pub padded : String → List ℕ
 padded text = map (letterAt text) (0 ∷ 1 ∷ 2 ∷ 3 ∷ 4 ∷ 5 ∷ 6 ∷ 7 ∷ [])
 
--- the name of an answer number; of a number above the last one, eight blanks
+-- the name of an answer number, or eight blanks for a number above the last one
 unfoldable pub nameOf : ℕ → List ℕ
 nameOf number = getD (map padded names) number (padded "")

@@ -2,6 +2,7 @@
 ghost use mathlib.Core.Path.{_≡_};
 ghost use Rattle.answers.specs.Answer.{nameOf};
 
+// The number of each answer.
 pub const TAKEN: u32 = 0;
 
 pub const RAGGED: u32 = 1;
@@ -57,7 +58,7 @@ const NAMES: [[u8; 8]; 17] = [
     *b"ABSENT  ",
 ];
 
-// Returns the name of an answer number, and eight blanks for a number that no answer has.
+// Returns the name of the answer `number`, or eight blanks for a number that no answer has.
 pub fn name_of(number: u32) -> [u8; 8]
     ensures { λ r. ⌜ r ≡ nameOf number ⌝ }
 {

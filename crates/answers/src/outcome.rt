@@ -1,4 +1,4 @@
-// The answers of a call that writes, where no node refuses it.
+// The answers of a call that writes, where no node is at fault.
 use crate::answer::TAKEN;
 use crate::verdict::ANCESTORS;
 use crate::verdict::Counted;
@@ -6,7 +6,7 @@ use crate::verdict::Verdict;
 ghost use mathlib.Core.Path.{_≡_};
 ghost use Rattle.answers.specs.Verdict.{ANCESTORS, verdict, taken, counted};
 
-// Returns the answer of a call that no node refuses and that wrote nothing.
+// Returns `answer` for a call that wrote nothing, where no node is at fault.
 pub fn wrote_nothing(answer: u32) -> Counted
     ensures { λ r. ⌜ r ≡ counted (verdict answer ANCESTORS 0) 0 ⌝ }
 {

@@ -2,7 +2,7 @@
 ghost use mathlib.Core.Path.{_≡_};
 ghost use Rattle.answers.specs.Verdict.{ANCESTORS, verdict};
 
-// The list that an answer names.
+// The lists that an answer may name.
 pub const ANCESTORS: u32 = 0;
 
 pub const DESCENDANTS: u32 = 1;
@@ -23,7 +23,7 @@ pub struct Counted {
     pub count: usize,
 }
 
-// Returns the verdict of an answer that no node draws: it names list 0 and index 0.
+// Returns `answer` as a verdict that points at no node: it names list 0 and index 0.
 pub fn without_node(answer: u32) -> Verdict
     ensures { λ r. ⌜ r ≡ verdict answer ANCESTORS 0 ⌝ }
 {

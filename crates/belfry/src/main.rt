@@ -5,7 +5,8 @@ use libc::STDIN_FILENO;
 use printing::print::MOST_BYTES;
 use printing::print::print_book;
 
-// One byte more than a book may have is read, so that a longer one is seen to be too long.
+// Reads one byte more than a book may have, so that a longer one is seen to be too long, and prints
+// the book.
 fn main() {
     let mut book = [0u8; MOST_BYTES + 1];
     let length = read_full(STDIN_FILENO, &mut book);

@@ -1,5 +1,5 @@
 -- Why it holds: A part that isn't empty starts at the node that the verdict names and goes to the
--- end of the list that it names; an empty one has no words.
+-- end of the list that it names. An empty part has no words.
 -- What would break it: A place or a length with which C would read other words would be caught
 -- here.
 use mathlib.Core.Path.{_≡_, refl}
@@ -23,7 +23,8 @@ no-words : (part list : List ℕ) → length part ≡ 0 → take (length part) l
 no-words [] list e = refl
 no-words (w ∷ part) list e = absurd (omega (arith, e))
 
--- the words of a list from a place on, as many as the part has; the place is 0 where there are none
+-- the words of a list from a place on, as many as the part has, are the part; the place is 0 where
+-- there are none
 part-of : (b : Bool) (list : List ℕ) (at : ℕ)
     → take (length (cond b (drop at list) [])) (drop (cond (eqb (length (cond b (drop at list) [])) 0) 0 at) list) ≡ cond b (drop at list) []
 part-of false list at = refl

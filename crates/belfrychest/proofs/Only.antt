@@ -1,7 +1,7 @@
 -- Why it holds: Each contract equates the answer, and the output where there is one, with a
 -- definition, and two things that equal a third are equal.
--- What would break it: `Post` is what a function's `ensures` says of its result and of what was
--- lent; a contract that left a field or a word open would be caught here.
+-- What would break it: A contract that left a field of the answer or a word of the output open
+-- would be caught here.
 use mathlib.Core.Path.{_≡_}
 use denote.Ref.{now}
 use Rattle.laws.proofs.Only.{only}

@@ -10,20 +10,20 @@ use Rattle.ticket_words.specs.Words.{ticketOf}
 use Rattle.belfrychest.specs.declared.page.BelfryPage.{BelfryPage}
 use Rattle.belfrychest.specs.Shown.{shownPage}
 
--- what a call with six words answers
+-- What a call with six words answers.
 abbrev pub answerToC : TicketWords → Call → BelfryPage
 answerToC w c = shownPage w (answer (ticketOf w) c)
 
--- the pairs that C reads: the first of the output on return, as many as the answer counts
+-- The pairs that C reads: the first of the output on return, as many as the answer counts.
 abbrev pub readByC : TicketWords → Call → List Pair
 readByC w c = take (answerToC w c .count) (pairsIn (nodes (output (ticketOf w) c)))
 
--- the words after a sequence of calls
+-- The words after a sequence of calls.
 unfoldable pub wordsThrough : TicketWords → List Call → TicketWords
 wordsThrough w [] = w
 wordsThrough w (c ∷ cs) = wordsThrough (answerToC w c .ticket) cs
 
--- all pairs that C reads through a sequence of calls, in the order in which they came
+-- All pairs that C reads through a sequence of calls, in the order in which they came.
 unfoldable pub readThrough : TicketWords → List Call → List Pair
 readThrough w [] = []
 readThrough w (c ∷ cs) = readByC w c ++ readThrough (answerToC w c .ticket) cs

@@ -1,5 +1,5 @@
--- `Shown` and `Version` are what the contracts of `belfrychest` cite; `Following` is a listing that
--- C follows through calls.
+-- `Shown` and `Version` are what the contracts of `belfrychest` cite, and `Following` is a listing
+-- that C follows through calls.
 pub mod Following
 pub mod Shown
 pub mod Version

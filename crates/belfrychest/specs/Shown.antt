@@ -1,4 +1,4 @@
--- What C gets where its struct isn't the library's own: where the part at fault lies, and a page
+-- What C gets where its struct isn't the library's own: the place of the part at fault, and a page
 -- with its ticket in words.
 use Prim.Native.Nat.{ℕ, _*_}
 use mathlib.Core.Bool.{cond}
@@ -14,15 +14,15 @@ use Rattle.ticket_words.specs.Words.{ticketBack}
 use Rattle.belfrychest.specs.declared.list.BelfryPart.{BelfryPart}
 use Rattle.belfrychest.specs.declared.page.BelfryPage.{BelfryPage}
 
--- the part that starts at the faulty node, as its place in the list that the verdict names; 0 and 0
--- where it is empty
+-- The part that starts at the faulty node, as its place in the list that the verdict names. It is 0
+-- and 0 where the part is empty.
 unfoldable pub shownPart : List ℕ → List ℕ → BelfryPart
 shownPart ancestors descendants =
     let v = checkTwo ancestors descendants in
     let words = length (faultyPart ancestors descendants) in
     record { verdict = v; from = cond (eqb words 0) 0 (NODE-WORDS * v .index); words = words }
 
--- a page, for a call with these words
+-- The page as C gets it, for a call with these words.
 unfoldable pub shownPage : TicketWords → Page → BelfryPage
 shownPage w p = record {
   verdict = p .verdict;

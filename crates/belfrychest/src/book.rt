@@ -1,4 +1,4 @@
-// Books: their check, a list's body by its tag, and writing.
+// Books: their check, the body of a list by its tag, and writing.
 use answers::verdict::Counted;
 use books::book::Opened;
 use books::book::check_book;
@@ -10,7 +10,7 @@ ghost use Rattle.books.specs.Book.{checkBook};
 ghost use Rattle.books.specs.Find.{foundTag};
 ghost use Rattle.writing.specs.WriteCall.{writtenOf, writtenOutput};
 
-// Returns what `check_book` returns.
+// Checks `book` and returns what `check_book` returns.
 #[no_mangle]
 pub extern "C" fn belfry_book_check(book: &[u8]) -> Opened
     ensures { λ r. ⌜ r ≡ checkBook (now (book .entry)) ⌝ }
@@ -18,7 +18,7 @@ pub extern "C" fn belfry_book_check(book: &[u8]) -> Opened
     check_book(book)
 }
 
-// Returns what `find_tag` returns.
+// Returns where the body of the list with `tag` lies in `book`, as `find_tag` does.
 #[no_mangle]
 pub extern "C" fn belfry_book_body(book: &[u8], tag: u32) -> Found
     ensures { λ r. ⌜ r ≡ foundTag (now (book .entry)) tag ⌝ }
@@ -26,7 +26,7 @@ pub extern "C" fn belfry_book_body(book: &[u8], tag: u32) -> Found
     find_tag(book, tag)
 }
 
-// Writes and returns what `write_book` does.
+// Writes the book of `entries` and `nodes` into `out`, and returns what `write_book` returns.
 #[no_mangle]
 pub extern "C" fn belfry_book_write(entries: &[u32], nodes: &[u32], out: &mut [u8]) -> Counted
     ensures { λ r. ⌜ (r ≡ writtenOf (now (entries .entry)) (now (nodes .entry)) (now (out .entry)))

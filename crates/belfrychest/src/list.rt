@@ -1,4 +1,4 @@
-// The checks of one list and of two, and where the part at fault lies.
+// The checks of one list and of two, and the place of the part at fault.
 use answers::verdict::Verdict;
 use lists::list::check_list;
 use lists::two::check_two;
@@ -9,8 +9,9 @@ ghost use Rattle.lists.specs.Check.{checkWords};
 ghost use Rattle.lists.specs.Two.{checkTwo};
 ghost use Rattle.belfrychest.specs.Shown.{shownPart};
 
-// The verdict on two lists, and the part of the list at fault that starts at the faulty node: the
-// index of its first word in that list, and how many words it has. Both are 0 if the part is empty.
+// The verdict on two lists, and the part of the list at fault that starts at the faulty node. The
+// part is given by the index of its first word in that list and by its number of words. Both are 0
+// if the part is empty.
 #[repr(C)]
 pub struct BelfryPart {
     pub verdict: Verdict,
@@ -18,7 +19,7 @@ pub struct BelfryPart {
     pub words: usize,
 }
 
-// Returns the verdict of `check_list`.
+// Checks `list` and returns the verdict of `check_list`.
 #[no_mangle]
 pub extern "C" fn belfry_check(list: &[u32]) -> Verdict
     ensures { λ r. ⌜ r ≡ checkWords (now (list .entry)) ⌝ }
@@ -26,7 +27,7 @@ pub extern "C" fn belfry_check(list: &[u32]) -> Verdict
     check_list(list)
 }
 
-// Returns the verdict of `check_two`.
+// Checks `ancestors` and `descendants` together and returns the verdict of `check_two`.
 #[no_mangle]
 pub extern "C" fn belfry_check_two(ancestors: &[u32], descendants: &[u32]) -> Verdict
     ensures { λ r. ⌜ r ≡ checkTwo (now (ancestors .entry)) (now (descendants .entry)) ⌝ }
@@ -34,7 +35,8 @@ pub extern "C" fn belfry_check_two(ancestors: &[u32], descendants: &[u32]) -> Ve
     check_two(ancestors, descendants)
 }
 
-// Returns the verdict on two lists, and where the part lies that `faulty_part` returns.
+// Returns the verdict on `ancestors` and `descendants`, and the place of the part that
+// `faulty_part` returns.
 #[no_mangle]
 pub extern "C" fn belfry_faulty<'a>(ancestors: &'a [u32], descendants: &'a [u32]) -> BelfryPart
     ensures { λ r. ⌜ r ≡ shownPart (now (ancestors .entry)) (now (descendants .entry)) ⌝ }

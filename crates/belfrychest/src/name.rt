@@ -3,7 +3,7 @@ use answers::answer::name_of;
 ghost use mathlib.Core.Path.{_≡_};
 ghost use Rattle.answers.specs.Answer.{nameOf};
 
-// Writes the eight bytes of `name_of` into the output.
+// Writes the eight bytes that `name_of` returns for `answer` into `out`.
 #[no_mangle]
 pub extern "C" fn belfry_name(answer: u32, out: &mut [u8; 8])
     ensures { λ r. ⌜ now (out .exit) ≡ nameOf answer ⌝ }

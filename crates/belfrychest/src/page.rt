@@ -12,8 +12,9 @@ ghost use Rattle.ticket_words.specs.Words.{ticketOf};
 ghost use Rattle.belfrychest.specs.Shown.{shownPage};
 ghost use Rattle.tickets.specs.Ticket.{asked};
 
-// What a page call answers: the verdict on its two lists, 1 if it wrote all that remained and else
-// 0, how many pairs it wrote, and the words of the ticket for the next page.
+// What a page call answers: the verdict on its two lists, `done`, the number of pairs it wrote, and
+// the words of the ticket for the next page. `done` is 1 if the call wrote all that remained;
+// otherwise it is 0.
 #[repr(C)]
 pub struct BelfryPage {
     pub verdict: Verdict,
@@ -22,7 +23,7 @@ pub struct BelfryPage {
     pub ticket: TicketWords,
 }
 
-// Returns 1 if `done` is true, else 0.
+// Returns 1 if `done` is true; otherwise returns 0.
 fn one_if(done: bool) -> u32
     ensures { λ r. ⌜ r ≡ cond done 1 0 ⌝ }
 {
@@ -32,7 +33,7 @@ fn one_if(done: bool) -> u32
     0
 }
 
-// Returns the page as C gets it, for a call with the given words.
+// Returns `page` as C gets it, for a call with the ticket `words`.
 fn shown_page(words: TicketWords, page: Page) -> BelfryPage
     ensures { λ r. ⌜ r ≡ shownPage words page ⌝ }
 {
@@ -47,7 +48,8 @@ fn shown_page(words: TicketWords, page: Page) -> BelfryPage
     }
 }
 
-// Writes and returns the page that `next_page` hands out for the ticket that the words stand for.
+// Writes into `out` the page that `next_page` hands out for the ticket that `words` stand for, and
+// returns its answer.
 #[no_mangle]
 pub extern "C" fn belfry_list(
     ancestors: &[u32],

@@ -1,4 +1,4 @@
-// Numbering, the way back, picking a tag, and the links of a list.
+// Numbering marks, turning a table back into marks, picking a tag, and the links of a list.
 use answers::verdict::Counted;
 use forest::forest::link_list;
 use marks::number::number;
@@ -9,7 +9,7 @@ ghost use mathlib.Core.Path.{_≡_};
 ghost use Rattle.forest.specs.Linked.{linkedOf, linksOutput};
 ghost use Rattle.marks.specs.Outcome.{numberOutcome, numberOutput, unnumberOutcome, unnumberOutput, pickOutcome, pickOutput};
 
-// Writes and returns what `number` does.
+// Numbers `marks` as `document` and writes the table into `out`, as `number` does.
 #[no_mangle]
 pub extern "C" fn belfry_number(document: u32, marks: &[u32], out: &mut [u32]) -> Counted
     ensures { λ r. ⌜ (r ≡ numberOutcome document (now (marks .entry)) (now (out .entry)))
@@ -18,7 +18,7 @@ pub extern "C" fn belfry_number(document: u32, marks: &[u32], out: &mut [u32]) -
     number(document, marks, out)
 }
 
-// Writes and returns what `unnumber` does.
+// Writes the marks of `table` into `out`, as `unnumber` does.
 #[no_mangle]
 pub extern "C" fn belfry_unnumber(table: &[u32], out: &mut [u32]) -> Unnumbered
     ensures { λ r. ⌜ (r ≡ unnumberOutcome (now (table .entry)) (now (out .entry)))
@@ -27,7 +27,7 @@ pub extern "C" fn belfry_unnumber(table: &[u32], out: &mut [u32]) -> Unnumbered
     unnumber(table, out)
 }
 
-// Writes and returns what `pick` does.
+// Picks the nodes with `tag` out of `table` and writes them into `out`, as `pick` does.
 #[no_mangle]
 pub extern "C" fn belfry_pick(table: &[u32], tag: u32, out: &mut [u32]) -> Counted
     ensures { λ r. ⌜ (r ≡ pickOutcome (now (table .entry)) tag (now (out .entry)))
@@ -36,7 +36,7 @@ pub extern "C" fn belfry_pick(table: &[u32], tag: u32, out: &mut [u32]) -> Count
     pick(table, tag, out)
 }
 
-// Writes and returns what `link_list` does.
+// Links the nodes of `list` and writes the links into `out`, as `link_list` does.
 #[no_mangle]
 pub extern "C" fn belfry_links(list: &[u32], out: &mut [u32]) -> Counted
     ensures { λ r. ⌜ (r ≡ linkedOf (now (list .entry)) (now (out .entry)))

@@ -1,4 +1,4 @@
-// The number of the interface, by which a caller finds out that the archive isn't the one that its
+// The number of the interface. By it a caller finds out whether the archive is the one that its
 // declarations were written for.
 ghost use mathlib.Core.Path.{_≡_};
 ghost use Rattle.belfrychest.specs.Version.{VERSION};

@@ -1,5 +1,5 @@
--- Why it holds: A body is checked node by node, and its length is settled by the contents; so a
--- book draws CONTENTS or a node's own answer, or is taken.
+-- Why it holds: A body is checked node by node, and the contents settle its length. So a book draws
+-- CONTENTS or a node's own answer, or is taken.
 -- What would break it: RAGGED or LONG drawn by a body would be caught here.
 use mathlib.Core.Path.{_≡_, refl}
 use mathlib.Core.Logic.{_⊎_, inl, inr}
@@ -45,7 +45,7 @@ bodies-draw list [] = inl refl
 bodies-draw list (ns ∷ bodies) =
     chosen (λ (v : Verdict). ByNode (v .answer)) (refusedb (checkNodes ns)) (nodes-draw [] 0 ns) (bodies-draw (suc list) bodies)
 
--- these, or CONTENTS
+-- one of these, or CONTENTS
 abbrev pub ByBook : ℕ → Type 0
 ByBook a = ByNode a ⊎ (a ≡ CONTENTS)
 
@@ -61,7 +61,7 @@ unfolding bookVerdict contentsFault
 book-draws book =
     parts-draw (contentsFault book) (map (nodesOf book) (contentsOf book)) (fault-draws (brokenb (listsIn book) (contentsOf book) (length book)))
 
--- none of these lies between TAKEN and LEVEL, where RAGGED and LONG do
+-- none of these lies between TAKEN and LEVEL, where RAGGED and LONG lie
 pub from-level : (a : ℕ) → ByBook a → 1 ≤ a → LEVEL ≤ a
 from-level a h l = elim h [ inl p ↦ elim p [ inl q ↦ omega arith | inr q ↦ q .0 ] | inr p ↦ omega arith ]
 

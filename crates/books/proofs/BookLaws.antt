@@ -1,6 +1,6 @@
--- Why it holds: A body that the contents name has sixteen bytes for each of its nodes and not too
--- many, so its bytes are judged as its nodes are; the first body that isn't accepted decides on the
--- book.
+-- Why it holds: A body that the contents name has sixteen bytes for each of its nodes, and not too
+-- many of them. So its bytes are judged as its nodes are, and the first body that isn't accepted
+-- decides on the book.
 -- What would break it: A body checked out of turn, or one that reaches beyond the book, would be
 -- caught here.
 use mathlib.Core.Path.{_≡_, refl}
@@ -29,7 +29,7 @@ use Rattle.answers.specs.Verdict.{refusedb, inList, taken}
 use Rattle.lists.proofs.InBytes.{whole-bytes}
 use Rattle.books.specs.Book.{bodyOf, nodesOf, checkBodies, checkParts, bookVerdict, checkBook}
 
--- a verdict refuses just if its answer isn't TAKEN
+-- a verdict is a refusal exactly when its answer isn't TAKEN
 pub refuses : (v : Verdict) → (v .answer ≡ TAKEN → ⊥) → refusedb v ≡ true
 unfolding refusedb
 refuses v h = rw (ne-eqb (v .answer) TAKEN h)
@@ -38,7 +38,8 @@ pub accepts : (v : Verdict) → v .answer ≡ TAKEN → refusedb v ≡ false
 unfolding refusedb
 accepts v h = rw (eq-eqb (v .answer) TAKEN h)
 
--- what is left to check of the bodies is the whole, where the next body's verdict is known
+-- The bodies left decide the whole, and the next body's verdict v is known: where it is taken, the
+-- later bodies decide; where it isn't, it decides itself.
 module _ (list : ℕ) (ns : List Node) (later : List (List Node)) (whole : Verdict) (l : checkBodies list (ns ∷ later) ≡ whole)
     (v : Verdict) (q : v ≡ checkNodes ns) where
   pub bodies-on : v .answer ≡ TAKEN → checkBodies (list + 1) later ≡ whole
@@ -58,6 +59,7 @@ pub length-body : (book : List ℕ) (e : Entry) → e .offset + NODE-BYTES * e .
 unfolding bodyOf partOf
 length-body book e h = length-take-le (NODE-BYTES * e .count) (drop (e .offset) book) (omega (arith, length-drop (e .offset) book))
 
+-- so its bytes are judged as its nodes are
 pub body-verdict : (book : List ℕ) (e : Entry) → e .count ≤ MOST-NODES → e .offset + NODE-BYTES * e .count ≤ length book
     → checkBytes (bodyOf book e) ≡ checkNodes (nodesOf book e)
 unfolding nodesOf
@@ -65,12 +67,12 @@ body-verdict book e m h =
     let l = length-body book e h in
     whole-bytes (bodyOf book e) (omega arith) (omega arith)
 
--- so each body of a book whose contents keep the rules is judged as its nodes are
+-- the same for each body of a book whose contents keep the rules
 pub whole-body : (book : List ℕ) → contentsFault book ≡ TAKEN → (i : ℕ) → i < listsIn book
     → checkBytes (bodyOf book (entryAt book i)) ≡ checkNodes (nodesOf book (entryAt book i))
 whole-body book good i h = let w = entry-within book good i h in body-verdict book (entryAt book i) (w .0) (w .1)
 
--- a book that is taken has the one verdict that says so
+-- where the answer is TAKEN, the whole verdict is `taken`
 bodies-taken : (list : ℕ) (bodies : List (List Node)) → checkBodies list bodies .answer ≡ TAKEN → checkBodies list bodies ≡ taken
 unfolding checkBodies
 bodies-taken list [] t = refl
@@ -88,7 +90,7 @@ parts-taken fault bodies t =
       | inr h ↦ absurd (eqb-false fault TAKEN h (rw h at t))
     ]
 
--- what an opened book carries
+-- the verdict and the number of lists that an opened book carries
 module _ (book : List ℕ) where
   pub book-taken : bookVerdict book .answer ≡ TAKEN → bookVerdict book ≡ taken
   unfolding bookVerdict

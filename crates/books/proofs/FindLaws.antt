@@ -1,4 +1,4 @@
--- Why it holds: A book that is refused has no list anywhere, and one that is taken has those that
+-- Why it holds: A book that is refused has no list anywhere. One that is taken has the lists that
 -- its contents count, each the first of its tag, since tags ascend.
 -- What would break it: A list found in a refused book, one after the last, or another list of the
 -- same tag would be caught here.
@@ -62,8 +62,8 @@ pub book-faultless : (book : List ℕ) → bookVerdict book .answer ≡ TAKEN �
 unfolding bookVerdict
 book-faultless book t = parts-faultless (contentsFault book) (map (nodesOf book) (contentsOf book)) t
 
--- tags that strictly ascend: a list's tag is below all later ones, so each list is the first of its
--- own tag
+-- where tags strictly ascend, a list's tag is below all later ones, so each list is the first of
+-- its own tag
 above-all : (e : Entry) (es : List Entry) → ascendb (e ∷ es) ≡ true → (i : ℕ) → i < length es → e .tag < getD es i (entry 0 0 0) .tag
 unfolding ascendb
 above-all e [] a i h = absurd (omega arith)
@@ -88,7 +88,7 @@ first-of-tag (e ∷ es) a (suc i) h =
     let below = above-all e es a i (omega arith) in
     rw (ne-eqb (e .tag) tag (λ q. omega arith)) (ap suc (first-of-tag es (later-ascend e es a) i (omega arith)))
 
--- in a book that is taken each list is found by its tag where it is found by its place
+-- in a book that is taken, looking for a list by its tag or by its position finds the same
 module _ (book : List ℕ) (t : bookVerdict book .answer ≡ TAKEN) (position : ℕ) (h : position < listsIn book) where
   good : contentsFault book ≡ TAKEN
   good = book-faultless book t

@@ -24,7 +24,7 @@ pub struct Opened {
     pub lists: u32,
 }
 
-// Returns the body that an entry names, as far as the book goes.
+// Returns the body that `entry` names, as far as the book goes.
 pub(crate) fn body_of(book: &[u8], entry: Entry) -> &[u8]
     ensures { λ r. ⌜ (now r ≡ bodyOf (now (book .entry)) entry)
         × (ptr r ≡ bodyPlace (ptr (book .entry)) (now (book .entry)) entry) ⌝ }
@@ -36,7 +36,7 @@ pub(crate) fn body_of(book: &[u8], entry: Entry) -> &[u8]
     )
 }
 
-// Returns the verdict on a list alone, said of the list with a number.
+// Returns `verdict`, which a check of one list gave, with the number `list` in it.
 fn in_list(verdict: Verdict, list: u32) -> Verdict
     ensures { λ r. ⌜ r ≡ inList list verdict ⌝ }
 {
@@ -47,14 +47,15 @@ fn in_list(verdict: Verdict, list: u32) -> Verdict
     }
 }
 
-// Returns the verdict on the bodies of a book whose contents keep the rules: that on the first one
-// that isn't accepted.
+// Checks the bodies of a book whose contents keep the rules, and returns the verdict on the first
+// one that isn't accepted, or TAKEN.
 fn check_bodies(book: &[u8]) -> Verdict
     requires { ⌜ contentsFault (now book) ≡ TAKEN ⌝ }
     ensures { λ r. ⌜ r ≡ checkBodies 0 (map (nodesOf (now (book .entry))) (contentsOf (now (book .entry)))) ⌝ }
 {
     let lists = number_at(book, 0);
     let mut list = 0;
+    // Rests on BookLaws: bodies-on, bodies-stop, bodies-end.
     while list < lists {
         let entry = entry_at(book, list as usize);
         let verdict = check_bytes(body_of(book, entry));
@@ -66,7 +67,7 @@ fn check_bodies(book: &[u8]) -> Verdict
     without_node(TAKEN)
 }
 
-// Returns the verdict on a book: its contents, then its bodies.
+// Returns the verdict on a book: first on its contents, then on its bodies.
 fn verdict_on(book: &[u8]) -> Verdict
     ensures { λ r. ⌜ r ≡ bookVerdict (now (book .entry)) ⌝ }
 {
@@ -77,8 +78,8 @@ fn verdict_on(book: &[u8]) -> Verdict
     check_bodies(book)
 }
 
-// Returns whether the bytes are a book, and if so, how many lists it has; if not, why, and which
-// node of which list is at fault.
+// Checks whether the bytes are a book and returns how many lists it has. Where they aren't one, the
+// verdict says why, and which node of which list is at fault.
 pub fn check_book(book: &[u8]) -> Opened
     ensures { λ r. ⌜ r ≡ checkBook (now (book .entry)) ⌝ }
 {

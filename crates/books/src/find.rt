@@ -1,4 +1,4 @@
-// A book's lists, by tag and by place.
+// A book's lists, by tag and by position.
 use crate::book::Opened;
 use crate::book::body_of;
 use crate::book::check_book;
@@ -16,8 +16,8 @@ ghost use Rattle.contents.specs.Contents.{entriesIn};
 ghost use Rattle.books.specs.Book.{checkBook};
 ghost use Rattle.books.specs.Find.{tagAt, found, foundAt, foundTag, hasTag, tagBody, tagPlace};
 
-// What looking for a list answers: the verdict, and where the list's body lies in the book: the
-// place of its first byte and how many bytes it has, both 0 on refusal.
+// What looking for a list answers: the verdict, and where the list's body lies in the book. That is
+// its first byte and its number of bytes, both 0 on refusal.
 #[repr(C)]
 pub struct Found {
     pub verdict: Verdict,
@@ -25,7 +25,7 @@ pub struct Found {
     pub bytes: usize,
 }
 
-// Returns that nothing is found, for the reason that the verdict gives.
+// Returns that nothing is found, for the reason that `verdict` gives.
 fn nowhere(verdict: Verdict) -> Found
     ensures { λ r. ⌜ r ≡ found verdict 0 0 ⌝ }
 {
@@ -36,12 +36,13 @@ fn nowhere(verdict: Verdict) -> Found
     }
 }
 
-// Returns where a tag's list stands among the first `lists` entries, or how many these are where
-// there is none.
+// Returns the index of the list of `tag` among the first `lists` entries, or the number of these
+// entries where there is none.
 fn tag_at(book: &[u8], lists: u32, tag: u32) -> usize
     ensures { λ r. ⌜ r ≡ tagAt tag (take lists (entriesIn (now (book .entry)))) ⌝ }
 {
     let mut index = 0;
+    // Rests on contents: ContentLaws: entry-from, none-from.
     while index < lists as usize && index < entry_count(book) {
         let entry = entry_at(book, index);
         if entry.tag == tag {
@@ -52,7 +53,7 @@ fn tag_at(book: &[u8], lists: u32, tag: u32) -> usize
     index
 }
 
-// Returns where the list at a place of an opened book lies.
+// Returns where the list at `position` of a book that was just opened lies.
 fn found_at(book: &[u8], opened: Opened, position: usize) -> Found
     requires { ⌜ opened ≡ checkBook (now book) ⌝ }
     ensures { λ r. ⌜ r ≡ foundAt (now (book .entry)) position ⌝ }
@@ -72,15 +73,15 @@ fn found_at(book: &[u8], opened: Opened, position: usize) -> Found
     }
 }
 
-// Returns where the body of the list at a place lies, the first list having place 0; or the book's
-// refusal, or ABSENT.
+// Returns where the body of the list at `position` lies, the first list having position 0; or the
+// book's refusal, or ABSENT.
 pub fn find_list(book: &[u8], position: usize) -> Found
     ensures { λ r. ⌜ r ≡ foundAt (now (book .entry)) position ⌝ }
 {
     found_at(book, check_book(book), position)
 }
 
-// Returns where the body of a tag's list lies; or the book's refusal, or ABSENT.
+// Returns where the body of the list of `tag` lies; or the book's refusal, or ABSENT.
 pub fn find_tag(book: &[u8], tag: u32) -> Found
     ensures { λ r. ⌜ r ≡ foundTag (now (book .entry)) tag ⌝ }
 {
@@ -88,8 +89,8 @@ pub fn find_tag(book: &[u8], tag: u32) -> Found
     found_at(book, opened, tag_at(book, opened.lists, tag))
 }
 
-// Returns whether one of the lists of a book that was opened before and has `lists` lists has the
-// tag. Nothing is checked again.
+// Returns whether one of the `lists` lists of a book that was opened before has `tag`. Nothing is
+// checked again.
 pub fn has_tag(book: &[u8], lists: u32, tag: u32) -> bool
     ensures { λ r. ⌜ r ≡ hasTag (now (book .entry)) lists tag ⌝ }
 {
@@ -100,9 +101,9 @@ pub fn has_tag(book: &[u8], lists: u32, tag: u32) -> bool
     position < lists as usize
 }
 
-// Returns the body of a tag out of a book that was opened before and has `lists` lists, as a part
-// of the very bytes that were lent; or the empty part at their beginning where there is none.
-// Nothing is checked again.
+// Returns the body of `tag` out of a book that was opened before and has `lists` lists, as a part
+// of the very bytes that were lent. Where no list has the tag, that is the empty part at their
+// beginning. Nothing is checked again.
 pub fn tag_body(book: &[u8], lists: u32, tag: u32) -> &[u8]
     ensures { λ r. ⌜ (now r ≡ tagBody (now (book .entry)) lists tag)
         × (ptr r ≡ tagPlace (ptr (book .entry)) (now (book .entry)) lists tag) ⌝ }

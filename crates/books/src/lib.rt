@@ -1,3 +1,3 @@
-// The field book: its check, and its lists by tag and by place, as parts of the caller's bytes.
+// The field book: its check, and its lists by tag and by position, as parts of the caller's bytes.
 pub mod book;
 pub mod find;

@@ -1,7 +1,7 @@
--- Why it holds: Three numbers more are one entry more, and the rules of all lists are those that
--- each next list keeps to; so one walk along the entries settles them.
--- What would break it: An entry read one number off, a list that no rule looks at, or a book that
--- is longer than its lists would be caught here.
+-- Why it holds: Each further entry is three further numbers. The rules of all lists are rules that
+-- each next list keeps, so one walk along the entries settles them.
+-- What would break it: An entry read one number off, a list that no rule looks at, or a book longer
+-- than its lists would be caught here.
 use mathlib.Core.Path.{_≡_, refl, ap, sym, subst, _∙_}
 use mathlib.Core.Logic.{_⊎_, inl, inr}
 use mathlib.Core.Bool.{Bool, true, false, cond, not, _&&_, _||_}
@@ -40,7 +40,7 @@ length-entries (t ∷ o ∷ c ∷ ns) = let h = length-entries ns in omega arith
 beyond : (t o c : ℕ) (ns : List ℕ) {k m : ℕ} → m ≡ suc (suc (suc k)) → getD (t ∷ o ∷ c ∷ ns) m 0 ≡ getD ns k 0
 beyond t o c ns q = rw q
 
--- an entry's numbers are those at three times its index
+-- entry i has the numbers from 3 * i on
 pub entry-numbers : (ns : List ℕ) (i : ℕ) → i < length ns / 3
     → getD (entries ns) i (entry 0 0 0) ≡ entry (getD ns (3 * i) 0) (getD ns (3 * i + 1) 0) (getD ns (3 * i + 2) 0)
 unfolding entries
@@ -61,7 +61,7 @@ unfolding entries wordsIn flatMap entryNumbers
 entries-of [] ns = refl
 entries-of (e ∷ es) ns = ap (λ fs. e ∷ fs) (entries-of es ns)
 
--- the entries of a book, read where they lie
+-- the entries of a book, as they lie in its bytes
 module _ (book : List ℕ) where
   pub count-entries : length (entriesIn book) ≡ entryCount book
   unfolding entriesIn
@@ -91,7 +91,7 @@ module _ (book : List ℕ) where
   pub few-entries : (lists : ℕ) → length (take lists (entriesIn book)) ≤ lists
   few-entries lists = few-taken lists (entriesIn book) .0
 
-  -- the first so many entries from an index on begin with the one there, and after the last there
+  -- the first `lists` entries, from an index on, begin with the entry there; after the last there
   -- is none
   pub entry-from : (lists i : ℕ) → i < lists → i < entryCount book
       → drop i (take lists (entriesIn book)) ≡ entryAt book i ∷ drop (i + 1) (take lists (entriesIn book))
@@ -104,7 +104,7 @@ module _ (book : List ℕ) where
       let l = count-entries in
       drop-of-length-le (take lists (entriesIn book)) {i = i} (elim h [ inl k ↦ omega (arith, f .0, k) | inr k ↦ omega (arith, f .1, k) ])
 
-  -- a book whose contents are whole has an entry for each list
+  -- a book that is long enough for its contents has an entry for each list
   module _ (lists : ℕ) (whole : contentsEnd lists ≤ length book) where
     lists-fit : lists ≤ entryCount book
     unfolding contentsEnd
@@ -117,7 +117,7 @@ module _ (book : List ℕ) where
         → drop i (take lists (entriesIn book)) ≡ entryAt book i ∷ drop (i + 1) (take lists (entriesIn book))
     entries-from i h = entry-from lists i h (omega (arith, lists-fit))
 
--- a count above the most is one that isn't up to it
+-- a number is up to the most exactly when it isn't above it
 up-to : (n most : ℕ) → leb n most ≡ not (ltb most n)
 up-to n most =
     elim (either (ltb most n)) [
@@ -125,7 +125,7 @@ up-to n most =
       | inr h ↦ rw h (le-leb n most (ltb-false most n h))
     ]
 
--- the tags of the lists from a place on ascend: from the last one's tag on, where one was passed
+-- the tags of the lists ascend, and the first is above `tag`, where a list was already passed
 ascendFrom : Bool → ℕ → List Entry → Bool
 ascendFrom begun tag [] = true
 ascendFrom begun tag (e ∷ es) = (not begun || ltb tag (e .tag)) && ascendFrom true (e .tag) es
@@ -140,7 +140,7 @@ unfolding ascendFrom ascendb
 ascend-all tag [] = refl
 ascend-all tag (e ∷ es) = ascend-on e es
 
--- three rules, each asked of the first list and of the later ones, asked of the first list first
+-- the three rules of the first list and those of the later lists, sorted by rule
 regroup : (a b c x y z : Bool) → (a && (not b && c)) && (not x && (y && z)) ≡ not (b || x) && ((c && y) && (a && z))
 regroup true true c x y z = refl
 regroup false true c x y z = refl
@@ -165,18 +165,19 @@ one-broken true y z = refl
 one-broken false true z = refl
 one-broken false false z = refl
 
--- the rules are those of the walk
+-- the scope's rules are those that the walk keeps to
 keeps-rules : (lists : ℕ) (es : List Entry) (size : ℕ) → lists ≤ MOST-LISTS → brokenb lists es size ≡ not (keepsb (startOf lists) es size)
 unfolding brokenb startOf
 keeps-rules lists es size h =
     rw (le-ltb MOST-LISTS lists h, rules-from (startOf lists) es size, ascend-all 0 es)
     (one-broken (any (λ e. ltb MOST-NODES (e .count)) es) (ascendb es) (laidb (contentsEnd lists) es size))
 
--- what a walk has left from a place on is the whole
+-- what the walk has still to find out at a place decides the whole: the lists left keep the rules
+-- exactly when all lists do
 abbrev pub Left : ContentsPlace → List Entry → ContentsPlace → List Entry → Type 0
 Left p rest start all = (size : ℕ) → keepsb p rest size ≡ keepsb start all size
 
--- what the next step's answer says of it
+-- what a step's answer says: at a place reached the rest decides, and a refusal decides at once
 Steps : List Entry → ContentsPlace → List Entry → Step → Type 0
 Steps rest start all (Reached q) = Left q rest start all
 Steps rest start all (Refused answer) = Kept start all (Refused answer)
@@ -203,7 +204,7 @@ pub kept-end : (start : ContentsPlace) (all : List Entry) (q : ContentsPlace) �
 unfolding keepsb
 kept-end start all q l = λ size. ap (λ b. cond b TAKEN CONTENTS) (sym (l size))
 
--- a rule is broken where the walk along the lists says so
+-- the last step's answer is CONTENTS exactly where a rule is broken
 pub walk-answers : (lists : ℕ) (es : List Entry) (size : ℕ) → lists ≤ MOST-LISTS → (r : Step) → Kept (startOf lists) es r
     → stepAnswer r size ≡ cond (brokenb lists es size) CONTENTS TAKEN
 walk-answers lists es size few r k =
@@ -213,7 +214,7 @@ walk-answers lists es size few r k =
     turned true = refl
     turned false = refl
 
--- bodies that begin after the book's end don't end with it
+-- bodies that would begin after the book's end don't end with it
 laid-behind : (at : ℕ) (es : List Entry) (size : ℕ) → size < at → laidb at es size ≡ false
 unfolding laidb
 laid-behind at [] size h = ne-eqb at size (λ e. omega arith)
@@ -230,7 +231,7 @@ laid-before at es size t =
       | inr h ↦ ltb-false _ _ h
     ]
 
--- a body ends within the book
+-- the body of an entry ends within the book
 within : ℕ → Entry → Type 0
 within size e = e .offset + NODE-BYTES * e .count ≤ size
 
@@ -242,7 +243,7 @@ laid-within at (e ∷ es) size t =
     let o : e .offset ≡ at = eqb-true _ _ (p .0) in
     (omega (arith, laid-before (at + NODE-BYTES * e .count) es size (p .1)), laid-within (at + NODE-BYTES * e .count) es size (p .1))
 
--- a book too short for its contents breaks a rule, as one with too many lists does
+-- a book too short for its contents breaks a rule, and so does one with too many lists
 pub short-broken : (lists : ℕ) (es : List Entry) (size : ℕ) → size < contentsEnd lists → brokenb lists es size ≡ true
 unfolding brokenb
 short-broken lists es size h =
@@ -254,13 +255,13 @@ pub many-broken : (lists : ℕ) (es : List Entry) (size : ℕ) → MOST-LISTS < 
 unfolding brokenb
 many-broken lists es size h = or-left _ (lt-ltb MOST-LISTS lists h)
 
--- the answer for a book
+-- what the check answers for a book
 module _ (book : List ℕ) where
   pub fault-broken : brokenb (listsIn book) (contentsOf book) (length book) ≡ true → contentsFault book ≡ CONTENTS
   unfolding contentsFault
   fault-broken h = rw h
 
-  -- what it says of a book whose contents keep the rules
+  -- what follows for a book whose contents keep the rules
   module _ (good : contentsFault book ≡ TAKEN) where
     rules : brokenb (listsIn book) (contentsOf book) (length book) ≡ false
     rules =

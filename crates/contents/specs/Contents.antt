@@ -14,7 +14,8 @@ use Rattle.contents.specs.declared.entry.Entry.{Entry}
 abbrev pub MOST-LISTS : ℕ
 MOST-LISTS = 16
 
--- for each list its tag, the offset of its body from the book's first byte, and its node count
+-- an entry of the contents: a list's tag, where its body starts in the book, and how many nodes it
+-- has
 abbrev pub entry : ℕ → ℕ → ℕ → Entry
 entry tag offset count = record { tag = tag; offset = offset; count = count }
 
@@ -22,30 +23,29 @@ entry tag offset count = record { tag = tag; offset = offset; count = count }
 abbrev pub ENTRY-NUMBERS : ℕ
 ENTRY-NUMBERS = 3
 
--- the whole entries of the numbers, one after the other; numbers that make no whole entry are left
--- over
+-- the entries that the numbers make, three numbers each; up to two numbers at the end are left over
 unfoldable pub entries : List ℕ → List Entry
 entries [] = []
 entries (t ∷ []) = []
 entries (t ∷ o ∷ []) = []
 entries (t ∷ o ∷ c ∷ ns) = entry t o c ∷ entries ns
 
--- the numbers of an entry
+-- the three numbers of an entry
 unfoldable pub entryNumbers : Entry → List ℕ
 entryNumbers e = e .tag ∷ e .offset ∷ e .count ∷ []
 
--- the number of lists, which comes first
+-- the number of lists, which is the book's first number
 unfoldable pub listsIn : List ℕ → ℕ
 listsIn book = numberAt book 0
 
--- all whole entries after that number, and how many there are
+-- all whole entries that the bytes after that number could hold, and how many they are
 unfoldable pub entriesIn : List ℕ → List Entry
 entriesIn book = entries (drop 1 (numbers book))
 
 abbrev pub entryCount : List ℕ → ℕ
 entryCount book = (numberCount book - 1) / ENTRY-NUMBERS
 
--- the entry at an index, or zeros where there is none
+-- the entry at an index, or an entry of zeros where there is none
 unfoldable pub entryAt : List ℕ → ℕ → Entry
 entryAt book index = getD (entriesIn book) index (entry 0 0 0)
 
@@ -57,21 +57,21 @@ contentsOf book = take (listsIn book) (entriesIn book)
 unfoldable pub contentsEnd : ℕ → ℕ
 contentsEnd lists = NUMBER-BYTES * (1 + ENTRY-NUMBERS * lists)
 
--- tags strictly ascend
+-- each entry's tag is above the one before
 unfoldable pub ascendb : List Entry → Bool
 ascendb [] = true
 ascendb (e ∷ []) = true
 ascendb (e ∷ f ∷ es) = ltb (e .tag) (f .tag) && ascendb (f ∷ es)
 
--- the first body starts at a place, each next one where the last ended, and the book ends with the
--- last
+-- the bodies lie one right after the other from byte `at` on, up to the end of the book's `size`
+-- bytes
 unfoldable pub laidb : ℕ → List Entry → ℕ → Bool
 laidb at [] size = eqb at size
 laidb at (e ∷ es) size = eqb (e .offset) at && laidb (at + NODE-BYTES * e .count) es size
 
--- `lists` lists with these entries, in a book of `size` bytes, break a rule: more lists than 16, a
--- count above 4,096, tags that don't ascend, or bodies that don't lie right after the contents and
--- one another up to the end; so the contents of a book that is cut short break one too
+-- A book of `size` bytes, with these entries for its `lists` lists, breaks a rule. It has more
+-- lists than 16, a count above 4,096, or tags that don't ascend. Or its bodies don't lie right
+-- after the contents and one another, up to the end. So a book that is cut short breaks a rule too.
 unfoldable pub brokenb : ℕ → List Entry → ℕ → Bool
 brokenb lists es size =
     ltb MOST-LISTS lists
@@ -79,6 +79,6 @@ brokenb lists es size =
     || (not (ascendb es)
     || not (laidb (contentsEnd lists) es size)))
 
--- CONTENTS: the table of contents breaks a rule
+-- the answer for a book's contents: CONTENTS where they break a rule, otherwise TAKEN
 unfoldable pub contentsFault : List ℕ → ℕ
 contentsFault book = cond (brokenb (listsIn book) (contentsOf book) (length book)) CONTENTS TAKEN

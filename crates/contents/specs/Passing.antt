@@ -12,11 +12,11 @@ use Rattle.contents.specs.declared.step.Step.{Step}
 use Rattle.contents.specs.declared.step.Step.the-variants.{Reached, Refused}
 use Rattle.contents.specs.Contents.{contentsEnd}
 
--- a place: whether a list was passed, its tag, and where its body ended
+-- a place of the walk: whether a list was passed, that list's tag, and where its body ended
 abbrev pub contentsPlace : Bool → ℕ → ℕ → ContentsPlace
 contentsPlace begun tag end = record { begun = begun; tag = tag; end = end }
 
--- before the first of the `lists` lists: its body starts right after the contents
+-- the place before the first of `lists` lists: the first body starts right after the contents
 unfoldable pub startOf : ℕ → ContentsPlace
 startOf lists = contentsPlace false 0 (contentsEnd lists)
 
@@ -25,17 +25,17 @@ startOf lists = contentsPlace false 0 (contentsEnd lists)
 unfoldable pub passesb : ContentsPlace → Entry → Bool
 passesb p e = eqb (e .offset) (p .end) && (leb (e .count) MOST-NODES && (not (p .begun) || ltb (p .tag) (e .tag)))
 
--- the place after a list
+-- the place after the next list
 unfoldable pub afterEntry : ContentsPlace → Entry → ContentsPlace
 afterEntry p e = contentsPlace true (e .tag) (p .end + NODE-BYTES * e .count)
 
--- what the step answers
+-- what the step answers: the place after the next list, or the refusal CONTENTS
 unfoldable pub stepOf : ContentsPlace → Entry → Step
 stepOf p e = cond (passesb p e) (Reached (afterEntry p e)) (Refused CONTENTS)
 
--- the scope's number for each case of a step, for a book of `size` bytes whose lists end with it:
--- a place reached is TAKEN where the last body ends with the book and CONTENTS where it doesn't,
--- and a refusal is the number that it carries
+-- The answer number of a walk whose last step this is, for a book of `size` bytes. A place reached
+-- is TAKEN where the last body ends with the book, and CONTENTS where it doesn't. A refusal is the
+-- number that it carries.
 abbrev pub stepAnswer : Step → ℕ → ℕ
 stepAnswer (Reached last) size = cond (eqb (last .end) size) TAKEN CONTENTS
 stepAnswer (Refused answer) size = answer

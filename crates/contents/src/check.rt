@@ -15,13 +15,15 @@ ghost use Rattle.contents.specs.Contents.{entriesIn, contentsEnd, conten
 ghost use Rattle.contents.specs.Passing.{startOf};
 ghost use Rattle.contents.specs.Private.Walk.{Kept};
 
-// Walks along the entries of a book that is long enough to hold `lists` of them.
+// Walks along the entries of a `book` that is long enough to hold `lists` of them, and returns the
+// last step.
 fn pass_contents(book: &[u8], lists: u32) -> Step
     requires { ⌜ contentsEnd lists ≤ length (now book) ⌝ }
     ensures { λ r. ⌜ Kept (startOf lists) (take lists (entriesIn (now (book .entry)))) r ⌝ }
 {
     let mut place = start_of(lists);
     let mut index = 0;
+    // Rests on ContentLaws: kept-on, kept-stop, kept-end.
     while index < lists as usize {
         let step = pass_entry(place, entry_at(book, index));
         let Step::Reached(reached) = step else {
@@ -33,7 +35,7 @@ fn pass_contents(book: &[u8], lists: u32) -> Step
     Step::Reached(place)
 }
 
-// Returns whether the book's contents break a rule: CONTENTS if so, and TAKEN if not.
+// Checks the contents of `book` and returns CONTENTS where they break a rule, otherwise TAKEN.
 pub fn contents_fault(book: &[u8]) -> u32
     ensures { λ r. ⌜ r ≡ contentsFault (now (book .entry)) ⌝ }
 {

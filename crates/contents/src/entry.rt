@@ -25,7 +25,7 @@ pub fn contents_end(lists: u32) -> usize
     NUMBER_BYTES * (1 + ENTRY_NUMBERS * lists as usize)
 }
 
-// Returns how many entries there could be after the book's first number.
+// Returns how many whole entries the bytes after the book's first number could hold.
 pub fn entry_count(book: &[u8]) -> usize
     ensures { λ r. ⌜ r ≡ entryCount (now (book .entry)) ⌝ }
 {
@@ -35,7 +35,8 @@ pub fn entry_count(book: &[u8]) -> usize
     (book.len() / NUMBER_BYTES - 1) / ENTRY_NUMBERS
 }
 
-// Returns the entry at an index of the book's contents, or zeros where there could be none.
+// Returns the entry at `index` of the book's contents, or an entry of zeros where there could be
+// none.
 pub fn entry_at(book: &[u8], index: usize) -> Entry
     ensures { λ r. ⌜ r ≡ entryAt (now (book .entry)) index ⌝ }
 {

@@ -8,21 +8,21 @@ use numbers::little::NODE_BYTES;
 ghost use mathlib.Core.Path.{_≡_};
 ghost use Rattle.contents.specs.Passing.{startOf, stepOf, stepAnswer};
 
-// Where a walk along the contents stands: whether it has passed a list, and if so, its tag; and
-// where the next body has to start.
+// Where a walk along the contents stands: whether it has passed a list, that list's tag, and where
+// the next body has to start.
 pub struct ContentsPlace {
     pub begun: bool,
     pub tag: u32,
     pub end: usize,
 }
 
-// What a step answers: the place that it reached, or the refusal.
+// What a step answers: the place that it reached, or the number of the refusal.
 pub enum Step {
     Reached(ContentsPlace),
     Refused(u32),
 }
 
-// Returns the place before the first of the `lists` lists.
+// Returns the place before the first of `lists` lists.
 pub fn start_of(lists: u32) -> ContentsPlace
     ensures { λ r. ⌜ r ≡ startOf lists ⌝ }
 {
@@ -33,8 +33,9 @@ pub fn start_of(lists: u32) -> ContentsPlace
     }
 }
 
-// Returns the place after the next list, or CONTENTS: its body has to start where the last one
-// ended, it may not be too long, and its tag has to be above the last one's.
+// Passes the list of `entry` and returns the place after it, or the refusal CONTENTS. Its body has
+// to start where the last one ended. It may not be too long, and its tag has to be above the last
+// one's.
 pub fn pass_entry(place: ContentsPlace, entry: Entry) -> Step
     ensures { λ r. ⌜ r ≡ stepOf place entry ⌝ }
 {
@@ -54,8 +55,9 @@ pub fn pass_entry(place: ContentsPlace, entry: Entry) -> Step
     })
 }
 
-// Returns the answer of a walk that ended with this step, for a book of `size` bytes: the refusal;
-// or TAKEN where the last body ends with the book, and CONTENTS where it doesn't.
+// Returns the answer of a walk that ended with `step`, for a book of `size` bytes. A refusal is the
+// number that it carries. A place is TAKEN where the last body ends with the book, otherwise
+// CONTENTS.
 pub fn step_answer(step: Step, size: usize) -> u32
     ensures { λ r. ⌜ r ≡ stepAnswer step size ⌝ }
 {

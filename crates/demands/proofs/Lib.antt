@@ -1,4 +1,10 @@
--- `Demands` states the three demands on the page call, and `Pieces` what holds of lists that are
--- cut into pieces, each clause by clause.
+-- What the library promises, each clause as a theorem below a comment in words. `Demands` states
+-- the three demands on listings, and `Outputs` demand 1 for the other calls that write. `Marks` and
+-- `Books` state demand 2 for numbering and for books. `Pieces` is the rule for lists that are cut
+-- into pieces, and `Promised` what else is promised.
 pub mod Demands
+pub mod Outputs
+pub mod Marks
+pub mod Books
 pub mod Pieces
+pub mod Promised

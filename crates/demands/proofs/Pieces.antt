@@ -1,6 +1,6 @@
--- The rule for lists of more nodes than one call takes, which are cut into pieces: a clause is a
--- comment line and the theorem that says it, proved by citing the layer that knows why.
--- `whole` is the list before it was cut. A rule that lost a pair or passed a fault would fall here.
+-- The rule for lists of more nodes than one call takes, which are cut into pieces. Each clause is a
+-- comment in words and the theorem that says it, which only cites its proof. `whole` is the list
+-- before it was cut. A rule that lost a pair or passed a fault would be caught here.
 use Prim.Native.Nat.{ℕ, _≤_, _<_}
 use mathlib.Core.Path.{_≡_}
 use mathlib.Core.Logic.{_↔_, _⊎_}
@@ -88,8 +88,8 @@ module _ (relation : Relation) where
       → pairsOf (asked relation Ancestor) (whole as′) descendants ≡ piecePairs (asked relation Ancestor) as′ (descendants ∷ [])
   ancestors-piece-by-piece as′ descendants no-cut = in-ancestor-order relation as′ descendants no-cut
 
-  -- Past one place, the first n pairs of the whole are the first n of the first piece, then as many
-  -- of the second as these leave room for, and so on through all pieces:
+  -- The first n pairs of the whole past one place come from the pieces in turn, from each as many
+  -- as still fit:
   module _ (place : Spot) (n : ℕ) where
     -- in descendant order of the descendants' pieces,
     pub descendants-page-by-page : (ancestors : List ℕ) (ds : List (List ℕ)) → All WholeNodes ds
@@ -103,9 +103,9 @@ module _ (relation : Relation) where
         pageFor ask place n (whole as′) descendants ≡ inTurn (λ k a. pageFor ask place k a descendants) n as′
     ancestors-page-by-page as′ descendants no-cut = ancestors-in-turn relation place n as′ descendants no-cut
 
-    -- Both lists may be cut for that. Where for any room the pages of each leading piece with every
-    -- piece of the other list are merged by key, their first pairs in turn are the page of the
-    -- whole lists:
+    -- Both lists may be cut for that. For any room, let the pages of each leading piece with every
+    -- piece of the other list be merged by key. Their first pairs in turn are the page of the whole
+    -- lists:
     module _ (as′ ds : List (List ℕ)) (no-ancestor-cut : All WholeNodes as′) (no-descendant-cut : All WholeNodes ds)
         (ancestors-good : DrawsNone (whole as′)) (descendants-good : DrawsNone (whole ds)) (merged : ℕ → List ℕ → List Pair) where
       -- in descendant order,
@@ -124,8 +124,8 @@ module _ (relation : Relation) where
 
 -- The check of one list. Each piece has whole nodes, and no more of them than a call takes.
 module _ (ws : List (List ℕ)) (fit : All Fits ws) where
-  -- the whole list draws none of the answers 3 to 7 exactly when each piece is taken, any two are
-  -- taken together, and every node of the later one stands after every node of the earlier one
+  -- The whole list draws none of the answers 3 to 7 exactly when each piece is taken and any two
+  -- pass. Two pass if they are taken together and the later one's nodes stand after the earlier's.
   pub pieces-checked : DrawsNone (whole ws) ↔ (All Taken ws × EveryTwo (λ v w. TakenTogether v w × StandsAfter w v) ws)
   pieces-checked = whole-checked ws fit
 
@@ -156,14 +156,14 @@ module _ (v w : List ℕ) (v-taken : Taken v) (w-taken : Taken w) where
 
 -- Two lists, both cut into pieces.
 module _ (as′ ds : List (List ℕ)) where
-  -- no node of one whole list is at odds with a node of the other exactly when no node of an
-  -- ancestor piece is at odds with a node of a descendant piece,
+  -- No two nodes of the whole lists are at odds exactly when no node of an ancestor piece is at
+  -- odds with a node of a descendant piece.
   pub pieces-agree : All WholeNodes as′ → All WholeNodes ds
       → (jointb (nodes (whole as′)) (nodes (whole ds)) ≡ false) ↔ All (λ a. All (λ d. jointb (nodes a) (nodes d) ≡ false) ds) as′
   pieces-agree no-ancestor-cut no-descendant-cut = whole-agrees as′ ds no-ancestor-cut no-descendant-cut
 
-  -- so the two whole lists draw none of the answers 3 to 8 exactly when the pieces of each pass as
-  -- above, and each ancestor piece is taken together with each descendant piece
+  -- So the whole lists draw none of the answers 3 to 8 exactly when the pieces of each pass, and
+  -- each ancestor piece is taken together with each descendant piece.
   pub both-lists-checked : All Fits as′ → All Fits ds
       → (DrawsNone (whole as′) × DrawsNone (whole ds) × (jointb (nodes (whole as′)) (nodes (whole ds)) ≡ false))
       ↔ (PiecesPass as′ × PiecesPass ds × All (λ a. All (λ d. TakenTogether a d) ds) as′)

@@ -1,3 +1,2 @@
-// The customer's three demands, in his words, and the rule for lists that are cut into pieces.
-// There is no code here: proofs/Demands.antt and proofs/Pieces.antt state each clause and prove it
-// by citing the layers.
+// The customer's three demands, in his words, and what else is promised. There is no code here:
+// each file of proofs/ states its clauses one by one and proves them by citing the layers.

@@ -1,7 +1,7 @@
--- Why it holds: The scope's [P] figures hold: antt computes the test over the whole table, and
--- one lemma reads the equations off it. A row that states anything else than what the definitions
--- compute is refused here.
--- What would break it:
+-- Why it holds: The checker computes the test over the whole table, and one lemma reads the
+-- equations off it.
+-- What would break it: A row that states anything else than what the definitions compute would be
+-- caught at `computed`.
 use mathlib.Core.Path.{_≡_, refl}
 use mathlib.Core.Bool.{true}
 use mathlib.Core.List.{List, [], _∷_, flatMap}
@@ -30,6 +30,7 @@ use Rattle.forest.specs.Links.{upTo, firstOf, nodeIn, indices, innermostb, pare
 use Rattle.laws.proofs.Tests.{never, and-read}
 use Rattle.figures.specs.Figures.{Figure, figures, equalb, heldb}
 
+-- lists of numbers that pass the test are equal
 equal : (xs ys : List ℕ) → equalb xs ys ≡ true → xs ≡ ys
 unfolding equalb
 equal [] [] h = refl
@@ -37,11 +38,13 @@ equal [] (y ∷ ys) h = absurd (never h refl)
 equal (x ∷ xs) [] h = absurd (never h refl)
 equal (x ∷ xs) (y ∷ ys) h = let p = and-read (eqb x y) h in rw (eqb-true x y (p .0), equal xs ys (p .1))
 
+-- rows that pass the test have found what is stated
 held : (rows : List Figure) → heldb rows ≡ true → All (λ r. r .found ≡ r .stated) rows
 unfolding heldb
 held [] h = tt
 held (r ∷ rows) h = let p = and-read (equalb (r .found) (r .stated)) h in (equal (r .found) (r .stated) (p .0), held rows (p .1))
 
+-- the table passes the test
 computed : heldb figures ≡ true
 unfolding figures equalb heldb checkWords wordFault raggedb longb nodes checkNodes checkFrom fault levelb spanb orderb crossb depthb any
     endsb insideb afterb openb checkTwo refusedb jointb oddsb agreeb nestedb apartb sameb keep deeperb directlyb wordsOf aboveb pastb remains

@@ -1,2 +1,2 @@
-// The scope's proved figures. There is no code here: the table is specs/Figures.antt, and its
-// theorem proofs/Table.antt.
+// The scope's proved figures. There is no code here: the table is in specs/Figures.antt, and its
+// theorem in proofs/Table.antt.

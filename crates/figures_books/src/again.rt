@@ -1,4 +1,4 @@
-// A book's parts are written anew, into a painted output.
+// Writing a book's parts anew, into a painted output.
 use crate::say::say;
 use crate::say::say_answer;
 use crate::say::say_number;
@@ -17,19 +17,19 @@ use writing::write::write_book;
 ghost use Prim.Native.Nat.{_*_, _≤_};
 ghost use lib.ListN.{length};
 
-// The most entries that are taken over, one more than a book may have.
+// The most entries that are taken over: one more than a book may have.
 const MOST_ENTRIES: usize = 17;
 
-// How many words of nodes there is room for.
+// The number of words of nodes that there is room for.
 const MOST_WORDS: usize = 16400;
 
-// How many bytes of output there are.
+// The number of bytes of the output.
 const OUTPUT_BYTES: usize = 65700;
 
 // The byte that the output is painted with.
 const PAINT: u8 = 165;
 
-// Returns the lesser of two numbers.
+// Returns the lesser of `a` and `b`.
 fn lesser(a: usize, b: usize) -> usize
     ensures { λ r. ⌜ (r ≤ a) × (r ≤ b) ⌝ }
 {
@@ -39,8 +39,8 @@ fn lesser(a: usize, b: usize) -> usize
     b
 }
 
-// Returns how many entries of the book are taken over: as many as it says it has, there are and
-// there is room for.
+// Returns the number of entries of `book` that are taken over: as many as it says it has, as there
+// are, and as there is room for.
 fn taken_over(book: &[u8]) -> usize
     ensures { λ r. ⌜ r ≤ 17 ⌝ }
 {
@@ -48,11 +48,13 @@ fn taken_over(book: &[u8]) -> usize
     lesser(entry_count(book), said)
 }
 
-// The tags and counts of the book's first entries become (tag, count) entries.
+// Copies the tags and counts of the first `count` entries of `book` into `entries`, two words for
+// each.
 fn copy_entries(book: &[u8], count: usize, entries: &mut [u32])
     requires { ⌜ 2 * count ≤ length (now entries) ⌝ }
 {
     let mut index = 0;
+    // Rests on arithmetic alone: `entries` keeps its length, so each turn has room for two words.
     while index < count {
         let entry = entry_at(book, index);
         entries[2 * index] = entry.tag;
@@ -61,9 +63,10 @@ fn copy_entries(book: &[u8], count: usize, entries: &mut [u32])
     }
 }
 
-// Whether all bytes have the paint.
+// Returns whether all `bytes` have the paint.
 fn is_painted(bytes: &[u8]) -> bool {
     let mut index = 0;
+    // Rests on arithmetic alone: `index` rises to the length of `bytes`.
     while index < bytes.len() {
         if bytes[index] != PAINT {
             return false;
@@ -73,7 +76,7 @@ fn is_painted(bytes: &[u8]) -> bool {
     true
 }
 
-// Says what writing answers, and if a byte beyond what was written has changed.
+// Prints the answer `written`, and says if a byte of `out` beyond what was written has changed.
 fn say_written(written: Counted, out: &[u8]) {
     say_verdict(b"written ", written.verdict);
     say_number(b" bytes ", written.count);
@@ -82,7 +85,8 @@ fn say_written(written: Counted, out: &[u8]) {
     }
 }
 
-// Says what writing answers in an output that is too short, and if a byte of it has changed.
+// Prints what writing into `out`, which is too short, answers, and says if a byte of it has
+// changed.
 fn say_short(entries: &[u32], list: &[u32], out: &mut [u8]) {
     let written = write_book(entries, list, out);
     let verdict = written.verdict;
@@ -92,7 +96,7 @@ fn say_short(entries: &[u32], list: &[u32], out: &mut [u8]) {
     }
 }
 
-// Writes a book of `size` bytes into an output of one byte less.
+// Writes a book of `size` bytes into an output of one byte less, and prints what comes of it.
 fn write_short(entries: &[u32], list: &[u32], size: usize) {
     let mut out = [PAINT; OUTPUT_BYTES];
     if OUTPUT_BYTES < size {
@@ -104,7 +108,8 @@ fn write_short(entries: &[u32], list: &[u32], size: usize) {
     say_short(entries, list, &mut out[0..size - 1]);
 }
 
-// Writes a book of entries and nodes, and says what comes of it.
+// Writes the book of `entries` and `list`, and prints what comes of it and whether it is `book`
+// again.
 fn write_and_say(book: &[u8], entries: &[u32], list: &[u32]) {
     let mut out = [PAINT; OUTPUT_BYTES];
     let written = write_book(entries, list, &mut out);
@@ -121,7 +126,7 @@ fn write_and_say(book: &[u8], entries: &[u32], list: &[u32]) {
     say(b"\n");
 }
 
-// Writes the book's parts anew: the entries of its contents and the numbers after them.
+// Writes the parts of `book` anew: the entries of its contents and the numbers after them.
 pub(crate) fn write_parts(book: &[u8]) {
     let mut entries = [0u32; 2 * MOST_ENTRIES];
     let mut list = [0u32; MOST_WORDS];
@@ -135,7 +140,7 @@ pub(crate) fn write_parts(book: &[u8]) {
     }
 }
 
-// Entries of three words make no whole entries.
+// Writes a book of three words of entries, which make no whole entries.
 pub(crate) fn write_odd() {
     say(b"== entries of three words\n");
     write_and_say(b"", &[2, 0, 3], &[]);

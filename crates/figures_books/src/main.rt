@@ -1,6 +1,6 @@
-// The scope's figures of the field book and of the printing program: each argument names a book,
-// and for each this program prints what opening it answers, where its lists lie, what writing its
-// parts anew answers, and what the printing program prints of it.
+// The scope's figures of the field book and of the printing program. Each argument names a book.
+// For each this program prints what opening it answers, and where its lists lie. It also prints
+// what writing its parts anew answers, and what the printing program prints of it.
 mod again;
 mod say;
 
@@ -21,10 +21,11 @@ use numbers::part::part_of;
 use printing::print::print_book;
 use readers::reader::body_in;
 
-// How many bytes of a book there is room for.
+// The number of bytes of a book that there is room for.
 const MOST_BYTES: usize = 65600;
 
-// Whether two answers name the same part of the book, and the reader shows it.
+// Returns whether `by_tag` and `by_place` name the same part of `book`, and the reader shows it for
+// `tag`.
 fn is_agreed(book: &[u8], tag: u32, by_tag: Found, by_place: Found) -> bool {
     if by_tag.from != by_place.from {
         return false;
@@ -35,8 +36,8 @@ fn is_agreed(book: &[u8], tag: u32, by_tag: Found, by_place: Found) -> bool {
     same(body_in(book, tag), part_of(book, by_tag.from, by_tag.bytes))
 }
 
-// Says where the list at a place lies, looked for by its tag; and if it lies elsewhere by its place
-// or in the reader.
+// Prints where the list at `position` lies when it is looked for by its tag. Says so if it lies
+// elsewhere by its place or in the reader.
 fn say_list(book: &[u8], position: usize) {
     let entry = entry_at(book, position);
     let tag = entry.tag;
@@ -50,16 +51,17 @@ fn say_list(book: &[u8], position: usize) {
     say(b"\n");
 }
 
-// Says where each of the book's lists lies.
+// Prints where each of the `lists` of `book` lies.
 fn say_lists(book: &[u8], lists: u32) {
     let mut position = 0;
+    // Rests on arithmetic alone: `position` rises to `lists`.
     while position < lists as usize {
         say_list(book, position);
         position += 1;
     }
 }
 
-// Runs the case of a book.
+// Runs the case of `book`, which the file `name` holds.
 fn run_case(name: &[u8], book: &[u8]) {
     say(b"== ");
     say(name);
@@ -74,14 +76,14 @@ fn run_case(name: &[u8], book: &[u8]) {
     print_book(book);
 }
 
-// Runs the case of the book that is open for reading.
+// Runs the case of the book `name`, which `fd` reads.
 fn read_case(fd: i32, name: &[u8]) {
     let mut book = [0u8; MOST_BYTES];
     let length = read_full(fd, &mut book);
     run_case(name, &book[0..length]);
 }
 
-// Runs the case of the book that an argument names.
+// Runs the case of the book that the argument at `index` names.
 fn run_argument(index: usize) {
     let mut path = io::buffer();
     let length = os::arg(index, &mut path);
@@ -94,9 +96,11 @@ fn run_argument(index: usize) {
     libc::close(fd);
 }
 
+// Runs the case of each book that an argument names, and last that of entries of three words.
 fn main() {
     let count = os::arg_count();
     let mut index = 1;
+    // Rests on arithmetic alone: `index` rises to `count`.
     while index < count {
         run_argument(index);
         index += 1;

@@ -1,5 +1,5 @@
-// The scope's figures that aren't marked [P], but for those of the book: empty lists, and lists
-// of 4,096 nodes, of one node more and of one word more. For each the program prints what the calls
+// The scope's figures that aren't marked [P], except those of the book: empty lists, and lists of
+// 4,096 nodes, of one node more and of one word more. For each the program prints what the calls
 // answer.
 use answers::answer::name_of;
 use answers::verdict::Verdict;
@@ -17,6 +17,7 @@ use tickets::ticket::Order;
 use tickets::ticket::Relation;
 use tickets::ticket::fresh;
 
+// Runs the four cases: empty lists, and lists at the limit, one node past it and one word past it.
 fn main() {
     let mut most = [0u32; 16384];
     let mut one_node_more = [0u32; 16388];
@@ -27,18 +28,19 @@ fn main() {
     texts_case(b"16385 words", &mut one_word_more);
 }
 
-// Prints a text.
+// Prints `text`.
 fn print(text: &[u8]) {
     write_all(STDOUT_FILENO, text);
 }
 
-// Prints a text and the number after it.
+// Prints `text` and `number` after it.
 fn print_number(text: &[u8], number: usize) {
     print(text);
     print_decimal(STDOUT_FILENO, number as u64);
 }
 
-// Prints an answer's number and name, the list that it speaks of and the index there.
+// Prints the number and name of the answer of `verdict`, the list that it speaks of and the index
+// there.
 fn print_verdict(verdict: Verdict) {
     let name = name_of(verdict.answer);
     print_number(b": ", verdict.answer as usize);
@@ -49,7 +51,7 @@ fn print_verdict(verdict: Verdict) {
     print_number(b" index ", verdict.index as usize);
 }
 
-// Prints the number of a page's pairs, and whether they were all that remained.
+// Prints the number of pairs of `page`, and whether they were all that remained.
 fn print_page(page: Page) {
     print_number(b", pairs ", page.count);
     if page.done {
@@ -59,12 +61,13 @@ fn print_page(page: Page) {
     print(b", not done\n");
 }
 
-// Makes a list of the words: as many texts, one after the other, as they have room for. What words
+// Makes a list of `words`: as many texts, one after the other, as they have room for. Words that
 // are left over stay as they were.
 fn put_texts(words: &mut [u32]) {
     let count = node_count(words);
     let mut place = 0;
     let mut index = 0;
+    // Rests on arithmetic alone: `words` keeps its length, so each turn has room for a node.
     while index < count {
         let text = Node {
             document: 5,
@@ -78,7 +81,8 @@ fn put_texts(words: &mut [u32]) {
     }
 }
 
-// The case of a list of texts that the words have room for: alone, and joined with itself.
+// Runs the case of a list of texts, as many as `words` have room for: alone, and joined with
+// itself.
 fn texts_case(label: &[u8], words: &mut [u32]) {
     put_texts(words);
     print(label);
@@ -87,7 +91,7 @@ fn texts_case(label: &[u8], words: &mut [u32]) {
     page_case(label, words);
 }
 
-// The page of a list joined with itself, into an output with room for one pair.
+// Prints the page of the list `words` joined with itself, with room for one pair in the output.
 fn page_case(label: &[u8], words: &[u32]) {
     let mut out = [0u32; 8];
     let ticket = fresh(Relation::Inside, Order::Descendant);

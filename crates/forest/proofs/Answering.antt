@@ -1,5 +1,5 @@
--- Why it holds: The check of one list names the ancestors and carries index 0 when it is taken;
--- what the call answers follows from its fault and its room.
+-- Why it holds: The check of one list names the ancestors and carries index 0 when the list is
+-- taken. The call's answer follows from the list's fault and the room.
 -- What would break it: A refusal that counted nodes, or room compared with anything but the result,
 -- would be caught here.
 use mathlib.Core.Path.{_≡_, sym, ap, _∙_}

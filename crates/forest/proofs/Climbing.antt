@@ -1,7 +1,8 @@
 -- Why it holds: The first node of a document has no parent and no elder (the elder is the last
--- sibling before a node). For any other the node before is the parent, if that hasn't ended. Or
--- else the way up from there leads through nodes that contain all that was passed: it misses no
--- container, and what was passed last is the last node with the parent that is found, the elder.
+-- sibling before a node). For any other the node before is the parent, if that hasn't ended.
+-- Otherwise the way up from there leads through nodes that contain all that was passed, so it
+-- misses no container. The node passed last is the last one with the parent that is found: the
+-- elder.
 -- What would break it: A climb that skipped a parent, or an elder that is not the last, would be
 -- caught here.
 use mathlib.Core.Path.{_≡_, refl, sym, ap, _∙_}
@@ -37,8 +38,8 @@ module _ (ns : List Node) (i : ℕ) where
             (omega (arith, eqb-false i 0 z), eqb-true _ _ d)
       ]
 
--- on the way up from node i, p was passed: it stands before i in i's document and contains all
--- between the two, and no node from p on contains i
+-- on the way up from node i, p was passed. It stands before i in i's document and contains all
+-- nodes between the two. No node from p on contains i.
 pub record Passed (ns : List Node) (i p : ℕ) : Type 0 where
   pub before : p < i
   pub document : nodeIn ns p .document ≡ nodeIn ns i .document
@@ -64,8 +65,8 @@ module _ (ns : List Node) (ok : AcceptedList ns) (i : ℕ) (l : i < length ns) w
     pub first-alone : (j : ℕ) → j < i → siblingb ns i j ≡ false
     first-alone j k = not-so (λ s. other-document j k (sibling-read ns i j s .0))
 
-  -- the node before, where it is of the node's document and has not ended, is its parent, and
-  -- childless
+  -- the node before, if it is of the node's document and has not ended, is its parent and has no
+  -- child yet
   module _ (p : ℕ) (q : suc p ≡ i) (d : nodeIn ns p .document ≡ nodeIn ns i .document) (h : nodeIn ns i .start ≤ nodeIn ns p .end) where
     pub before-parent : parentOf ns i ≡ p
     before-parent =
@@ -79,7 +80,7 @@ module _ (ns : List Node) (ok : AcceptedList ns) (i : ℕ) (l : i < length ns) w
         not-so (λ s. let r = sibling-read ns i j s .1 ∙ before-parent in
         omega (arith, r, parent-before ns ok j (omega arith) (λ z. omega (arith, ok .short, r, z))))
 
-  -- where it has ended, the way up begins there
+  -- if it has ended, the way up begins there
   pub pass-before : Ended ns i → Passed ns i (i - 1)
   pass-before h = record {
     before = omega (arith, h .later);
@@ -92,7 +93,8 @@ module _ (ns : List Node) (ok : AcceptedList ns) (i : ℕ) (l : i < length ns) w
     early : e < length ns
     early = omega (arith, c .before)
 
-    -- what contains the node contains what was passed too, so none after the parent of that does
+    -- what contains the node also contains what was passed, so no node after the parent of that
+    -- does
     none-after : (j : ℕ) → j < i → ((parentOf ns e ≡ NONE → ⊥) → parentOf ns e < j) → holds ns i j ≡ false
     none-after j k h =
         elim (either (ltb j e)) [
@@ -105,7 +107,7 @@ module _ (ns : List Node) (ok : AcceptedList ns) (i : ℕ) (l : i < length ns) w
     parent-document : (parentOf ns e ≡ NONE → ⊥) → nodeIn ns (parentOf ns e) .document ≡ nodeIn ns i .document
     parent-document n = sym (within _ _ (parent-last ns ok e early .found n .1) .document) ∙ c .document
 
-    -- where it ended before the node it is passed too
+    -- if that parent ended before the node, it is passed as well
     pub pass-parent : (parentOf ns e ≡ NONE → ⊥) → nodeIn ns (parentOf ns e) .end < nodeIn ns i .start → Passed ns i (parentOf ns e)
     pass-parent n h =
         let f = parent-last ns ok e early .found n in
@@ -125,7 +127,7 @@ module _ (ns : List Node) (ok : AcceptedList ns) (i : ℕ) (l : i < length ns) w
           ];
         }
 
-    -- where it did not, or there is none, what was passed is the elder
+    -- if it did not, or there is none, what was passed is the elder
     module _ (h : (parentOf ns e ≡ NONE → ⊥) → nodeIn ns i .start ≤ nodeIn ns (parentOf ns e) .end) where
       same-parent : parentOf ns e ≡ parentOf ns i
       same-parent =

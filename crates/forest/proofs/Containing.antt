@@ -1,7 +1,7 @@
--- Why it holds: An accepted list ascends, and of two nodes of one document the later is inside the
--- earlier or starts after its end; so what contains a node contains all that stand between the two.
--- What would break it: A list in which a node could stand between another and its container would
--- be caught here.
+-- Why it holds: An accepted list ascends. Of two nodes of one document the later is inside the
+-- earlier or starts after its end. So what contains a node contains all nodes between the two.
+-- What would break it: A list in which a node outside the container could stand between a node and
+-- its container would be caught here.
 use mathlib.Core.Path.{_≡_}
 use mathlib.Core.Logic.{inl, inr, ⊎-elim}
 use mathlib.Core.Bool.{true, false}
@@ -49,7 +49,7 @@ module _ (ns : List Node) (ok : AcceptedList ns) where
   unfolding nodeIn
   fine-at e i k l = every-two-at Fine ns e i (node 0 0 0 0) k l (ok .fine)
 
-  -- documents ascend
+  -- documents never descend
   pub documents : (e i : ℕ) → e ≤ i → i < length ns → nodeIn ns e .document ≤ nodeIn ns i .document
   documents e i k l =
       elim (eq-or-lt-of-le k) [
@@ -79,7 +79,7 @@ module _ (ns : List Node) (ok : AcceptedList ns) where
             ]
       ]
 
-  -- and contains all that stand between
+  -- and it contains all nodes between the two
   pub contains-between : (i j e : ℕ) → e < j → j < i → i < length ns → insideb (nodeIn ns i) (nodeIn ns e) ≡ true
       → insideb (nodeIn ns j) (nodeIn ns e) ≡ true
   contains-between i j e k m l h =

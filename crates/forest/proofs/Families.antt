@@ -1,5 +1,5 @@
--- Why it holds: Theorems for the reader, over any accepted list: the parent is the innermost node
--- that contains a node, and first child and next lead through exactly its children.
+-- Why it holds: In any accepted list the parent is the innermost node that contains a node. First
+-- child and next lead through exactly its children. These are theorems for the reader.
 -- What would break it: A definition of the links that missed a container, a child or a sibling
 -- would be caught here.
 use mathlib.Core.Path.{_≡_, refl, sym, ap, _∙_}
@@ -99,7 +99,7 @@ module _ (list : List ℕ) (taken : checkWords list .answer ≡ TAKEN) where
   unfolding childOf indices
   childless i h j k = eqb-false (parentOf ns j) i (none-found (λ m. eqb (parentOf ns m) i) (length ns) short h j k)
 
-  -- from the next one on, following next leads to all later nodes with the same parent in the same
+  -- from the next node on, following next leads to all later nodes with the same parent in the same
   -- document, in their order, and to no other
   pub siblings-followed : (i : ℕ) → followed ns (length ns) (nextOf ns i) ≡ keep (λ j. ltb i j && siblingb ns i j) (indices ns)
   unfolding nextOf

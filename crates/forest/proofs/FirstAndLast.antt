@@ -1,5 +1,5 @@
--- Why it holds: The first and the last number that pass a test are found along the numbers below a
--- bound, and where none passes the answer is NONE, which none of them is.
+-- Why it holds: The first and the last number that pass a test are found among the numbers below a
+-- bound. If none passes the answer is NONE, which is none of them.
 -- What would break it: A search that ran one number short, or took NONE for a number, would be
 -- caught here.
 use mathlib.Core.Path.{_≡_, refl, sym, ap, subst, _∙_}
@@ -19,7 +19,7 @@ use Rattle.forest.specs.Links.{NONE, upTo, firstOf}
 pub none-or-not : (r : ℕ) → (r ≡ NONE) ⊎ (r ≡ NONE → ⊥)
 none-or-not r = elim (either (eqb r NONE)) [ inl h ↦ inl (eqb-true r NONE h) | inr h ↦ inr (eqb-false r NONE h) ]
 
--- a number below the next one is below this one or is it
+-- a number below the successor of `n` is `n` or below it
 pub last-or-below : {n j : ℕ} → j < suc n → (j ≡ n) ⊎ (j < n)
 last-or-below k = elim (eq-or-lt-of-le k) [ inl e ↦ inl (omega arith) | inr e ↦ inr (omega arith) ]
 
@@ -33,18 +33,18 @@ unfolding upTo
 all-up P zero f = tt
 all-up P (suc n) f = all-next P (upTo n) n (all-up P n (λ j l. f j (omega arith))) (f n (omega arith))
 
--- r is the first of the numbers below another that passes a test, or NONE where none does
+-- r is the first of the numbers below `bound` that passes a test, or NONE if none does
 pub record First (test : ℕ → Bool) (bound r : ℕ) : Type 0 where
   pub found : (r ≡ NONE → ⊥) → (r < bound) × (test r ≡ true)
   pub first : (j : ℕ) → j < bound → ((r ≡ NONE → ⊥) → j < r) → test j ≡ false
 
--- r is the last of them, or NONE where none does
+-- r is the last of them, or NONE if none does
 pub record Last (test : ℕ → Bool) (bound r : ℕ) : Type 0 where
   pub found : (r ≡ NONE → ⊥) → (r < bound) × (test r ≡ true)
   pub last : (j : ℕ) → j < bound → ((r ≡ NONE → ⊥) → r < j) → test j ≡ false
 
 module _ (test : ℕ → Bool) where
-  -- a search goes on after a list only where it found nothing there
+  -- a search goes on into a second list only if it found nothing in the first
   stays : (xs ys : List ℕ) → (firstOf test xs ≡ NONE → ⊥) → firstOf test (xs ++ ys) ≡ firstOf test xs
   unfolding firstOf
   stays [] ys h = absurd (h refl)
@@ -88,11 +88,11 @@ module _ (test : ℕ → Bool) where
             ])
       ]
 
-  -- no number found stands before another
+  -- of two first numbers found, neither stands before the other
   none-before : {n r s : ℕ} → First test n r → First test n s → (r ≡ NONE → ⊥) → ((s ≡ NONE → ⊥) → r < s) → ⊥
   none-before {n} {r} {s} f g h l = never (f .found h .1) (g .first r (f .found h .0) l)
 
-  -- there is one first number
+  -- there is only one first number
   first-same : {n r s : ℕ} → First test n r → First test n s → r ≡ s
   first-same {n} {r} {s} f g =
       elim (none-or-not r) [
@@ -111,11 +111,11 @@ module _ (test : ℕ → Bool) where
   pub first-none : (n : ℕ) → n ≤ NONE → ((j : ℕ) → j < n → test j ≡ false) → firstOf test (upTo n) ≡ NONE
   first-none n l f = first-is l (nothing-first n f)
 
-  -- where none was found, none passes
+  -- if none was found, none passes
   pub none-found : (n : ℕ) → n ≤ NONE → firstOf test (upTo n) ≡ NONE → (j : ℕ) → j < n → test j ≡ false
   none-found n l e j k = first-of n l .first j k (λ h. absurd (h e))
 
-  -- one number more changes what was found only where nothing was, and it passes
+  -- one number more changes what was found only if nothing was found and it passes
   pub first-kept : (n : ℕ) → suc n ≤ NONE → (test n ≡ true → firstOf test (upTo n) ≡ NONE → ⊥) → firstOf test (upTo (suc n)) ≡ firstOf test (upTo n)
   first-kept n l h =
       let f = first-of n (omega arith) in
@@ -124,7 +124,7 @@ module _ (test : ℕ → Bool) where
   pub first-added : (n : ℕ) → suc n ≤ NONE → test n ≡ true → ((j : ℕ) → j < n → test j ≡ false) → firstOf test (upTo (suc n)) ≡ n
   first-added n l t f = first-is l (first-next (nothing-first n f) refl l t)
 
-  -- the last of the numbers below another that passes, or NONE
+  -- the last of the numbers below a bound that passes, or NONE
   pub lastOf : ℕ → ℕ
   lastOf zero = NONE
   lastOf (suc n) = cond (test n) n (lastOf n)

@@ -1,5 +1,5 @@
--- Why it holds: A list of ascending numbers that pass a test begins with the first that does, and
--- goes on with those after it; so following `next` meets them all.
+-- Why it holds: A list of ascending numbers that pass a test begins with the first that does and
+-- goes on with those after it. So following `next` meets them all.
 -- What would break it: A `next` that left out a sibling, or met one twice, would be caught here.
 use mathlib.Core.Path.{_≡_, refl, sym, ap, _∙_}
 use mathlib.Core.Logic.{inl, inr}
@@ -49,7 +49,7 @@ keep-first test (suc n) r f h =
           λ t. front t ++ last t
     ])
 
--- after a number that isn't below another, the other is no bound
+-- of the numbers after `j`, all are at least `a`, where `a` is at most `j`
 behind : (a j m : ℕ) → a ≤ j → (b : Bool) → (ltb j m && b) ≡ (ltb j m && (leb a m && b))
 behind a j m l b =
     elim (either (ltb j m)) [ inl h ↦ rw (h, le-leb a m (omega (arith, ltb-true j m h))) refl | inr h ↦ rw h refl ]
@@ -64,7 +64,7 @@ module _ (ns : List Node) (short : length ns ≤ NONE) where
   unfolding followed
   follow-step steps i h = rw (ne-eqb i NONE h)
 
-  -- where those that pass a test are siblings of one another and of no other node, following them
+  -- if the nodes that pass a test are siblings of one another and of no other node, following them
   -- from the first on meets them all
   pub follow-from : (test : ℕ → Bool)
       → ((j m : ℕ) → j < length ns → m < length ns → test j ≡ true → siblingb ns j m ≡ test m)

@@ -1,5 +1,5 @@
--- Why it holds: Three words more are one node's links more, so a link of a node stands at three
--- times its index and one store alters it alone.
+-- Why it holds: Three more words are one more node's links. So a node's links stand at three times
+-- its index, and one store alters one link alone.
 -- What would break it: A link stored one word off, or over another node's, would be caught here.
 use mathlib.Core.Path.{_≡_, refl, sym, ap, _∙_}
 use mathlib.Core.Logic.{inl, inr}
@@ -23,7 +23,7 @@ use Rattle.forest.proofs.FirstAndLast.{last-or-below}
 use Rattle.forest.proofs.Containing.{AcceptedList}
 use Rattle.forest.proofs.OneMoreNode.{alone, elder-gets, elder-only, parent-only, parent-gets}
 
--- the words of the links of the first nodes
+-- the words of the links of the first `k` nodes
 abbrev words : (ℕ → Link) → ℕ → List ℕ
 words f k = wordsIn linkWords (map f (upTo k))
 
@@ -66,7 +66,7 @@ module _ (f g : ℕ → Link) where
   words-same (suc k) h =
       rw (words-next f k, words-next g k, h k (omega arith)) (ap (λ ws. ws ++ linkWords (f k)) (words-same k (λ j l. h j (omega arith))))
 
-  -- one store that turns the links of one node into others
+  -- one store turns the links of one node into others
   words-set : (k e c v : ℕ) → e < k → c < 3 → ((j : ℕ) → j < k → (j ≡ e → ⊥) → g j ≡ f j) → set (linkWords (f e)) c v ≡ linkWords (g e)
       → set (words f k) (3 * e + c) v ≡ words g k
   words-set zero e c v l b h s = absurd (not-suc-le-zero l)
@@ -89,12 +89,12 @@ module _ (ns : List Node) (ok : AcceptedList ns) (i : ℕ) (l : i < length ns) (
   abbrev g : ℕ → Link
   g = linkTo ns (suc i)
 
-  -- the words once the node's own links are written after those of the nodes before
+  -- the words with the node's own links written after those of the nodes before
   abbrev own : List ℕ
   own = sets out (3 * i) (linkWords (link (parentOf ns i) NONE NONE))
 
-  -- a change that turns the links of the nodes before into what they are with the node makes the
-  -- links of one node more
+  -- a change that gives the nodes before the links that they have with the node makes the links of
+  -- one node more
   joined : (change : List ℕ → List ℕ) → ((tail : List ℕ) → change (words f i ++ tail) ≡ words g i ++ tail)
       → change own ≡ written (linksTo ns (i + 1)) out
   unfolding linksTo written linkWords
@@ -118,21 +118,21 @@ module _ (ns : List Node) (ok : AcceptedList ns) (i : ℕ) (l : i < length ns) (
       set-append-left (words f i) tail (3 * e + c) i (omega (arith, words-length f i))
       ∙ ap (λ ws. ws ++ tail) (words-set f g i e c i b t only gets))
 
-  -- a node with an elder becomes its next one
+  -- a node with an elder becomes the elder's next sibling
   pub joined-next : (e : ℕ) → Elder ns i e → set own (3 * e + 2) i ≡ written (linksTo ns (i + 1)) out
   unfolding linkTo linkWords
   joined-next e k =
       stored e 2 (k .before) (omega arith) (elder-only ns ok i l e k) (sym (ap linkWords (elder-gets ns ok i l e k)))
 
   module _ (none : (j : ℕ) → j < i → siblingb ns i j ≡ false) where
-    -- one without becomes the first child of its parent
+    -- a node without an elder becomes the first child of its parent
     pub joined-child : (p : ℕ) → parentOf ns i ≡ p → p < i → set own (3 * p + 1) i ≡ written (linksTo ns (i + 1)) out
     unfolding linkTo linkWords
     joined-child p q b =
         stored p 1 b (omega arith) (λ j c d. parent-only ns ok i l none j c (λ z. d (z ∙ q)))
         (sym (ap linkWords (parent-gets ns ok i l none p q b)))
 
-    -- and where it has no parent either, nothing else changes
+    -- and if it has no parent either, nothing else changes
     pub joined-alone : parentOf ns i ≡ NONE → own ≡ written (linksTo ns (i + 1)) out
     joined-alone q =
         joined (λ ws. ws) (λ tail. ap (λ ws. ws ++ tail) (words-same f g i
@@ -164,7 +164,7 @@ module _ (ns : List Node) where
       ∙ ap (λ zs. more ++ zs) (drop-append-add ws (drop (length ws) base) 3 ∙ drop-drop 3 (length ws) base)
       ∙ ap (λ n. more ++ drop n base) (sym long)
 
--- all nodes' links
+-- the links of all nodes
 pub links-all : (list : List ℕ) (k : ℕ) → k ≡ count list → linksTo (nodes list) k ≡ linksIn list
 unfolding linksTo linksIn linksOf linkTo linkOf childTo nextTo childOf nextOf indices
 links-all list k q = rw (q ∙ sym (length-nodes list)) refl

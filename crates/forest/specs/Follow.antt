@@ -6,7 +6,8 @@ use lib.Dec.{eqb}
 use Rattle.nodes.specs.declared.node.Node.{Node}
 use Rattle.forest.specs.Links.{NONE, nextOf}
 
--- the indices met from a first one on, until there is no next one, in at most `steps` steps
+-- the indices met on the way from the index `i` along `next`, until there is none, in at most
+-- `steps` steps
 unfoldable pub followed : List Node → ℕ → ℕ → List ℕ
 followed ns zero i = []
 followed ns (suc steps) i = cond (eqb i NONE) [] (i ∷ followed ns steps (nextOf ns i))

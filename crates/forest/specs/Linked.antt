@@ -1,5 +1,5 @@
--- docs/SCOPE.md, "The containment forest": what the call answers and writes: the list's checks,
--- then ROOM.
+-- docs/SCOPE.md, "The containment forest": what the call answers and writes. The list's checks come
+-- first, then ROOM.
 use Prim.Native.Nat.{ℕ}
 use mathlib.Core.List.{List}
 use lib.ListN.{length}
@@ -15,8 +15,8 @@ unfoldable pub linksIn : List ℕ → List ℕ
 linksIn list = wordsIn linkWords (linksOf (nodes list))
 
 module _ (list out : List ℕ) where
-  -- the list's own answer with the faulty node's index, then ROOM, which carries index 0 as TAKEN
-  -- does; and how many nodes got their links
+  -- the call answers the list's own refusal with the faulty node's index, then ROOM, or else TAKEN,
+  -- both with index 0; it counts the nodes that got their links
   unfoldable pub linkedOf : Counted
   linkedOf =
       let checked = checkWords list in
@@ -25,5 +25,6 @@ module _ (list out : List ℕ) where
         count = ifTaken (checked .answer) (linksIn list) out (length (nodes list)) 0;
       }
 
+  -- the call writes the words of the list's links; on refusal the output is as it was
   unfoldable pub linksOutput : List ℕ
   linksOutput = outputOf (checkWords list .answer) (linksIn list) out

@@ -25,6 +25,7 @@ firstOf test [] = NONE
 firstOf test (i ∷ is) = cond (test i) i (firstOf test is)
 
 module _ (ns : List Node) where
+  -- the node at an index of the list
   unfoldable pub nodeIn : ℕ → Node
   nodeIn i = getD ns i (node 0 0 0 0)
 
@@ -40,7 +41,7 @@ module _ (ns : List Node) where
   unfoldable pub parentOf : ℕ → ℕ
   parentOf i = firstOf (λ j. innermostb (nodeIn i) (nodeIn j)) indices
 
-  -- the index of its first child, the first node whose parent it is
+  -- the index of a node's first child, the first node whose parent it is
   unfoldable pub childOf : ℕ → ℕ
   childOf i = firstOf (λ j. eqb (parentOf j) i) indices
 
@@ -48,10 +49,11 @@ module _ (ns : List Node) where
   unfoldable pub siblingb : ℕ → ℕ → Bool
   siblingb i j = eqb (nodeIn j .document) (nodeIn i .document) && eqb (parentOf j) (parentOf i)
 
-  -- the index of the next one
+  -- the index of a node's next sibling, the first one after it
   unfoldable pub nextOf : ℕ → ℕ
   nextOf i = firstOf (λ j. ltb i j && siblingb i j) indices
 
+  -- the three links of the node at an index
   unfoldable pub linkOf : ℕ → Link
   linkOf i = record { parent = parentOf i; child = childOf i; next = nextOf i }
 
@@ -63,5 +65,6 @@ module _ (ns : List Node) where
 abbrev pub LINK-WORDS : ℕ
 LINK-WORDS = 3
 
+-- the three words of a node's links
 unfoldable pub linkWords : Link → List ℕ
 linkWords l = l .parent ∷ l .child ∷ l .next ∷ []

@@ -28,8 +28,8 @@ ghost use Rattle.forest.specs.Private.Climb.{Linking, link, linksTo};
 ghost use Rattle.forest.specs.Linked.{linksIn, linkedOf, linksOutput};
 ghost use Rattle.forest.specs.Links.{NONE, LINK-WORDS, linkWords};
 
-// Writes the links of a node that has a given parent, or NONE, and neither child nor next sibling
-// yet.
+// Writes the links of the node at `index`, which has the parent `parent`, or NONE, and neither
+// child nor next sibling yet.
 fn put_leaf(out: &mut [u32], index: usize, parent: u32)
     requires { ⌜ index < length (now out) / LINK-WORDS ⌝ }
     ensures { λ r. ⌜ now (out .exit) ≡ sets (now (out .entry)) (LINK-WORDS * index) (linkWords (link parent NONE NONE)) ⌝ }
@@ -45,8 +45,8 @@ fn put_leaf(out: &mut [u32], index: usize, parent: u32)
     );
 }
 
-// Links the next node. The first node of a document has no parent and no elder (the elder is the
-// last sibling before a node). Any other is the first child of the node before, if that hasn't
+// Links the node at `index`. The first node of a document has no parent and no elder (the elder is
+// the last sibling before a node). Any other is the first child of the node before, if that hasn't
 // ended, or else the next sibling of its elder.
 fn link_node(list: &[u32], out: &mut [u32], index: usize)
     requires { ⌜ (checkWords (now list) .answer ≡ TAKEN) × (index < count (now list)) × (count (now list) ≤ length (now out) / LINK-WORDS)
@@ -76,15 +76,15 @@ fn link_all(list: &[u32], out: &mut [u32])
     ensures { λ r. ⌜ now (out .exit) ≡ written (linksIn (now (list .entry))) (now (out .entry)) ⌝ }
 {
     let mut index = 0;
+    // Rests on LinkLaws: links-more, links-all.
     while index < node_count(list) {
         link_node(list, out, index);
         index += 1;
     }
 }
 
-// Writes the links of the list's nodes into the output, three words a node in list order, and
-// returns the list's verdict or ROOM, and the number of nodes linked; on refusal the output stays
-// as it was.
+// Writes the links of the list's nodes into `out`, three words a node in list order. Returns the
+// list's verdict or ROOM, and the number of nodes linked. On refusal `out` stays as it was.
 pub fn link_list(list: &[u32], out: &mut [u32]) -> Counted
     ensures { λ r. ⌜ (r ≡ linkedOf (now (list .entry)) (now (out .entry)))
         × (now (out .exit) ≡ linksOutput (now (list .entry)) (now (out .entry))) ⌝ }

@@ -11,16 +11,16 @@ pub const LINK_WORDS: usize = 3;
 // The word that says there is no such node.
 pub const NONE: u32 = 4294967295;
 
-// The links of a node, each the index of another node of the list or NONE: the innermost node that
-// contains it, the first node whose parent it is, and the next node with the same parent in the
-// same document.
+// The links of a node, each the index of another node of the list or NONE. The parent is the
+// innermost node that contains it, the child the first node whose parent it is. The next is the
+// next node with the same parent in the same document.
 pub struct Link {
     pub parent: u32,
     pub child: u32,
     pub next: u32,
 }
 
-// The parent of the node at an index.
+// Returns the parent of the node at `index`.
 pub(crate) fn parent_at(links: &[u32], index: usize) -> u32
     requires { ⌜ index < length (now links) / LINK-WORDS ⌝ }
     ensures { λ r. ⌜ r ≡ getD (now (links .entry)) (LINK-WORDS * index) 0 ⌝ }
@@ -28,7 +28,7 @@ pub(crate) fn parent_at(links: &[u32], index: usize) -> u32
     links[LINK_WORDS * index]
 }
 
-// The node at an index gets its links.
+// Writes the links of the node at `index`.
 pub(crate) fn put_link(links: &mut [u32], index: usize, link: Link)
     requires { ⌜ index < length (now links) / LINK-WORDS ⌝ }
     ensures { λ r. ⌜ now (links .exit) ≡ sets (now (links .entry)) (LINK-WORDS * index) (linkWords link) ⌝ }
@@ -39,7 +39,7 @@ pub(crate) fn put_link(links: &mut [u32], index: usize, link: Link)
     links[at + 2] = link.next;
 }
 
-// The node at an index gets a first child.
+// Writes the first child of the node at `index`.
 pub(crate) fn put_child(links: &mut [u32], index: usize, child: u32)
     requires { ⌜ index < length (now links) / LINK-WORDS ⌝ }
     ensures { λ r. ⌜ now (links .exit) ≡ set (now (links .entry)) (LINK-WORDS * index + 1) child ⌝ }
@@ -47,7 +47,7 @@ pub(crate) fn put_child(links: &mut [u32], index: usize, child: u32)
     links[LINK_WORDS * index + 1] = child;
 }
 
-// The node at an index gets a next sibling.
+// Writes the next sibling of the node at `index`.
 pub(crate) fn put_next(links: &mut [u32], index: usize, next: u32)
     requires { ⌜ index < length (now links) / LINK-WORDS ⌝ }
     ensures { λ r. ⌜ now (links .exit) ≡ set (now (links .entry)) (LINK-WORDS * index + 2) next ⌝ }

@@ -1,5 +1,5 @@
 -- Why it holds: The answer is ABSENT unless both tags are there, and then ROOM unless both lists
--- fit; where they do, all their numbers are copied.
+-- fit. If they do, all their numbers are copied.
 -- What would break it: A list that is cut short, or words that a refusal leaves changed, would be
 -- caught here.
 use mathlib.Core.Path.{_≡_, refl, sym, ap, _∙_}
@@ -31,7 +31,7 @@ unfolding tagWords
 tag-copied book lists tag body words e h = copied-whole body words h ∙ ap (λ b. written (numbers b) words) e
 
 module _ (book : List ℕ) (lists ancestors descendants : ℕ) (first second : List ℕ) where
-  -- what is returned, and the words on return, are the definition's
+  -- what is returned, and the words on return, are as defined
   abbrev pub Answered : Lengths → List ℕ → List ℕ → Type 0
   Answered r f s =
       (r ≡ lengthsOf book lists ancestors descendants first second)
@@ -74,7 +74,7 @@ module _ (book : List ℕ) (lists ancestors descendants : ℕ) (first second : L
               lt-leb (length (tagWords book lists descendants)) (length second) (omega arith),
             ) refl) (λ e. omega arith)
 
-        -- both do
+        -- both lists fit
         pub copies : numberCount d ≤ length second → (v : Verdict) → v ≡ taken
             → Answered (lengths v (numberCount a) (numberCount d)) (copied a first) (copied d second)
         unfolding lengthsOf firstAfter secondAfter copyAnswer thereb fitb

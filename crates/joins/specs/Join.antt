@@ -1,4 +1,4 @@
--- Two lists of a book by their tags, as words: ABSENT where one isn't there.
+-- Two lists of a book by their tags, as words. The answer is ABSENT if one isn't there.
 use Prim.Native.Nat.{ℕ}
 use mathlib.Core.Bool.{Bool, cond, _&&_}
 use mathlib.Core.List.{List}
@@ -16,6 +16,7 @@ use Rattle.joins.specs.declared.copy.Lengths.{Lengths}
 unfoldable pub tagWords : List ℕ → ℕ → ℕ → List ℕ
 tagWords book lists tag = numbers (tagBody book lists tag)
 
+-- the answer of copying, with its three fields
 abbrev pub lengths : Verdict → ℕ → ℕ → Lengths
 lengths v ancestors descendants = record { verdict = v; ancestors = ancestors; descendants = descendants }
 
@@ -23,30 +24,31 @@ lengths v ancestors descendants = record { verdict = v; ancestors = ancestors; d
 abbrev pub refused : ℕ → Lengths
 refused answer = lengths (verdict answer ANCESTORS 0) 0 0
 
--- both tags are there, of a book opened before, which has `lists` lists
+-- both tags are there, in a book that was opened before and has `lists` lists
 unfoldable pub thereb : List ℕ → ℕ → ℕ → ℕ → Bool
 thereb book lists ancestors descendants = hasTag book lists ancestors && hasTag book lists descendants
 
--- copying the lists under two tags of such a book into the words lent for each
+-- copying the lists under two tags of such a book into the words lent for each list
 module _ (book : List ℕ) (lists ancestors descendants : ℕ) (first second : List ℕ) where
   -- neither list has more words than were lent for it
   unfoldable pub fitb : Bool
   fitb = leb (length (tagWords book lists ancestors)) (length first) && leb (length (tagWords book lists descendants)) (length second)
 
-  -- ABSENT, then ROOM
+  -- the answer is ABSENT, then ROOM, or else TAKEN
   unfoldable pub copyAnswer : ℕ
   copyAnswer = cond (thereb book lists ancestors descendants) (cond fitb TAKEN ROOM) ABSENT
 
-  -- the verdict, and how many words each list has
+  -- the verdict, and how many words each list has, none on refusal
   unfoldable pub lengthsOf : Lengths
   lengthsOf =
       cond (eqb copyAnswer TAKEN) (lengths taken (length (tagWords book lists ancestors)) (length (tagWords book lists descendants)))
       (refused copyAnswer)
 
-  -- the words lent for each list on return: they begin with the list's words; on refusal they are
-  -- as they were
+  -- the words lent for the ancestors on return: they begin with the list's words; on refusal they
+  -- are as they were
   unfoldable pub firstAfter : List ℕ
   firstAfter = cond (eqb copyAnswer TAKEN) (written (tagWords book lists ancestors) first) first
 
+  -- the words lent for the descendants on return
   unfoldable pub secondAfter : List ℕ
   secondAfter = cond (eqb copyAnswer TAKEN) (written (tagWords book lists descendants) second) second

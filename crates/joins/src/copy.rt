@@ -1,4 +1,4 @@
-// The lists under two tags of a book, as words.
+// Copies the lists under two tags of a book as words.
 use answers::answer::ABSENT;
 use answers::answer::ROOM;
 use answers::answer::TAKEN;
@@ -18,7 +18,7 @@ pub struct Lengths {
     pub descendants: usize,
 }
 
-// Returns the refusal of a number.
+// Returns the refusal with the number `answer`.
 fn refused_by(answer: u32) -> Lengths
     ensures { λ r. ⌜ r ≡ refused answer ⌝ }
 {
@@ -29,10 +29,10 @@ fn refused_by(answer: u32) -> Lengths
     }
 }
 
-// Copies the lists under two tags of a book that was opened before and has `lists` lists, each to
-// the beginning of the words lent for it, and returns how many words each has. It returns ABSENT
-// where one of the tags isn't there, and ROOM where fewer words were lent than a list has; then no
-// word changes. Nothing is checked again.
+// Copies the lists under the tags `ancestors` and `descendants` of a book that was opened before
+// and has `lists` lists. Each goes to the beginning of the words lent for it, `first` and `second`.
+// Returns how many words each list has. Returns ABSENT if one of the tags isn't there, and ROOM if
+// fewer words were lent than a list has; then no word changes. Nothing is checked again.
 pub fn copy_lists(
     book: &[u8],
     lists: u32,

@@ -1,5 +1,5 @@
--- Why it holds: `firstAt` counts what fails before the first that passes, so a search that has
--- passed k elements has k to add to what the rest says.
+-- Why it holds: `firstAt` counts what fails before the first that passes. So a search that has
+-- passed k elements adds k to what the rest says.
 -- What would break it: An element passed over, or a count one off, would be caught here.
 use Prim.Native.Nat.{ℕ, zero, suc, _+_, _≤_, _<_, zero-le, compare·suc-suc}
 use mathlib.Core.Path.{_≡_, refl}
@@ -33,13 +33,13 @@ module _ {A : Type 0} (test : A → Bool) where
   first-in [] = zero-le
   first-in (x ∷ xs) = elim (either (test x)) [ inl h ↦ rw h zero-le | inr h ↦ rw h (let p = first-in xs in omega arith) ]
 
-  -- what stands before it fails
+  -- every element before it fails
   pub first-failed : (xs : List A) → All (λ x. test x ≡ false) (take (firstAt test xs) xs)
   unfolding firstAt
   first-failed [] = tt
   first-failed (x ∷ xs) = elim (either (test x)) [ inl h ↦ rw h tt | inr h ↦ rw h (h, first-failed xs) ]
 
-  -- a search that starts no later than the answer finds it
+  -- a search that starts no later than the answer still finds it
   pub first-from : (k : ℕ) (xs : List A) → k ≤ firstAt test xs → firstAt test (drop k xs) + k ≡ firstAt test xs
   unfolding firstAt
   first-from zero xs l = omega arith
@@ -51,7 +51,7 @@ module _ {A : Type 0} (test : A → Bool) where
             rw h (let p = first-from k xs (omega arith) in omega arith)
       ]
 
--- a test that more elements pass has its first one no later
+-- if every element that passes `other` passes `test`, the first for `test` comes no later
 pub first-earlier : {A : Type 0} (test other : A → Bool) → ((x : A) → other x ≡ true → test x ≡ true) → (xs : List A)
     → firstAt test xs ≤ firstAt other xs
 unfolding firstAt
@@ -73,14 +73,14 @@ before-first test (x ∷ xs) (suc i) d l =
       | inr h ↦ before-first test xs i d (let m : suc i < suc (firstAt test xs) = rw h at l in omega arith)
     ]
 
--- the first element that passes a test passes it
+-- the element at `firstAt` passes the test
 pub first-passes : {A : Type 0} (test : A → Bool) (ns : List A) (n : A) → firstAt test ns < length ns → test (getD ns (firstAt test ns) n) ≡ true
 unfolding firstAt
 first-passes test [] n l = absurd (not-suc-le-zero l)
 first-passes test (x ∷ ns) n l =
     elim (either (test x)) [ inl h ↦ rw (h, h) refl | inr h ↦ rw h (first-passes test ns n (let m = rw h at l in omega arith)) ]
 
--- the first that passes stands among the elements where some element passes
+-- `firstAt` lies below the length exactly when some element passes
 pub first-there : {A : Type 0} (test : A → Bool) (xs : List A) → ltb (firstAt test xs) (length xs) ≡ any test xs
 unfolding any firstAt
 first-there test [] = refl

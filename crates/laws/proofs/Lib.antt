@@ -1,6 +1,6 @@
--- Laws of no node and no answer, each stated once: `Tests` of Bools, `Choices` of `any`, `keep`,
--- `All` and `EveryTwo`, `First` of the first element that passes a test; `Only` is the one law by
--- which no second answer satisfies a contract.
+-- Laws that know no node and no answer, each stated once. `Tests` is about Bools, `Choices` about
+-- `any`, `keep`, `All` and `EveryTwo`, and `First` about the first element that passes a test.
+-- `Only` is the one law by which no second answer satisfies a contract.
 pub mod Choices
 pub mod First
 pub mod Only

@@ -1,13 +1,13 @@
--- Why it holds: Bools are read and made part by part, so that a test of several parts becomes plain
--- facts about numbers.
--- What would break it: Nothing here knows a node; a wrong reading of `&&` or `||` would be caught
--- here first.
+-- Why it holds: A Bool of several parts is taken apart and put together part by part. So a test
+-- becomes plain facts about numbers.
+-- What would break it: A wrong reading of `&&` or `||` would be caught here first. Nothing here
+-- knows a node.
 use mathlib.Core.Path.{_≡_, refl, sym, subst, _∙_}
 use mathlib.Core.Logic.{_⊎_, inl, inr}
 use mathlib.Core.Bool.{Bool, true, false, cond, not, _&&_, _||_}
 use lib.Dec.{T}
 
--- a test is true or false
+-- a Bool is true or false
 pub either : (b : Bool) → (b ≡ true) ⊎ (b ≡ false)
 either true = inl refl
 either false = inr refl
@@ -55,7 +55,7 @@ pub not-none : (b : Bool) → not b ≡ false → b ≡ true
 not-none true p = refl
 not-none false p = absurd (never refl p)
 
--- two tests that follow from one another are equal
+-- two tests that imply one another are equal
 pub same-test : {a b : Bool} → (a ≡ true → b ≡ true) → (b ≡ true → a ≡ true) → a ≡ b
 same-test {a = true} p q = sym (p refl)
 same-test {a = false} {b = true} p q = q refl
@@ -66,7 +66,7 @@ pub chosen : {A : Type 0} (P : A → Type 0) (b : Bool) {x y : A} → P x → P 
 chosen P true p q = p
 chosen P false p q = q
 
--- a last test with nothing after it
+-- `|| (b && false)` at the end of a test changes nothing
 pub or-end : (a b : Bool) → a ≡ (a || (b && false))
 or-end true b = refl
 or-end false true = refl

@@ -24,7 +24,7 @@ unfilled-few (b ∷ letters) =
     let few = unfilled-few letters in
     elim (either (not (eqb b BLANK))) [ inl h ↦ rw h (omega arith) | inr h ↦ rw h (omega arith) ]
 
--- the next letter is put after, and a blank is not
+-- a letter that is no blank is put after those before it, and a blank is left out
 module _ (letters : List ℕ) (i : ℕ) (l : i < length letters) where
   one-letter : unfilled (take (i + 1) letters) ≡ unfilled (take i letters) ++ unfilled (getD letters i 0 ∷ [])
   unfolding unfilled

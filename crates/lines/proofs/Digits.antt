@@ -1,5 +1,5 @@
--- Why it holds: A number of three digits or more has those of its hundredth and then two more, and
--- a number below a power of ten has no more digits than the power has zeros.
+-- Why it holds: A number of three digits or more has those of its hundredth and then two more. A
+-- number below a power of ten has no more digits than the power has zeros.
 -- What would break it: A digit left out, or one of another number, would be caught here.
 use mathlib.Core.Path.{_≡_, refl, sym, ap, _∙_}
 use mathlib.Core.Logic.{inl, inr}
@@ -32,7 +32,7 @@ few-digits (suc most) n (suc (suc k)) h p =
           rw t (omega arith)
     ]
 
--- the digits are the same however many there might be, once that is enough
+-- a limit above the number of digits changes none of them
 digits-more : (most n : ℕ) → n < tens most → 1 ≤ most → digitsTo (suc most) n ≡ digitsTo most n
 unfolding digitsTo tens
 digits-more zero n h p = absurd (omega arith)
@@ -75,7 +75,7 @@ decimal-more n h l =
     let more = digits-more 19 m (omega arith) (omega arith) ∙ digits-more 18 m (omega arith) (omega arith) in
     digits-two 18 n h ∙ ap (λ ds. ds ++ twoDigits (n % 100)) (sym more)
 
--- and how many they are
+-- and how many digits it has
 pub length-one : (n : ℕ) → n < 10 → length (decimal n) ≡ 1
 length-one n h = ap length (decimal-one n h)
 

@@ -1,5 +1,5 @@
--- Why it holds: A field is a number in decimal and a byte after it; the lines are fields and words,
--- parted by that byte.
+-- Why it holds: A field is a number in decimal and a byte after it. The lines are fields and words,
+-- and that byte parts them.
 -- What would break it: A line longer than its room, or a field in another's place, would be caught
 -- here.
 use mathlib.Core.Path.{_≡_, sym, subst}
@@ -13,7 +13,7 @@ use Rattle.lines.specs.Line.{BLANK, LINE-FEED, LINE-BYTES, decimal, pair
 use Rattle.lines.proofs.Digits.{digits-32, digits-64}
 use Rattle.lines.proofs.Putting.{Put, put-parted}
 
--- a 32-bit number and a byte are at most eleven bytes, a 64-bit one and a byte at most twenty-one
+-- a 32-bit number and a byte take at most eleven bytes, a 64-bit one and a byte at most twenty-one
 pub field-32 : (n b : ℕ) → n < 4294967296 → length (decimal n ++ b ∷ []) ≤ 11
 field-32 n b h = omega (arith, length-append (decimal n) (b ∷ []), digits-32 n h)
 

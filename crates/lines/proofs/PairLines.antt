@@ -1,5 +1,5 @@
--- Why it holds: Two nodes more are one pair more, so an index of the pairs is twice that index of
--- the nodes, and the lines grow pair by pair.
+-- Why it holds: Two more nodes are one more pair, so a pair's nodes lie at twice its index. The
+-- lines grow pair by pair.
 -- What would break it: A pair of other nodes, or a line one pair off, would be caught here.
 use mathlib.Core.Path.{_≡_, refl, sym, ap, _∙_}
 use mathlib.Core.List.{List, [], _∷_, _++_, flatMap}
@@ -39,7 +39,7 @@ pair-there (x ∷ y ∷ ns) (suc i) d p h =
     (sym (beyond x y ns d {k = 2 * i} {m = 2 * suc i} (omega arith)) k)
     (sym (beyond x y ns d {k = 2 * i + 1} {m = 2 * suc i + 1} (omega arith)) k)
 
--- the lines of the first pairs
+-- the lines of the first `index` pairs
 abbrev pub firstLines : List ℕ → ℕ → List ℕ
 firstLines pairs index = wordsIn pairLine (take index (pairsIn (nodes pairs)))
 
@@ -60,7 +60,7 @@ lines-more pairs i x y h p q =
     ∙ ap (λ pair. take i (pairsIn ns) ++ pair ∷ []) e)
     ∙ words-one-more pairLine (take i (pairsIn ns)) (pairWith x y)
 
--- the first pairs are those that the text has room for, where it has room for no more or there are
+-- the first `i` pairs are those that the text has room for, if it has room for no more or there are
 -- no more
 module _ (pairs text : List ℕ) (i : ℕ) where
   pub lines-fit : i ≡ length text / LINE-BYTES → firstLines pairs i ≡ linesFor pairs text

@@ -1,5 +1,5 @@
--- Why it holds: A text put right after another makes one text, put where the first was; so the
--- lines are put together piece by piece.
+-- Why it holds: A text put right after another makes one text with it, put where the first was. So
+-- the lines are put together piece by piece.
 -- What would break it: A piece put one place off, or over the one before it, would be caught here.
 use mathlib.Core.Path.{_≡_, refl, ap, subst, _∙_}
 use mathlib.Core.List.{List, [], _∷_, _++_}
@@ -10,12 +10,12 @@ use lib.Seq.{sets, set-comm, append-snoc}
 use Rattle.answers.specs.Output.{written}
 use Rattle.answers.proofs.OutputLaws.{sets-more, sets-written}
 
--- a text put at a place of a buffer: what the buffer is then, and the place after it
+-- a text is put into a buffer at a place: what the buffer holds then, and the place after the text
 pub record Put (before : List ℕ) (at : ℕ) (us after : List ℕ) (to : ℕ) : Type 0 where
   pub place : to ≡ at + length us
   pub shows : after ≡ sets before at us
 
--- as a contract says it, and back
+-- the same, as a contract says it
 pub put-first : (before : List ℕ) (at : ℕ) (us : List ℕ) {after : List ℕ} {to : ℕ} → (to ≡ at + length us) × (after ≡ sets before at us)
     → Put before at us after to
 put-first before at us e = record { place = e .0; shows = e .1 }
@@ -24,7 +24,7 @@ pub put-told : {before : List ℕ} {at : ℕ} {us after : List ℕ} {to : ℕ} �
     → (to ≡ at + length us) × (after ≡ sets before at us)
 put-told p = (p .place, p .shows)
 
--- the next text is put right after
+-- the next text is put right after it
 pub put-next : {before : List ℕ} {at : ℕ} {us after : List ℕ} {to : ℕ} → Put before at us after to → (vs : List ℕ) {after′ : List ℕ} {to′ : ℕ}
     → (to′ ≡ to + length vs) × (after′ ≡ sets after to vs) → Put before at (us ++ vs) after′ to′
 put-next {before} {at} {us} p vs e = record {
@@ -32,12 +32,12 @@ put-next {before} {at} {us} p vs e = record {
   shows = e .1 ∙ (λ k. sets (p .shows k) (p .place k) vs) ∙ sets-more us vs before at (at + length us) refl;
 }
 
--- it is put right after a byte that parts it from what was put before
+-- the next text is put right after a byte that parts the two
 pub put-parted : {before : List ℕ} {at : ℕ} {after : List ℕ} {to : ℕ} (us : List ℕ) (a : ℕ) → Put before at (us ++ a ∷ []) after to
     → (vs : List ℕ) {after′ : List ℕ} {to′ : ℕ} → (to′ ≡ to + length vs) × (after′ ≡ sets after to vs) → Put before at (us ++ a ∷ vs) after′ to′
 put-parted {before} {at} us a p vs {after′} {to′} e = subst (λ ws. Put before at ws after′ to′) (append-snoc us a vs) (put-next p vs e)
 
--- a text put before another, or after it
+-- a text and what lies after it may be stored in either order
 set-apart : (ws : List ℕ) (at : ℕ) (us : List ℕ) (next v : ℕ) → at + length us ≤ next → sets (set ws next v) at us ≡ set (sets ws at us) next v
 set-apart ws at [] next v h = refl
 set-apart ws at (u ∷ us) next v h =

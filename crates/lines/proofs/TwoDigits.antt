@@ -1,7 +1,7 @@
 -- Why it holds: A table has the two digits of each number below a hundred if a test of all of them
--- passes, which is computed. A wrong digit in the table, or one in another's place, falls where the
--- table is lent.
--- What would break it:
+-- passes. That test is computed.
+-- What would break it: A wrong digit in the table, or one in another's place, would be caught where
+-- the table is lent.
 use mathlib.Core.Path.{_≡_}
 use mathlib.Core.Logic.{inl, inr}
 use mathlib.Core.Bool.{Bool, true, _&&_}

@@ -13,13 +13,16 @@ use Rattle.answers.specs.Output.{wordsIn}
 use Rattle.tickets.specs.Listing.{Pair}
 use Rattle.tickets.specs.PairWords.{pairsIn}
 
+-- the byte of a blank
 abbrev pub BLANK : ℕ
 BLANK = 32
 
+-- the byte that ends a line
 abbrev pub LINE-FEED : ℕ
 LINE-FEED = 10
 
--- a number of at most so many digits in decimal: the digits of its tenth, and then its last one
+-- a number in decimal: the digits of its tenth, and then its last one, at most as many in all as
+-- the first argument says
 unfoldable pub digitsTo : ℕ → ℕ → List ℕ
 digitsTo zero n = []
 digitsTo (suc most) n = cond (ltb n 10) ((48 + n) ∷ []) (digitsTo most (n / 10) ++ (48 + n % 10) ∷ [])
@@ -36,9 +39,11 @@ decimal n = digitsTo MOST-DIGITS n
 unfoldable pub unfilled : List ℕ → List ℕ
 unfilled letters = keep (λ b. not (eqb b BLANK)) letters
 
+-- the bytes of a word
 unfoldable pub word : String → List ℕ
 word text = unfilled (padded text)
 
+-- a pair of an ancestor and a descendant
 abbrev pub pairWith : Node → Node → Pair
 pairWith x y = record { ancestor = x; descendant = y }
 
@@ -51,15 +56,15 @@ pairLine p =
 abbrev pub LINE-BYTES : ℕ
 LINE-BYTES = 33
 
--- the lines of the pairs that words make, of as many as a text has room for however long their
--- lines are
+-- the lines of the pairs that the words make, but only of as many pairs as the text has room for,
+-- however long their lines are
 unfoldable pub linesFor : List ℕ → List ℕ → List ℕ
 linesFor pairs text = wordsIn pairLine (take (length text / LINE-BYTES) (pairsIn (nodes pairs)))
 
--- the last line: the word pairs and their number
+-- the last line: the word `pairs` and their number
 unfoldable pub totalLine : ℕ → List ℕ
 totalLine count = word "pairs" ++ BLANK ∷ decimal count ++ LINE-FEED ∷ []
 
--- a refusal's line: the word refused, the number, and the name without its filling blanks
+-- a refusal's line: the word `refused`, the number, and the name without its filling blanks
 unfoldable pub refusalLine : ℕ → List ℕ
 refusalLine answer = word "refused" ++ BLANK ∷ decimal answer ++ BLANK ∷ unfilled (nameOf answer) ++ LINE-FEED ∷ []

@@ -1,3 +1,3 @@
-// The lines of the printing program, made in a buffer.
+// Makes the lines of the printing program in a buffer.
 pub mod line;
 mod text;

@@ -1,4 +1,4 @@
-// The lines themselves.
+// Puts each kind of line into a text.
 use crate::text::TABLE_BYTES;
 use crate::text::TWO_DIGITS;
 use crate::text::put_byte;
@@ -23,7 +23,7 @@ pub const LINE_BYTES: usize = 33;
 // The bytes of a buffer for one of the two other lines.
 pub const NOTE_BYTES: usize = 32;
 
-// Puts the line of a pair at a place and returns the place after it.
+// Puts the line of a pair into `text` at `at` and returns the place after it.
 fn put_line(
     text: &mut [u8],
     at: usize,
@@ -40,9 +40,9 @@ fn put_line(
     put_field(text, to, descendant.start as u64, b'\n', table)
 }
 
-// Puts the lines of the pairs at the beginning of the text, as many as it has room for however long
-// they are, and returns how many bytes they have. A pair is eight words, the ancestor's and then
-// the descendant's.
+// Puts the lines of the pairs at the beginning of `text` and returns how many bytes they have. It
+// puts as many as there is room for, however long they are. A pair is eight words, the ancestor's
+// and then the descendant's.
 pub fn put_lines(pairs: &[u32], text: &mut [u8]) -> usize
     ensures { λ r. ⌜ (r ≡ length (linesFor (now (pairs .entry)) (now (text .entry))))
         × (now (text .exit) ≡ written (linesFor (now (pairs .entry)) (now (text .entry))) (now (text .entry))) ⌝ }
@@ -51,6 +51,7 @@ pub fn put_lines(pairs: &[u32], text: &mut [u8]) -> usize
     let room = text.len() / LINE_BYTES;
     let mut to = 0;
     let mut index = 0;
+    // Rests on PairLines: lines-more, lines-fit, lines-all.
     while index < node_count(pairs) / 2 && index < room {
         to = put_line(
             text,
@@ -64,8 +65,8 @@ pub fn put_lines(pairs: &[u32], text: &mut [u8]) -> usize
     to
 }
 
-// Puts the line that says how many pairs there are at the beginning of the text, and returns how
-// many bytes it has.
+// Puts the line that says how many pairs there are at the beginning of `text`, and returns how many
+// bytes it has.
 pub fn put_total(count: u64, text: &mut [u8; NOTE_BYTES]) -> usize
     ensures { λ r. ⌜ (r ≡ length (totalLine count)) × (now (text .exit) ≡ written (totalLine count) (now (text .entry))) ⌝ }
 {
@@ -74,8 +75,8 @@ pub fn put_total(count: u64, text: &mut [u8; NOTE_BYTES]) -> usize
     put_field(text, to, count, b'\n', &table)
 }
 
-// Puts the line that says why nothing is listed at the beginning of the text, and returns how many
-// bytes it has. It gives the answer's number and its name, which `nodes` keeps in a table.
+// Puts the line that says why nothing is listed at the beginning of `text`, and returns how many
+// bytes it has. It gives the answer's number and its name, which `answers` keeps in a table.
 pub fn put_refusal(answer: u32, text: &mut [u8; NOTE_BYTES]) -> usize
     ensures { λ r. ⌜ (r ≡ length (refusalLine answer)) × (now (text .exit) ≡ written (refusalLine answer) (now (text .entry))) ⌝ }
 {

@@ -1,4 +1,4 @@
-// Texts are put into a buffer one after the other. Each function that puts a whole text returns the
+// Puts texts into a buffer one after the other. Each function that puts a whole text returns the
 // place after it.
 ghost use mathlib.Core.Path.{_≡_};
 ghost use Prim.Native.Nat.{_+_, _≤_, _<_};
@@ -19,7 +19,7 @@ pub(crate) const TWO_DIGITS: [u8; TABLE_BYTES] = *b"0001020304050607080910111213
     6061626364656667686970717273747576777879\
     8081828384858687888990919293949596979899";
 
-// Puts a byte at a place.
+// Puts `byte` into `text` at `at`.
 pub(crate) fn put_byte(text: &mut [u8], at: usize, byte: u8) -> usize
     requires { ⌜ at < length (now text) ⌝ }
     ensures { λ r. ⌜ (r ≡ at + 1) × (now (text .exit) ≡ sets (now (text .entry)) at (byte ∷ [])) ⌝ }
@@ -28,12 +28,13 @@ pub(crate) fn put_byte(text: &mut [u8], at: usize, byte: u8) -> usize
     at + 1
 }
 
-// Puts bytes at a place.
+// Puts `bytes` into `text` at `at`.
 pub(crate) fn put_bytes(text: &mut [u8], at: usize, bytes: &[u8]) -> usize
     requires { ⌜ at + length (now bytes) ≤ length (now text) ⌝ }
     ensures { λ r. ⌜ (r ≡ at + length (now (bytes .entry))) × (now (text .exit) ≡ sets (now (text .entry)) at (now (bytes .entry))) ⌝ }
 {
     let mut index = 0;
+    // Rests on answers: OutputLaws: sets-more.
     while index < bytes.len() {
         text[at + index] = bytes[index];
         index += 1;
@@ -41,12 +42,13 @@ pub(crate) fn put_bytes(text: &mut [u8], at: usize, bytes: &[u8]) -> usize
     at + index
 }
 
-// Returns how many digits a number has: one or two, and two more for each division by a hundred.
+// Returns how many digits `number` has: one or two, and two more for each division by a hundred.
 fn digit_count(number: u64) -> usize
     ensures { λ r. ⌜ r ≡ length (decimal number) ⌝ }
 {
     let mut rest = number;
     let mut count = 0;
+    // Rests on Digits: length-more, length-one, length-two.
     while 99 < rest {
         rest /= 100;
         count += 2;
@@ -57,7 +59,7 @@ fn digit_count(number: u64) -> usize
     count + 2
 }
 
-// Puts the two digits of a number below a hundred at a place.
+// Puts the two digits of `number`, which is below a hundred, into `text` at `at`.
 fn put_two(text: &mut [u8], at: usize, number: u64, table: &[u8; TABLE_BYTES])
     requires { ⌜ (at + 1 < length (now text)) × (number < 100) × Tabled (now table) ⌝ }
     ensures { λ r. ⌜ now (text .exit) ≡ sets (now (text .entry)) at (twoDigits number) ⌝ }
@@ -67,8 +69,8 @@ fn put_two(text: &mut [u8], at: usize, number: u64, table: &[u8; TABLE_BYTES])
     text[at + 1] = table[from + 1];
 }
 
-// Puts a number at a place, in decimal. It counts the digits, and then puts them where they belong,
-// from the last two to the first one or two.
+// Puts `number` into `text` at `at`, in decimal. It counts the digits, and then puts them where
+// they belong, from the last two to the first one or two.
 fn put_decimal(text: &mut [u8], at: usize, number: u64, table: &[u8; TABLE_BYTES]) -> usize
     requires { ⌜ (at + length (decimal number) ≤ length (now text)) × Tabled (now table) ⌝ }
     ensures { λ r. ⌜ (r ≡ at + length (decimal number)) × (now (text .exit) ≡ sets (now (text .entry)) at (decimal number)) ⌝ }
@@ -76,6 +78,7 @@ fn put_decimal(text: &mut [u8], at: usize, number: u64, table: &[u8; TABLE_BYTES
     let end = at + digit_count(number);
     let mut rest = number;
     let mut to = end;
+    // Rests on Digits: decimal-more, decimal-one, decimal-two.
     while 99 < rest {
         to -= 2;
         put_two(text, to, rest % 100, table);
@@ -89,7 +92,7 @@ fn put_decimal(text: &mut [u8], at: usize, number: u64, table: &[u8; TABLE_BYTES
     end
 }
 
-// Puts a number at a place, in decimal, and a byte after it.
+// Puts `number` into `text` at `at`, in decimal, and the byte `after` after it.
 pub(crate) fn put_field(
     text: &mut [u8],
     at: usize,
@@ -105,7 +108,7 @@ pub(crate) fn put_field(
     put_byte(text, to, after)
 }
 
-// Puts a word at a place, without its blanks.
+// Puts the word `letters` into `text` at `at`, without its blanks.
 pub(crate) fn put_unfilled(text: &mut [u8], at: usize, letters: &[u8]) -> usize
     requires { ⌜ at + length (now letters) ≤ length (now text) ⌝ }
     ensures { λ r. ⌜ (r ≡ at + length (unfilled (now (letters .entry))))
@@ -113,6 +116,7 @@ pub(crate) fn put_unfilled(text: &mut [u8], at: usize, letters: &[u8]) -> usize
 {
     let mut to = at;
     let mut index = 0;
+    // Rests on Blanks: unfilled-letter, unfilled-blank.
     while index < letters.len() {
         if letters[index] != b' ' {
             text[to] = letters[index];

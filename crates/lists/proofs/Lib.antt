@@ -1,11 +1,11 @@
--- Theorems for the reader: `Taken` reads a taken list pair by pair, `InBytes` one that lies in
--- bytes, `Merging` does so for a merge, `Pairing` for two lists, `Refused` names the words and
--- nodes that refuse them, `Containers` bounds the nodes that contain one, and `Only` says that no
--- second answer satisfies a public contract. Laws for the code: `Faults` reads the tests one by
--- one, `WalkLaws` is what the chain of open nodes does, `Steps` what each return of a step says,
--- `Keeping` why the chain stands for all the nodes before, `Walking` what a walk has left,
--- `MergeSteps` and `MergeNext` take one node off a merge, `Naming` tells the answers of two lists
--- apart.
+-- Theorems for the reader. `Taken` reads a taken list pair by pair, `InBytes` a list that lies in
+-- bytes, `Merging` a merge and `Pairing` two lists. `Refused` names the words and nodes that refuse
+-- them. `Containers` bounds the nodes that contain one. `Only` says that no second answer satisfies
+-- a public contract.
+-- Laws for the code. `Faults` reads the tests one by one. `WalkLaws` says what the chain of open
+-- nodes does, `Steps` what each return of a step says. `Keeping` says why the chain stands for all
+-- the nodes before, and `Walking` what a walk has left to check. `MergeSteps` and `MergeNext` take
+-- one node off a merge. `Naming` tells the answers of two lists apart.
 pub mod Containers
 pub mod Faults
 pub mod InBytes

@@ -1,4 +1,4 @@
--- Why it holds: The answer for two lists goes from one test to the next while nothing is wrong, so
+-- Why it holds: The check of two lists goes from one test to the next while nothing is wrong. So
 -- TAKEN means that every test has passed.
 -- What would break it: A test left out, or one whose answer were TAKEN, would be caught here.
 use mathlib.Core.Path.{_≡_, refl}
@@ -32,6 +32,7 @@ joint-passes : (b : Bool) → (cond b (verdict JOINT ANCESTORS 0) taken .answer 
 joint-passes true = (λ h. absurd (omega arith), λ h. absurd (never refl h))
 joint-passes false = (λ h. refl, λ h. refl)
 
+-- two lists are taken exactly when each is taken and no pair across is at odds
 pub two-taken-iff : (as′ ds : List ℕ)
     → (checkTwo as′ ds .answer ≡ TAKEN) ↔ ((checkWords as′ .answer ≡ TAKEN) × (checkWords ds .answer ≡ TAKEN)
     × All (λ x. All (λ y. oddsb x y ≡ false) (nodes ds)) (nodes as′))

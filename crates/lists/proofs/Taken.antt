@@ -1,4 +1,4 @@
--- Why it holds: A list is taken if no node has a fault after those before it, and along an
+-- Why it holds: A list is taken when no node has a fault, given the nodes before it. Along an
 -- ascending list each fault is a fault of one node or of one pair.
 -- What would break it: A check that looked at fewer pairs than all, or took a pair that crosses,
 -- would be caught here.
@@ -26,12 +26,13 @@ use Rattle.answers.specs.Verdict.{ANCESTORS, verdict}
 use Rattle.laws.specs.Choose.{All, EveryTwo}
 use Rattle.lists.proofs.Faults.{Sound, skip, level-sound, span-sound, crosses, rises}
 
--- of an earlier node e and a later one n, n stands after e, and within one document they agree
+-- an earlier node e and a later one n are fine: n stands after e, and within one document they
+-- agree
 pub record Fine (e n : Node) : Type 0 where
   pub after : afterb n e ≡ true
   pub agree : e .document ≡ n .document → agreeb e n ≡ true
 
--- of a list with the last node first, each stands after all that follow
+-- in a list kept with the last node first, each node stands after all that follow in the list
 abbrev pub Descends : List Node → Type 0
 Descends before = EveryTwo (λ n e. afterb n e ≡ true) before
 
@@ -60,7 +61,7 @@ module _ (e n : Node) where
   unfolding agreeb
   agree-read h = elim (or-read (apartb e n) h) [ inl p ↦ inl p | inr p ↦ inr (or-read (nestedb e n) p) ]
 
--- what comes after the head of a descending list comes after all of it
+-- what stands after the head of a descending list stands after all of it
 order-all : (before : List Node) (n : Node) → Descends before → orderb before n ≡ false → All (λ e. afterb n e ≡ true) before
 unfolding orderb
 order-all [] n c h = tt
@@ -104,7 +105,7 @@ never-rises n e span f =
     ⊎-elim (λ q. omega arith) (λ q. omega (arith, nested-read n e q)) (fine-settles n e span f (sym (w .document))))
 
 module _ (before : List Node) (n : Node) where
-  -- no fault after a descending list: the node is sound, and fine with each of the list
+  -- no fault after a descending list: the node is sound, and fine with each node of the list
   pub fault-fine : Descends before → fault before n ≡ TAKEN → Sound n × All (λ e. Fine e n) before
   unfolding fault crossb depthb
   fault-fine c h =
@@ -138,7 +139,7 @@ goes-on f index v = (
   λ h. rw (eq-eqb f TAKEN (h .0)) (h .1),
 )
 
--- the nodes are fine among themselves, and after a list before them
+-- the nodes are fine with one another, and with the list before them
 record Follows (before ns : List Node) : Type 0 where
   sound : All Sound ns
   pairs : EveryTwo Fine ns

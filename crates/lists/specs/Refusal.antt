@@ -1,5 +1,5 @@
--- docs/SCOPE.md, "Answer numbers", rows 1 to 8, said by the nodes that draw an answer and not by a
--- check.
+-- docs/SCOPE.md, "Answer numbers", rows 1 to 8: the same rules, said by the nodes that draw an
+-- answer and not by a check.
 use Prim.Native.Nat.{ℕ, _%_, _≤_, _<_}
 use mathlib.Core.Path.{_≡_}
 use mathlib.Core.Logic.{_⊎_}
@@ -22,23 +22,23 @@ pub data Follows (e n : Node) : List Node → Type 0 where
   here : {x : Node} {ns : List Node} → e ≡ x → In n ns → Follows e n (x ∷ ns)
   later : {x : Node} {ns : List Node} → Follows e n ns → Follows e n (x ∷ ns)
 
--- what refuses a list by itself
+-- what refuses a list by itself, one case for each answer
 pub data Faulty (words : List ℕ) : Type 0 where
-  -- the words don't make whole nodes, or there are more nodes than 4,096
+  -- RAGGED and LONG: the words don't make whole nodes, or there are more nodes than 4,096
   ragged : (length words % NODE-WORDS ≡ 0 → ⊥) → Faulty words
   long : MOST-NODES < count words → Faulty words
-  -- a node's level is 0 or above 64, or it ends below its start
+  -- LEVEL and SPAN: a node's level is 0 or above 64, or it ends below its start
   level : (n : Node) → In n (nodes words) → (n .level ≡ 0) ⊎ (MOST-LEVELS < n .level) → Faulty words
   span : (n : Node) → In n (nodes words) → n .end < n .start → Faulty words
-  -- of two neighbours the second doesn't stand after the first
+  -- ORDER: of two neighbours the second doesn't stand after the first
   order : (e n : Node) → Neighbours e n (nodes words) → afterb n e ≡ false → Faulty words
-  -- of two nodes of one document the earlier reaches to the later one, which isn't inside it, or is
-  -- without a higher level
+  -- CROSS and DEPTH: of two nodes of one document the earlier reaches to the later one. That one
+  -- isn't inside it, or is inside without a higher level.
   cross : (e n : Node) → Follows e n (nodes words) → e .document ≡ n .document → n .start ≤ e .end → insideb n e ≡ false → Faulty words
   depth : (e n : Node) → Follows e n (nodes words) → insideb n e ≡ true → n .level ≤ e .level → Faulty words
 
--- a node of one list and a node of the other, of one document, are neither identical, nor apart,
--- nor one inside the other with a higher level
+-- JOINT: two nodes of one document, one from each list, differ, aren't apart, and neither is nested
+-- in the other
 pub record AtOdds (xs ys : List Node) : Type 0 where
   pub x : Node
   pub y : Node

@@ -1,4 +1,5 @@
--- What a step of the check answers: the scope's number and values for each of its two cases.
+-- docs/SCOPE.md, "Answer numbers": the answer number and values that each of a step's two cases
+-- stands for.
 use Rattle.answers.specs.declared.verdict.Verdict.{Verdict}
 use Rattle.answers.specs.Verdict.{taken}
 use Rattle.lists.specs.declared.walk.Step.{Step}

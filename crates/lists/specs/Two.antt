@@ -13,16 +13,16 @@ use Rattle.answers.specs.declared.verdict.Verdict.{Verdict}
 use Rattle.lists.specs.Check.{checkWords}
 use Rattle.answers.specs.Verdict.{ANCESTORS, DESCENDANTS, verdict, taken, refusedb, inList}
 
--- y is inside x, and its level is higher
+-- y is nested in x: it is inside x, and its level is higher
 unfoldable pub nestedb : Node → Node → Bool
 nestedb y x = insideb y x && ltb (x .level) (y .level)
 
--- x and y, of one document, are apart, or one is inside the other where the inner one's level is
--- higher
+-- x and y, of one document, agree: they are apart, or one is nested in the other
 unfoldable pub agreeb : Node → Node → Bool
 agreeb x y = apartb x y || (nestedb x y || nestedb y x)
 
--- x and y are of one document, and neither identical in all four words nor in agreement
+-- x and y are at odds: they are of one document, and neither identical in all four words nor in
+-- agreement
 unfoldable pub oddsb : Node → Node → Bool
 oddsb x y = eqb (x .document) (y .document) && not (sameb x y || agreeb x y)
 
@@ -30,7 +30,7 @@ oddsb x y = eqb (x .document) (y .document) && not (sameb x y || agreeb x y)
 unfoldable pub jointb : List Node → List Node → Bool
 jointb xs ys = any (λ x. any (λ y. oddsb x y) ys) xs
 
--- the ancestors completely, then the descendants, then JOINT
+-- the verdict on two lists: the ancestors' own fault first, then the descendants', then JOINT
 unfoldable pub checkTwo : List ℕ → List ℕ → Verdict
 checkTwo ancestors descendants =
     cond (refusedb (checkWords ancestors)) (inList ANCESTORS (checkWords ancestors))

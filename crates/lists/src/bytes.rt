@@ -19,7 +19,8 @@ ghost use Rattle.numbers.specs.Little.{numbers, NODE-BYTES};
 ghost use Rattle.lists.specs.Check.{checkNodes, checkBytes};
 ghost use Rattle.lists.specs.Step.{verdictOf};
 
-// The walk along a list that lies in bytes and isn't too long: each node is read where it lies.
+// Walks along a list that lies in bytes and isn't too long, and returns the last step. Each node is
+// read where it lies.
 fn pass_bytes(bytes: &[u8]) -> Step
     requires { ⌜ length (now bytes) / NODE-BYTES ≤ MOST-NODES ⌝ }
     ensures { λ r. ⌜ verdictOf r ≡ checkNodes (nodes (numbers (now (bytes .entry)))) ⌝ }
@@ -27,6 +28,7 @@ fn pass_bytes(bytes: &[u8]) -> Step
     let mut stack = [0u32; STACK_WORDS];
     let mut place = ListPlace { index: 0, used: 0 };
     let mut index = 0;
+    // Rests on Walking: walk-on, walk-stop, walk-end.
     while index < bytes.len() / NODE_BYTES {
         let step = pass_node(&mut stack, place, node_in(bytes, index));
         let Step::Reached(reached) = step else {
@@ -38,8 +40,8 @@ fn pass_bytes(bytes: &[u8]) -> Step
     Step::Reached(place)
 }
 
-// Returns of a list that lies in bytes what `check_list` says of its words; bytes that make no
-// whole nodes are RAGGED.
+// Checks a list that lies in bytes and returns what `check_list` says of its words; bytes that make
+// no whole nodes are RAGGED.
 pub fn check_bytes(bytes: &[u8]) -> Verdict
     ensures { λ r. ⌜ r ≡ checkBytes (now (bytes .entry)) ⌝ }
 {

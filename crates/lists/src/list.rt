@@ -12,7 +12,8 @@ use nodes::node::node_count;
 ghost use mathlib.Core.Path.{_≡_};
 ghost use Rattle.lists.specs.Check.{checkWords, wordFault};
 
-// What is wrong with the words, whatever the nodes are: RAGGED, LONG, or nothing, which is TAKEN.
+// Returns the fault of the words, whatever their nodes are: RAGGED, LONG, or TAKEN where there is
+// none.
 pub(crate) fn word_fault(words: &[u32]) -> u32
     ensures { λ r. ⌜ r ≡ wordFault (now (words .entry)) ⌝ }
 {
@@ -25,8 +26,8 @@ pub(crate) fn word_fault(words: &[u32]) -> u32
     TAKEN
 }
 
-// Returns whether the list is accepted, and if not, why and at which node. A list merged with an
-// empty one is that list, so the walk along two serves here too.
+// Checks a list and returns TAKEN, or why it isn't accepted and at which node. A list merged with
+// an empty one is that list, so the walk along two lists serves here too.
 pub fn check_list(words: &[u32]) -> Verdict
     ensures { λ r. ⌜ r ≡ checkWords (now (words .entry)) ⌝ }
 {

@@ -16,14 +16,15 @@ ghost use Rattle.lists.specs.Private.Merge.{merge, Whole, Cut, Drawn};
 ghost use Rattle.lists.specs.Step.{verdictOf};
 ghost use Rattle.lists.specs.Private.Walk.{nodeFrom};
 
-// The next node of the merge, and at which word each list goes on after it.
+// The next node of the merge, and the word at which each list goes on after it.
 struct Next {
     node: Node,
     first: usize,
     second: usize,
 }
 
-// The first list's node, after which the second goes on at a given word.
+// Returns the node at word `i` of the first list, after which the second list goes on at word
+// `second`.
 fn first_of(xs: &[u32], i: usize, second: usize) -> Next
     requires { ⌜ i + 3 < length (now xs) ⌝ }
     ensures { λ r. ⌜ (r .node ≡ nodeFrom (now (xs .entry)) i) × (r .first ≡ i + NODE-WORDS) × (r .second ≡ second) ⌝ }
@@ -35,7 +36,7 @@ fn first_of(xs: &[u32], i: usize, second: usize) -> Next
     }
 }
 
-// The second list's node, after which the first stays where it is.
+// Returns the node at word `j` of the second list, after which the first list stays at word `i`.
 fn second_of(ys: &[u32], i: usize, j: usize) -> Next
     requires { ⌜ j + 3 < length (now ys) ⌝ }
     ensures { λ r. ⌜ (r .node ≡ nodeFrom (now (ys .entry)) j) × (r .first ≡ i) × (r .second ≡ j + NODE-WORDS) ⌝ }
@@ -47,8 +48,8 @@ fn second_of(ys: &[u32], i: usize, j: usize) -> Next
     }
 }
 
-// The next node of two lists that are both at a node of one document: the one that starts earlier,
-// or both where they are identical.
+// Returns the next node of two lists that are both at a node of one document: the one that starts
+// earlier, or both as one where they are identical.
 fn next_within(xs: &[u32], i: usize, ys: &[u32], j: usize) -> Next
     requires { ⌜ Cut i (now xs) × Cut j (now ys) × (i < length (now xs)) × (j < length (now ys))
         × (nodeFrom (now xs) i .document ≡ nodeFrom (now ys) j .document) ⌝ }
@@ -68,9 +69,9 @@ fn next_within(xs: &[u32], i: usize, ys: &[u32], j: usize) -> Next
     second_of(ys, i, j)
 }
 
-// The next node of two lists that are not both at their end. Most nodes that meet are of one
-// document, so that is asked first, and each node is read word by word where a test wants it:
-// together this takes the fewest instructions.
+// Returns the next node of two lists that are not both at their end. Most nodes that meet are of
+// one document, so that is asked first. Each node is read word by word where a test wants it.
+// Together this takes the fewest instructions.
 fn next_of(xs: &[u32], i: usize, ys: &[u32], j: usize) -> Next
     requires { ⌜ Cut i (now xs) × Cut j (now ys) × (i + j < length (now xs) + length (now ys)) ⌝ }
     ensures { λ r. ⌜ Drawn (now (xs .entry)) (now (ys .entry)) i j (r .node) (r .first) (r .second) ⌝ }
@@ -92,7 +93,8 @@ fn next_of(xs: &[u32], i: usize, ys: &[u32], j: usize) -> Next
     second_of(ys, i, j)
 }
 
-// The walk along the merge of two lists, both of whole nodes and neither too long.
+// Walks along the merge of two lists, both of whole nodes and neither too long, and returns the
+// last step.
 pub(crate) fn pass_both(xs: &[u32], ys: &[u32]) -> Step
     requires { ⌜ Whole (now xs) × Whole (now ys) ⌝ }
     ensures { λ r. ⌜ verdictOf r ≡ checkNodes (merge (nodes (now (xs .entry))) (nodes (now (ys .entry)))) ⌝ }
@@ -101,6 +103,7 @@ pub(crate) fn pass_both(xs: &[u32], ys: &[u32]) -> Step
     let mut place = ListPlace { index: 0, used: 0 };
     let mut i = 0;
     let mut j = 0;
+    // Rests on Walking: walk-on, walk-stop, walk-end.
     while i + j < xs.len() + ys.len() {
         let next = next_of(xs, i, ys, j);
         let step = pass_node(&mut stack, place, next.node);

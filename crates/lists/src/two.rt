@@ -13,7 +13,7 @@ ghost use mathlib.Core.Bool.{not};
 ghost use Rattle.lists.specs.Two.{checkTwo};
 ghost use Rattle.answers.specs.Verdict.{refusedb};
 
-// Whether both lists are accepted and agree. One walk along their merge settles it.
+// Returns whether both lists are accepted and agree. One walk along their merge settles it.
 fn are_agreeing(ancestors: &[u32], descendants: &[u32]) -> bool
     ensures { λ r. ⌜ r ≡ not (refusedb (checkTwo (now (ancestors .entry)) (now (descendants .entry)))) ⌝ }
 {
@@ -27,9 +27,9 @@ fn are_agreeing(ancestors: &[u32], descendants: &[u32]) -> bool
     verdict.answer == TAKEN
 }
 
-// Returns whether both lists are accepted and agree, and if not, why, in which list and at which
-// node. Where the walk along the merge finds a fault, the lists are walked one after the other to
-// say which; where both pass alone, it is JOINT.
+// Checks two lists and returns TAKEN, or why they are refused, in which list and at which node.
+// Where the walk along the merge finds a fault, the lists are walked one after the other to say
+// which. Where both pass alone, the answer is JOINT.
 pub fn check_two(ancestors: &[u32], descendants: &[u32]) -> Verdict
     ensures { λ r. ⌜ r ≡ checkTwo (now (ancestors .entry)) (now (descendants .entry)) ⌝ }
 {

@@ -1,5 +1,5 @@
 // The walk along a list, a node at a time. The nodes that are still open are kept on a stack, the
-// innermost on top; each lies inside the one below it and has a higher level, so there are never
+// innermost on top. Each lies inside the one below it and has a higher level. So there are never
 // more of them than levels.
 use answers::answer::CROSS;
 use answers::answer::DEPTH;
@@ -27,7 +27,7 @@ ghost use Rattle.answers.specs.Verdict.{ANCESTORS, verdict};
 ghost use Rattle.lists.specs.Step.{verdictOf};
 ghost use Rattle.lists.specs.Private.Walk.{nodeFrom, opened, unended, listPlace, firstb, Fits, InDocument, AfterHead, Chain, SteppedPast, SteppedOnto};
 
-// The stack's words.
+// How many words the stack has: four for each level.
 pub(crate) const STACK_WORDS: usize = NODE_WORDS * MOST_LEVELS;
 
 // Where a walk stands: how many nodes it has passed, and how many words of the stack are in use.
@@ -42,7 +42,7 @@ pub(crate) enum Step {
     Refused(Verdict),
 }
 
-// What a step says, as a verdict: a place reached is TAKEN so far.
+// Returns what a step says, as a verdict: a place reached is TAKEN so far.
 pub(crate) fn verdict_of(step: Step) -> Verdict
     ensures { λ r. ⌜ r ≡ verdictOf step ⌝ }
 {
@@ -52,7 +52,7 @@ pub(crate) fn verdict_of(step: Step) -> Verdict
     }
 }
 
-// The refusal of the node at an index.
+// Returns the refusal of the node at `index`, for the fault `answer`.
 fn refused(answer: u32, index: usize) -> Step
     requires { ⌜ index < 2 * MOST-NODES ⌝ }
     ensures { λ r. ⌜ r ≡ Step.Refused (verdict answer ANCESTORS index) ⌝ }
@@ -64,7 +64,7 @@ fn refused(answer: u32, index: usize) -> Step
     })
 }
 
-// The node whose words start at a place.
+// Returns the node whose four words start at word `at`.
 pub(crate) fn node_from(words: &[u32], at: usize) -> Node
     requires { ⌜ at + 3 < length (now words) ⌝ }
     ensures { λ r. ⌜ r ≡ nodeFrom (now (words .entry)) at ⌝ }
@@ -85,8 +85,9 @@ fn top_of(stack: &[u32], used: usize) -> Node
     node_from(stack, used - NODE_WORDS)
 }
 
-// Whether the node is the first one of its document, at which nothing is open: the last one passed,
-// which lies on top of the stack, is of an earlier one, or there is none.
+// Returns whether `node` is the first one of its document, at which nothing is open. It is where
+// nothing was passed yet, or where the last node passed is of an earlier document. That one lies on
+// top of the stack.
 fn is_first(stack: &[u32; STACK_WORDS], used: usize, node: Node) -> bool
     requires { ⌜ Fits used ⌝ }
     ensures { λ r. ⌜ r ≡ firstb (opened used (now (stack .entry))) node ⌝ }
@@ -97,7 +98,7 @@ fn is_first(stack: &[u32; STACK_WORDS], used: usize, node: Node) -> bool
     top_of(stack, used).document < node.document
 }
 
-// Whether the node stands after the last one passed.
+// Returns whether `node` stands after the last node passed, which lies on top of the stack.
 fn is_next(stack: &[u32; STACK_WORDS], used: usize, node: Node) -> bool
     requires { ⌜ (0 < used) × Fits used ⌝ }
     ensures { λ r. ⌜ r ≡ not (orderb (opened used (now (stack .entry))) node) ⌝ }
@@ -105,14 +106,15 @@ fn is_next(stack: &[u32; STACK_WORDS], used: usize, node: Node) -> bool
     is_after(node, top_of(stack, used))
 }
 
-// How many words of the stack, on which all are of the node's document, are left once the nodes on
-// top that ended before it are taken off. What lies under an open node contains it and is open too,
-// so the first open one ends the search.
+// Returns how many words of the stack are left once the nodes on top that ended before `node` are
+// taken off. All nodes on the stack are of its document. What lies under an open node contains it
+// and is open too, so the first open one ends the search.
 fn left_open(stack: &[u32; STACK_WORDS], used: usize, node: Node) -> usize
     requires { ⌜ Fits used × InDocument (node .document) (opened used (now stack)) ⌝ }
     ensures { λ r. ⌜ Fits r × (opened r (now (stack .entry)) ≡ unended node (opened used (now (stack .entry)))) ⌝ }
 {
     let mut left = used;
+    // Rests on WalkLaws: top-ended, top-reaches, head-none.
     while 0 < left {
         if node.start <= top_of(stack, left).end {
             return left;
@@ -122,7 +124,7 @@ fn left_open(stack: &[u32; STACK_WORDS], used: usize, node: Node) -> usize
     left
 }
 
-// Writes the node after the `left` words of the stack that stay.
+// Writes `node` after the `left` words of the stack that stay.
 fn put_open(stack: &mut [u32], left: usize, node: Node)
     requires { ⌜ (left % NODE-WORDS ≡ 0) × (left + 3 < length (now stack)) ⌝ }
     ensures { λ r. ⌜ now (stack .exit) ≡ putNode (now (stack .entry)) (left / NODE-WORDS) node ⌝ }
@@ -133,7 +135,8 @@ fn put_open(stack: &mut [u32], left: usize, node: Node)
     stack[left + 3] = node.level;
 }
 
-// The node comes to lie on top of those that are left, and the walk is one node further.
+// Puts `node` on top of the `left` words of the stack that stay, and returns the place one node
+// further.
 fn push(stack: &mut [u32; STACK_WORDS], index: usize, left: usize, node: Node) -> Step
     requires { ⌜ (index < 2 * MOST-NODES) × Fits (left + NODE-WORDS) ⌝ }
     ensures { λ r. ⌜ (r ≡ Step.Reached (listPlace (index + 1) (left + NODE-WORDS)))
@@ -146,9 +149,9 @@ fn push(stack: &mut [u32; STACK_WORDS], index: usize, left: usize, node: Node) -
     })
 }
 
-// The node comes to lie on top of those that are left, or it is refused: the top has to contain it
-// and to have a lower level. The top is of its document and starts before it, so only the end
-// decides; all that lie under the top contain the top, so no other is tested.
+// Puts `node` on top of the `left` words of the stack that stay, or refuses it. The top has to
+// contain it and to have a lower level. The top is of its document and starts before it, so only
+// the end decides. All that lie under the top contain the top, so no other is tested.
 fn put_on_top(stack: &mut [u32; STACK_WORDS], index: usize, left: usize, node: Node) -> Step
     requires { ⌜ (index < 2 * MOST-NODES) × Fits left × (node .level ≤ MOST-LEVELS)
         × Chain (opened left (now stack)) × AfterHead node (opened left (now stack)) ⌝ }
@@ -167,7 +170,8 @@ fn put_on_top(stack: &mut [u32; STACK_WORDS], index: usize, left: usize, node: N
     push(stack, index, left, node)
 }
 
-// One step: the next node is taken and comes to lie on top of the stack, or it is refused.
+// Passes `node`: puts it on top of the stack and returns the place after it, or returns why it is
+// refused.
 pub(crate) fn pass_node(stack: &mut [u32; STACK_WORDS], place: ListPlace, node: Node) -> Step
     requires { ⌜ (place .index < 2 * MOST-NODES) × Fits (place .used) × Chain (opened (place .used) (now stack)) ⌝ }
     ensures { λ r. ⌜ SteppedPast (opened (place .used) (now (stack .entry))) node (place .index) r (now (stack .exit)) ⌝ }

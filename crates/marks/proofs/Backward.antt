@@ -1,7 +1,7 @@
--- Why it holds: Going back over taken marks, each close is kept until its opening comes, and each
--- row is stored right before those already written.
--- What would break it: A row stored over another, or one that came with another's end or level,
--- would be caught at `back-on`.
+-- Why it holds: Going back over taken marks, each close is kept until its opening comes. Each row
+-- is stored right before those already written.
+-- What would break it: A row stored over another, or a row with another's end or level, would be
+-- caught at `back-on`.
 use mathlib.Core.Path.{_≡_, refl, sym, ap, _∙_}
 use mathlib.Core.Logic.{inl, inr}
 use mathlib.Core.List.{List, [], _∷_, _++_, flatMap}
@@ -39,7 +39,7 @@ row-before out₀ out count r later h room e =
     ap (λ words. sets words (5 * (count - 1)) (rowWords r)) (e ∙ ap (λ n. take n out₀ ++ written (wordsIn rowWords later) (drop n out₀)) f)
     ∙ sets-before out₀ (5 * (count - 1)) (rowWords r) (wordsIn rowWords later) (omega arith)
 
--- one mark back over the place and the output
+-- the place and the output, one mark further back
 module _ (p : MarkPlace) (mark : ℕ) (rest : List ℕ) (some : (mark ≡ CLOSE → ⊥) → (0 < p .rows) × ((mark ≡ TEXT → ⊥) → 0 < p .depth)) where
   rows-back : {total : ℕ} → p .rows + rowCount rest ≡ total → beforeMark p mark .rows + rowCount (mark ∷ rest) ≡ total
   unfolding beforeMark
@@ -78,7 +78,7 @@ length-output document position kept p mark out =
       | inr h ↦ rw h (length-sets out (5 * (p .rows - 1)) (rowWords (rowHere document position kept (p .depth) mark)))
     ]
 
--- how many elements are open after the first so many marks
+-- how many elements are open after the marks before an index
 pub openAt : List ℕ → ℕ → ℕ
 openAt marks zero = 0
 openAt marks (suc k) = openAfter (openAt marks k) (getD marks k 0)
@@ -130,7 +130,7 @@ pub record Back (document : ℕ) (marks out₀ : List ℕ) (position : ℕ) (kep
   pub output : out ≡ take (ROW-WORDS * p .rows) out₀
       ++ written (wordsIn rowWords (rowsFrom document (position + 1) (p .depth) (drop position marks))) (drop (ROW-WORDS * p .rows) out₀)
 
--- what a mark asks for on the way back
+-- what has to hold where a mark is passed on the way back
 pub record MarkNeeds (marks : List ℕ) (p : MarkPlace) (mark : ℕ) : Type 0 where
   pub low : p .depth ≤ MOST-LEVELS
   pub few : p .rows ≤ rowCount marks
@@ -138,7 +138,7 @@ pub record MarkNeeds (marks : List ℕ) (p : MarkPlace) (mark : ℕ) : Type 0 wh
   pub some : (mark ≡ CLOSE → ⊥) → (0 < p .rows) × ((mark ≡ TEXT → ⊥) → 0 < p .depth)
 
 module _ (document : ℕ) (marks out₀ : List ℕ) (taken : faultFrom 1 0 marks ≡ TAKEN) where
-  -- at the end nothing is open, and nothing is written
+  -- at the end of the marks nothing is open, and nothing is written
   pub back-start : (kept : List ℕ) (total : ℕ) → length kept ≡ MOST-LEVELS → total ≡ rowCount marks
       → Back document marks out₀ (length marks) kept (markPlace 0 total) out₀
   unfolding rowsFrom wordsIn flatMap written rowCount keep
@@ -154,7 +154,7 @@ module _ (document : ℕ) (marks out₀ : List ℕ) (taken : faultFrom 1 0 marks
         output = rw (drop-length marks) (sym (take-append-drop (5 * total) out₀));
       }
 
-  -- at the beginning all rows are written
+  -- at the first position all rows are written
   pub back-end : (kept : List ℕ) (p : MarkPlace) (out : List ℕ) (position : ℕ) → position ≤ 0 → Back document marks out₀ position kept p out
       → out ≡ written (tableWords document marks) out₀
   unfolding tableWords tableOf openAt
@@ -164,7 +164,7 @@ module _ (document : ℕ) (marks out₀ : List ℕ) (taken : faultFrom 1 0 marks
       b .output ∙ rw (z, b .depth) refl
   back-end kept p out (suc k) h b = absurd (not-suc-le-zero h)
 
-  -- what the mark before a position asks for
+  -- what has to hold for the mark before a position
   asks-at : (kept : List ℕ) (p : MarkPlace) (out : List ℕ) (k : ℕ) → k < length marks → Back document marks out₀ (suc k) kept p out
       → MarkNeeds marks p (getD marks k 0)
   unfolding openAt
@@ -190,7 +190,7 @@ module _ (document : ℕ) (marks out₀ : List ℕ) (taken : faultFrom 1 0 marks
   back-asks kept p out zero h i b = absurd (not-suc-le-zero h)
   back-asks kept p out (suc k) h i b = rw (sub-one (suc k)) (asks-at kept p out k i b)
 
-  -- one mark back, where there is room for all rows
+  -- one mark further back, where there is room for all rows
   module _ (kept : List ℕ) (p : MarkPlace) (out : List ℕ) (room : ROW-WORDS * rowCount marks ≤ length out₀) where
     back-to : (k : ℕ) → k < length marks → Back document marks out₀ (suc k) kept p out
         → Back document marks out₀ k (closesBefore kept (suc k) (p .depth) (getD marks k 0)) (beforeMark p (getD marks k 0))

@@ -1,6 +1,6 @@
 -- Why it holds: Of two rows of a numbered document the later starts after the earlier one's end or
--- lies inside it, and each level above a row has an element around it; so containment is where the
--- marks stand.
+-- lies inside it. Each level above a row has an element around it. So where the marks stand decides
+-- what contains what.
 -- What would break it: A row that ended at another's close, or a level left out, would be caught
 -- here.
 use mathlib.Core.Path.{_≡_, refl, sym, subst, ap, _∙_}
@@ -24,7 +24,7 @@ use Rattle.marks.specs.Table.{row, closeAt, endOf, rowsFrom, tableOf}
 use Rattle.marks.proofs.MarkLaws.{closes, is-text, opens, kind-of, open-closes, open-text, open-opens, close-closes, close-text, close-opens, rows-closes, rows-node, end-opens, InPlace, fault-read, check-read, closes-some}
 use Rattle.marks.proofs.Numbered.{close-from, Made, all-made, Settled, all-settled}
 
--- a row that contains another, and has a level
+-- a row of a level that contains another row
 pub record Around (rs : List Row) (level : ℕ) (y : Row) : Type 0 where
   pub outer : Row
   pub stands : In outer rs
@@ -34,7 +34,7 @@ pub record Around (rs : List Row) (level : ℕ) (y : Row) : Type 0 where
 further : (r y : Row) (rs : List Row) (level : ℕ) → Around rs level y → Around (r ∷ rs) level y
 further r y rs level a = record { outer = a .outer; stands = List·Memᴰ·tail (a .stands); level-of = a .level-of; contains = a .contains }
 
--- a close that is looked for from an opening or a text on comes after it
+-- a close comes after the opening or the text from which it is looked for
 close-behind : (inner position mark : ℕ) (marks : List ℕ) → (mark ≡ CLOSE → ⊥) → position < closeAt inner position (mark ∷ marks)
 close-behind inner position mark marks h =
     elim (kind-of mark) [
@@ -43,7 +43,7 @@ close-behind inner position mark marks h =
       | opens c t ↦ rw (close-opens inner position mark marks c t) (omega (arith, close-from (inner + 1) (position + 1) marks))
     ]
 
--- an element of a level that is open and is still open at a row
+-- an element of a level is open at a position and still open at a row
 abbrev Open : ℕ → ℕ → ℕ → List ℕ → Row → Type 0
 Open level depth position marks y = (level ≤ depth) × (y .node .start < closeAt (depth - level) position marks)
 
@@ -135,7 +135,7 @@ all-around document position depth (mark ∷ marks) f y level m l =
           ]
         ])
 
--- what a numbered document's rows have
+-- what holds of all rows of a numbered document
 module _ (document : ℕ) (marks : List ℕ) (taken : checkMarks marks ≡ TAKEN) where
   pub table-made : All (Made document 1) (tableOf document marks)
   unfolding tableOf
@@ -172,7 +172,7 @@ module _ (document : ℕ) (marks : List ℕ) (taken : checkMarks marks ≡ TAKEN
       ],
     )
 
-    -- what is inside stands deeper
+    -- what is inside has a higher level
     inside-deeper : insideb (y .node) (x .node) ≡ true → x .node .level < y .node .level
     inside-deeper h =
         let b = inside-between .0 h in

@@ -1,6 +1,6 @@
--- Why it holds: A table tells its marks, so TABLE is answered just where no accepted marks have the
--- rows, and numbering and its way back undo one another, word for word.
--- What would break it: A table refused though marks have it, or one taken back into marks that
+-- Why it holds: A table tells its marks. So TABLE is answered exactly where no accepted marks have
+-- the rows. Numbering and its way back undo one another, word for word.
+-- What would break it: A table refused although marks have it, or a table turned into marks that
 -- number otherwise, would be caught here.
 use mathlib.Core.Path.{_≡_, refl, sym}
 use mathlib.Core.Logic.{_↔_, inl, inr}
@@ -25,7 +25,7 @@ use Rattle.marks.proofs.MarkLaws.{check-read}
 use Rattle.marks.proofs.Numbered.{few-rows}
 use Rattle.marks.proofs.RowLaws.{rows-of-words, words-of-rows, length-words}
 
--- rows are a table just where some accepted marks have them
+-- rows are a table exactly where some accepted marks have them
 pub table-exact : (rs : List Row) → (numberedb rs ≡ true) ↔ Numbering rs
 table-exact rs = (numbered-read rs, numbered-make rs)
 
@@ -75,7 +75,7 @@ module _ (words : List ℕ) where
     λ h. rw (eq-eqb (rowFault words) TAKEN (h .0), not-so (λ n. h .1 (numbered-read (rows words) n))) refl,
   )
 
--- a table goes back into the marks that it came from
+-- a table is turned back into the marks that it came from
 module _ (document : ℕ) (marks : List ℕ) (h : checkMarks marks ≡ TAKEN) where
   numbers : Numbering (rows (tableWords document marks))
   unfolding tableWords

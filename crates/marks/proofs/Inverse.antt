@@ -1,7 +1,7 @@
 -- Why it holds: Of accepted marks only the last closes the root, so the first row's end is their
--- number, and every mark that is no close is the tag of the row that starts at its position.
--- What would break it: Were a row's start or the root's end one off, the marks would come back
--- shifted or cut short, and it would be caught here.
+-- number. Every mark that is no close is the tag of the row that starts at its position.
+-- What would break it: A row's start or the root's end one off would shift the marks or cut them
+-- short, and would be caught here.
 use mathlib.Core.Path.{_≡_, refl, sym, ap, _∙_}
 use mathlib.Core.Logic.{inl, inr}
 use mathlib.Core.Bool.{true}
@@ -95,7 +95,7 @@ module _ (document : ℕ) (marks : List ℕ) (h : faultFrom 1 0 marks ≡ TAKEN)
   marks-back =
       ap (λ n. tagged (rowsFrom document 1 0 marks) (replicate n CLOSE)) (root document marks h .1) ∙ tags-back document 1 0 [] marks (omega arith)
 
--- the rows tell them
+-- the rows tell the marks and the document
 module _ (rs : List Row) (n : Numbering rs) where
   pub tell-some : 0 < length rs
   tell-some = rw (← n .table) (some-row (n .document) (n .marks) (check-read (n .marks) (n .taken) .1))
@@ -134,7 +134,7 @@ unfolding sameRowsb
 rows-themselves [] = refl
 rows-themselves (x ∷ xs) = and-make (row-itself x) (rows-themselves xs)
 
--- rows are numbered just where some accepted marks have them as their table
+-- rows are numbered exactly where some accepted marks have them as their table
 pub numbered-read : (rs : List Row) → numberedb rs ≡ true → Numbering rs
 unfolding numberedb
 numbered-read rs h =

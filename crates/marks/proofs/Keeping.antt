@@ -1,4 +1,4 @@
--- Why it holds: After a mark the closes kept are those of the elements open there; a close adds its
+-- Why it holds: After a mark the closes kept are those of the elements open there. A close adds its
 -- own position, and an opening takes the innermost's as its end.
 -- What would break it: A close kept at another place than its element's, or an end read from
 -- another element's close, would be caught here.
@@ -40,7 +40,7 @@ module _ (depth mark : ℕ) where
         | opens c t ↦ rw (before-opens c t) (omega arith)
       ]
 
-  -- back and forth is no step
+  -- a step back and a step forth lead to the same depth
   pub open-back : ((mark ≡ CLOSE → ⊥) → (mark ≡ TEXT → ⊥) → 0 < depth) → openAfter (openBefore depth mark) mark ≡ depth
   open-back some =
       elim (kind-of mark) [
@@ -49,7 +49,7 @@ module _ (depth mark : ℕ) where
         | opens h k ↦ let s = some h k in rw (before-opens h k, open-opens (depth - 1) mark h k) (omega arith)
       ]
 
--- forth and back is no step, from where a mark is in its place
+-- a step forth and a step back do too, where a mark is in its place
 pub open-forth : (position depth mark : ℕ) → InPlace position depth mark → openBefore (openAfter depth mark) mark ≡ depth
 open-forth position depth mark i =
     elim (kind-of mark) [
@@ -59,17 +59,17 @@ open-forth position depth mark i =
       | opens h k ↦ rw (open-opens depth mark h k, before-opens (depth + 1) mark h k) (omega arith)
     ]
 
--- the closes kept stay as many
+-- as many closes are kept as before
 pub length-kept : (kept : List ℕ) (position depth mark : ℕ) → length (closesBefore kept position depth mark) ≡ length kept
 unfolding closesBefore
 length-kept kept position depth mark =
     elim (either (closeb mark)) [ inl h ↦ rw h (length-set kept depth position) | inr h ↦ rw h refl ]
 
--- at the end nothing is open
+-- at the end of the marks nothing is open
 pub kept-none : (kept : List ℕ) (position : ℕ) (marks : List ℕ) → Kept kept position 0 marks
 kept-none kept position marks inner i = absurd (not-suc-le-zero i)
 
--- one mark back
+-- the closes kept, one mark further back
 module _ (kept : List ℕ) (position depth mark : ℕ) (marks : List ℕ) (k : Kept kept (position + 1) depth marks) where
   kept-closes : mark ≡ CLOSE → depth < length kept → Kept (set kept depth position) position (depth + 1) (mark ∷ marks)
   kept-closes h l zero i =
@@ -100,7 +100,7 @@ module _ (kept : List ℕ) (position depth mark : ℕ) (marks : List ℕ) (k : K
         | opens h t ↦ rw (before-opens depth mark h t, ne-eqb mark CLOSE h) (kept-opens h t)
       ]
 
-  -- a row of the node that the mark begins: the innermost of the closes kept is an element's end
+  -- the row of the node that the mark begins: the innermost of the closes kept is an element's end
   here-ends : (document : ℕ) → (mark ≡ CLOSE → ⊥) → ((mark ≡ TEXT → ⊥) → 0 < depth)
       → rowHere document position kept depth mark ≡ row (node document position (endOf position mark marks) (openBefore depth mark + 1)) mark
   unfolding rowHere

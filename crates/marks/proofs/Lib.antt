@@ -1,12 +1,13 @@
--- Theorems for the reader: `Marked` says that rows stand where their marks do, `Contained` what is
--- inside what, `Picked` that the lists of any two tags are accepted together, `Exact` when a table
--- is refused, `Returned` that numbering and its way back return each other, and `Only` that no
--- second answer satisfies a public contract. Laws for the code: `MarkLaws` is what each definition
--- says of each kind of mark, `RowLaws` how rows lie in words, `Passing` what the walk along the
--- marks tells, `Keeping` which closes are kept on the way back, `Backward` how the rows are
--- written, `Inverse` that a table tells its marks, `ReadBack` why the walk back along a table
--- settles it, `Tagging` how its marks are written, `Picking` what is picked row by row, `Outcomes`
--- what a call answers; `Numbered` is how any two rows of a document lie.
+-- Theorems for the reader: `Marked` says that rows stand where their marks do. `Contained` says
+-- what is inside what. `Picked` says that the lists of any two tags are accepted together. `Exact`
+-- says when a table is refused. `Returned` says that numbering and its way back return each other.
+-- `Only` says that no second answer satisfies a public contract.
+-- Laws for the code: `MarkLaws` is what each definition says of each kind of mark. `RowLaws` is how
+-- rows lie in words. `Passing` is what the walk along the marks tells. `Keeping` is which closes
+-- are kept on the way back. `Backward` is how the rows are written. `Inverse` says that a table
+-- tells its marks. `ReadBack` says why the walk back along a table settles it. `Tagging` is how its
+-- marks are written. `Picking` is what is picked row by row. `Outcomes` is what a call answers.
+-- `Numbered` is how any two rows of a document lie.
 pub mod Backward
 pub mod Contained
 pub mod Exact

@@ -84,7 +84,7 @@ module _ (position mark : ℕ) (marks : List ℕ) where
   unfolding endOf
   end-opens h = rw (ne-eqb mark TEXT h)
 
--- a mark at a position is in its place, where so many elements are open
+-- a mark at a position is in its place, where `depth` elements are open
 pub record InPlace (position depth mark : ℕ) : Type 0 where
   pub known : mark ≤ TEXT
   pub rooted : depth ≡ 0 → (mark ≡ CLOSE → ⊥) × (mark ≡ TEXT → ⊥) × (position ≤ 1)
@@ -150,7 +150,7 @@ pub fault-make : (position depth mark : ℕ) (marks : List ℕ) → InPlace posi
 unfolding faultFrom
 fault-make position depth mark marks p h = rw (eq-eqb (markFault position depth mark) TAKEN (place-in position depth mark p)) h
 
--- they end with nothing open, and not at the first position
+-- taken marks end with nothing open, and not at the first position
 pub end-read : (position depth : ℕ) → faultFrom position depth [] ≡ TAKEN → (depth ≡ 0) × (position ≡ 1 → ⊥)
 unfolding faultFrom unclosedb
 end-read position depth h =

@@ -1,7 +1,7 @@
 -- Why it holds: A row is made at the position of its mark, and its end is found among the marks
--- after it; so the mark at a row's start is its tag, and the one at an element's end is a close.
--- What would break it: A row one position off, or an element that ended where nothing closes or
--- where the marks have ended, would be caught here.
+-- after it. So the mark at a row's start is its tag, and the one at an element's end is a close.
+-- What would break it: A row one position off would be caught here. So would an element that ended
+-- where nothing closes, or where the marks have ended.
 use mathlib.Core.Path.{_≡_, ap, _∙_, refl}
 use mathlib.Core.List.{List, [], _∷_}
 use Prim.Native.Nat.{ℕ, zero, suc, _+_, _-_, _<_}

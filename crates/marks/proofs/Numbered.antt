@@ -1,6 +1,6 @@
--- Why it holds: A row's end is the position of a close that comes after it, and the closes of
--- elements inside one another come in turn; so of two rows the later starts after the earlier one's
--- end, or ends before it and stands deeper.
+-- Why it holds: A row's end is the position of a close that comes after it. The closes of elements
+-- inside one another come in turn. So of two rows the later starts after the earlier one's end, or
+-- ends before it and stands deeper.
 -- What would break it: A close taken for another's, or a level one off, would be caught here.
 use mathlib.Core.Path.{_≡_, refl}
 use mathlib.Core.Logic.{_⊎_, inl, inr, ⊎-elim}
@@ -19,7 +19,7 @@ use Rattle.marks.specs.Mark.{CLOSE, TEXT, closeb, openAfter, faultFrom}
 use Rattle.marks.specs.Table.{closeAt, endOf, rowsFrom}
 use Rattle.marks.proofs.MarkLaws.{closes, is-text, opens, kind-of, open-closes, open-text, open-opens, close-here, close-closes, close-text, close-opens, rows-closes, rows-node, end-text, end-opens, InPlace, fault-read, end-read}
 
--- a close is not before the position from which it is looked for
+-- a close doesn't come before the position from which it is looked for
 pub close-from : (inner position : ℕ) (marks : List ℕ) → position ≤ closeAt inner position marks
 unfolding closeAt
 close-from inner position [] = omega arith
@@ -60,7 +60,7 @@ closes-in-turn inner position depth (mark ∷ marks) f h =
     close-turn (suc inner) e h later =
         rw (close-closes inner position mark marks e, close-closes (suc inner) position mark marks e) (later inner (omega arith))
 
--- so the innermost is the first
+-- so the innermost element closes first
 pub innermost-first : (inner position depth : ℕ) (marks : List ℕ) → faultFrom position depth marks ≡ TAKEN → suc inner < depth
     → closeAt 0 position marks < closeAt (suc inner) position marks
 innermost-first zero position depth marks f h = closes-in-turn 0 position depth marks f h
@@ -69,7 +69,7 @@ innermost-first (suc inner) position depth marks f h =
     let t = closes-in-turn (suc inner) position depth marks f h in
     omega arith
 
--- what every row of accepted marks has, where a document's rows are made from a position on
+-- what every row of accepted marks has, where the rows are made from a position on
 pub record Made (document position : ℕ) (r : Row) : Type 0 where
   pub of-document : r .node .document ≡ document
   pub begins : position ≤ r .node .start

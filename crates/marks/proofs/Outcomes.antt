@@ -1,6 +1,7 @@
--- Why it holds: A call is refused for its first fault, then for want of room, and only a call that
--- is taken writes and counts.
--- What would break it: A refusal with a count, or an output altered by one, would be caught here.
+-- Why it holds: A call is refused for its first fault, then for want of room. Only a call that is
+-- taken writes and counts.
+-- What would break it: A refusal with a count, or a refusal that altered the output, would be
+-- caught here.
 use mathlib.Core.Path.{_≡_, refl, sym, _∙_}
 use mathlib.Core.List.{List}
 use Prim.Native.Nat.{ℕ}

@@ -1,7 +1,7 @@
 -- Why it holds: Any two rows of a numbered document are apart or lie one inside the other at a
--- deeper level, and picking leaves rows out without changing one.
--- What would break it: So a tag's list is accepted and any two agree; numbers that made a list
--- CROSS or two lists JOINT would be caught here.
+-- deeper level. Picking leaves rows out without changing one. So a tag's list is accepted and any
+-- two agree.
+-- What would break it: Numbers that made a list CROSS or two lists JOINT would be caught here.
 use mathlib.Core.Path.{_≡_, sym, subst, ap, _∙_}
 use mathlib.Core.Logic.{_⊎_, inl, inr, ⊎-elim}
 use mathlib.Core.Bool.{false}
@@ -61,7 +61,7 @@ settled-fine x y s = record {
       (s .ends);
 }
 
--- two rows of which each is the other, or one settled after the other, are not at odds
+-- two rows that are equal, or of which one is settled after the other, are not at odds
 none-odd : (x y : Row) → (x ≡ y) ⊎ (Settled x y ⊎ Settled y x) → oddsb (x .node) (y .node) ≡ false
 none-odd x y (inl e) = subst (λ z. oddsb (x .node) (z .node) ≡ false) e (even-self (x .node))
 none-odd x y (inr (inl s)) = fine-even (x .node) (y .node) (settled-fine x y s)

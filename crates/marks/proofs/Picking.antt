@@ -1,5 +1,5 @@
--- Why it holds: Of one row more either the node is picked or nothing is, so what is picked grows
--- row by row and never outgrows the whole.
+-- Why it holds: Of each further row either the node is picked or nothing is. So what is picked
+-- grows row by row and is never more than what all rows give.
 -- What would break it: A row of another tag picked, or one passed over, would be caught here.
 use mathlib.Core.Path.{_≡_, refl, sym, ap, _∙_}
 use mathlib.Core.Logic.{inl, inr}
@@ -23,7 +23,7 @@ use Rattle.marks.specs.Table.{ROW-WORDS, row, rows, rowIn}
 use Rattle.nodes.proofs.WordLaws.{length-words}
 use Rattle.marks.proofs.RowLaws.{length-rows}
 
--- the nodes picked of rows and of one row more
+-- the nodes picked of some rows and of one row more
 module _ (tag : ℕ) where
   picked-append : (rs qs : List Row) → nodesWith tag (rs ++ qs) ≡ nodesWith tag rs ++ nodesWith tag qs
   unfolding nodesWith keep
@@ -62,7 +62,7 @@ module _ (tag : ℕ) (table : List ℕ) (index : ℕ) where
   pub firsts-all : length table / ROW-WORDS ≤ index → firstsWith tag table index ≡ nodesWith tag (rows table)
   firsts-all h = ap (nodesWith tag) (take-all index (rows table) (omega (arith, length-rows table)))
 
-  -- never more than of all
+  -- the first rows never give more nodes than all rows
   pub firsts-part : length (firstsWith tag table index) ≤ length (nodesWith tag (rows table))
   firsts-part =
       let e = ap (λ rs. length (nodesWith tag rs)) (take-append-drop index (rows table)) in
@@ -80,7 +80,7 @@ module _ (tag : ℕ) (table : List ℕ) (index : ℕ) where
     pub firsts-no : (r .tag ≡ tag → ⊥) → firstsWith tag table (index + 1) ≡ firstsWith tag table index
     firsts-no k = ap (nodesWith tag) one-more ∙ picked-no tag (take index (rows table)) r k
 
--- a node put after those that were written
+-- a node put after those already written
 pub put-behind : (ns : List Node) (n : Node) (out₀ out : List ℕ) (found : ℕ) → found ≡ length ns → found < count out
     → length out ≡ length out₀ → out ≡ written (wordsIn wordsOf ns) out₀ → putNode out found n ≡ written (wordsIn wordsOf (ns ++ (n ∷ []))) out₀
 unfolding putNode wordsOf

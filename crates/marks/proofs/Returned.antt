@@ -1,5 +1,5 @@
--- Why it holds: With room for it, numbering writes a table and the way back writes the marks that
--- the table came from, so either call returns what the other was given.
+-- Why it holds: With room for it, numbering writes a table. The way back writes the marks that the
+-- table came from. So either call returns what the other was given.
 -- What would break it: A count, a document or a word that did not come back would be caught here.
 use mathlib.Core.Path.{_≡_, _∙_, sym}
 use mathlib.Core.List.{List}
@@ -15,7 +15,7 @@ use Rattle.marks.specs.Table.{tableOf, tableWords, rows}
 use Rattle.marks.proofs.Outcomes.{all-written}
 use Rattle.marks.proofs.Exact.{table-taken, same-marks, same-document, same-table}
 
--- what numbering and the way back answer and write where they are taken and have room
+-- what numbering and the way back answer and write if they are taken and have room
 pub number-taken : (document : ℕ) (marks out : List ℕ) → checkMarks marks ≡ TAKEN → length (tableWords document marks) ≤ length out
     → (numberOutcome document marks out ≡ outcome TAKEN (length (tableOf document marks)))
     × (numberOutput document marks out ≡ written (tableWords document marks) out)

@@ -1,5 +1,5 @@
--- Why it holds: Five words more are one row more, so an index of the rows is five times that index
--- of the words.
+-- Why it holds: Five more words are one more row, so a row lies at five times its index in the
+-- words.
 -- What would break it: A row read one word off, or cut at another width, would be caught here.
 use mathlib.Core.Path.{_≡_, refl, ap, sym, _∙_}
 use mathlib.Core.List.{List, [], _∷_, flatMap}
@@ -56,7 +56,8 @@ rows-from ws i h = rw (add-one i) (drop-cons (rows ws) i (row (node 0 0 0 0) 0) 
 pub rows-behind : (ws : List ℕ) (i : ℕ) → length ws / ROW-WORDS ≤ i → drop i (rows ws) ≡ []
 rows-behind ws i h = drop-of-length-le (rows ws) {i = i} (omega (arith, length-rows ws))
 
--- rows written as words are read as the same rows, and whole words of rows are written as they were
+-- rows written as words are read as the same rows, and the words of whole rows are written as they
+-- were
 pub rows-of-words : (rs : List Row) → rows (wordsIn rowWords rs) ≡ rs
 unfolding rows wordsIn flatMap rowWords wordsOf
 rows-of-words [] = refl

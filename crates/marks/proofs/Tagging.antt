@@ -1,5 +1,5 @@
 -- Why it holds: Every row of a table starts at one of its marks, so the tags stay within the closes
--- put before, and the output holds the marks and what it held after them.
+-- put before. The output holds the marks, and after them what it held.
 -- What would break it: A tag put before the first mark, or after the last, would be caught here.
 use mathlib.Core.Path.{_≡_, refl, sym, ap, _∙_}
 use mathlib.Core.Logic.{inl, inr}
@@ -20,7 +20,7 @@ use Rattle.marks.specs.Mark.{CLOSE, closeb, openAfter}
 use Rattle.marks.specs.Table.{rowsFrom, tableOf, rowIn}
 use Rattle.marks.proofs.Inverse.{tell-last, numbered-read}
 
--- one close more after those put
+-- one close more, put after the others
 pub close-more : (put : ℕ) (out : List ℕ) → put < length out
     → set (written (replicate put CLOSE) out) put CLOSE ≡ written (replicate (put + 1) CLOSE) out
 unfolding written
@@ -33,7 +33,7 @@ close-more put out h =
     ∙ ap (λ us. us ++ drop (suc put) out) (replicate-append-replicate put 1 CLOSE)
     ∙ ap (λ k. replicate (put + 1) CLOSE ++ drop k out) (sym (length-replicate (put + 1) CLOSE ∙ add-one put))
 
--- a row that starts at one of so many marks
+-- a row starts at one of the first `count` marks
 abbrev pub Within : ℕ → Row → Type 0
 Within count r = (0 < r .node .start) × (r .node .start ≤ count)
 
@@ -48,7 +48,7 @@ unfolding tagged
 length-tagged [] marks = refl
 length-tagged (r ∷ rs) marks = length-tagged rs (set marks (r .node .start - 1) (r .tag)) ∙ length-set marks (r .node .start - 1) (r .tag)
 
--- tags put into marks at the beginning of an output are put into those marks
+-- tags put into an output that begins with marks change those marks only
 tagged-front : (rs : List Row) (count : ℕ) (marks rest : List ℕ) → length marks ≡ count → All (Within count) rs
     → tagged rs (marks ++ rest) ≡ tagged rs marks ++ rest
 unfolding tagged

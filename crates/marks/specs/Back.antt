@@ -1,4 +1,4 @@
--- docs/SCOPE.md, "Marks and tables": a table back into marks.
+-- docs/SCOPE.md, "Marks and tables": how a table is turned back into marks.
 use Prim.Native.Nat.{ℕ, _-_}
 use mathlib.Core.Path.{_≡_}
 use mathlib.Core.Bool.{Bool, true, false, cond, _&&_}
@@ -25,14 +25,14 @@ marksOf rs = tagged rs (replicate (rowIn rs 0 .node .end) CLOSE)
 unfoldable pub documentOf : List Row → ℕ
 documentOf rs = rowIn rs 0 .node .document
 
--- accepted marks that have the rows as their table
+-- accepted marks and a document number whose table is these rows
 pub record Numbering (rs : List Row) : Type 0 where
   pub document : ℕ
   pub marks : List ℕ
   pub taken : checkMarks marks ≡ TAKEN
   pub table : tableOf document marks ≡ rs
 
--- two tables are the same, row by row
+-- two rows, and two tables row by row, are the same in every word
 unfoldable pub sameRowb : Row → Row → Bool
 sameRowb x y = sameb (x .node) (y .node) && eqb (x .tag) (y .tag)
 
@@ -42,8 +42,8 @@ sameRowsb [] (y ∷ ys) = false
 sameRowsb (x ∷ xs) [] = false
 sameRowsb (x ∷ xs) (y ∷ ys) = sameRowb x y && sameRowsb xs ys
 
--- the marks that a table tells of are accepted and have this table; where they don't, no accepted
--- marks do (`Exact: table-exact`)
+-- the marks that a table tells of are accepted and have this table; if not, no accepted marks have
+-- it (`Exact: table-exact`)
 unfoldable pub numberedb : List Row → Bool
 numberedb rs = eqb (checkMarks (marksOf rs)) TAKEN && sameRowsb (tableOf (documentOf rs) (marksOf rs)) rs
 

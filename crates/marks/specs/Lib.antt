@@ -1,5 +1,5 @@
--- What the contracts of `marks` cite: the scope's marks in `Mark`, a document's table in `Table`,
--- a table back into marks in `Back`, and the answers of the three calls in `Outcome`.
+-- What the contracts of `marks` cite. `Mark` has the scope's marks, `Table` a document's table,
+-- `Back` the way from a table back to its marks, and `Outcome` the answers of the three calls.
 pub mod Back
 pub mod Mark
 pub mod Outcome

@@ -16,9 +16,11 @@ CLOSE = 0
 abbrev pub TEXT : ℕ
 TEXT = 65536
 
+-- a mark is a close
 abbrev pub closeb : ℕ → Bool
 closeb mark = eqb mark CLOSE
 
+-- a mark is a text
 abbrev pub textb : ℕ → Bool
 textb mark = eqb mark TEXT
 
@@ -26,12 +28,13 @@ textb mark = eqb mark TEXT
 unfoldable pub openAfter : ℕ → ℕ → ℕ
 openAfter depth mark = cond (closeb mark) (depth - 1) (cond (textb mark) depth (depth + 1))
 
--- STRAY: a close or a text with nothing open, or an opening after the root has closed: nothing is
--- open, and it isn't the first mark
+-- STRAY: a close or a text with nothing open, or an opening after the root has closed; after the
+-- root nothing is open, and the position isn't the first
 unfoldable pub strayb : ℕ → ℕ → ℕ → Bool
 strayb position depth mark = eqb depth 0 && ((closeb mark || textb mark) || ltb 1 position)
 
--- DEEP: an opening or a text whose level, one more than elements are open, would be 65
+-- DEEP: an opening or a text whose level would be 65; its level is one more than `depth`, the
+-- number of elements open
 unfoldable pub deepb : ℕ → ℕ → Bool
 deepb depth mark = not (closeb mark) && ltb MOST-LEVELS (depth + 1)
 
@@ -43,12 +46,13 @@ markFault position depth mark =
     (cond (strayb position depth mark) STRAY
     (cond (deepb depth mark) DEEP TAKEN))
 
--- UNCLOSED: the marks end with an element open, or there are none, so that the next position is
--- still the first
+-- UNCLOSED: the marks end with an element open; or there are none, and the next position is still
+-- the first
 unfoldable pub unclosedb : ℕ → ℕ → Bool
 unclosedb position depth = ltb 0 depth || eqb position 1
 
--- the first faulty mark, from a position on at which `depth` elements are open; then UNCLOSED
+-- what is wrong with the marks from a position on, where `depth` elements are open: the first
+-- faulty mark, then UNCLOSED
 unfoldable pub faultFrom : ℕ → ℕ → List ℕ → ℕ
 faultFrom position depth [] = cond (unclosedb position depth) UNCLOSED TAKEN
 faultFrom position depth (mark ∷ marks) =

@@ -13,6 +13,7 @@ use Rattle.answers.specs.Output.{wordsIn}
 use Rattle.marks.specs.declared.row.Row.{Row}
 use Rattle.marks.specs.Mark.{CLOSE, TEXT, closeb, textb, openAfter}
 
+-- a row of a node and its tag
 abbrev pub row : Node → ℕ → Row
 row n tag = record { node = n; tag = tag }
 
@@ -23,13 +24,13 @@ closeAt inner position [] = position
 closeAt inner position (mark ∷ marks) =
     cond (closeb mark && eqb inner 0) position (closeAt (openAfter inner mark) (position + 1) marks)
 
--- where the node ends that a mark at a position begins: a text there, and an element at its close
--- among the marks that follow
+-- where the node ends that a mark at a position begins: a text at that position, and an element at
+-- its close among the marks that follow
 unfoldable pub endOf : ℕ → ℕ → List ℕ → ℕ
 endOf position mark marks = cond (textb mark) position (closeAt 0 (position + 1) marks)
 
 -- the rows of the nodes that begin from a position on, where `depth` elements are open; a node's
--- level is one more
+-- level is one more than elements are open before it
 unfoldable pub rowsFrom : ℕ → ℕ → ℕ → List ℕ → List Row
 rowsFrom document position depth [] = []
 rowsFrom document position depth (mark ∷ marks) =
@@ -40,16 +41,16 @@ rowsFrom document position depth (mark ∷ marks) =
 unfoldable pub tableOf : ℕ → List ℕ → List Row
 tableOf document marks = rowsFrom document 1 0 marks
 
--- a mark is the one at a position, among the marks from another position on; there is a mark at
--- that position, so that the default of `getD` is never read
+-- a mark is the one at a position, among the marks that begin at the position `from`; there is such
+-- a mark, so the default of `getD` is never read
 pub record MarkAt (from : ℕ) (marks : List ℕ) (position mark : ℕ) : Type 0 where
   pub reached : from ≤ position
   pub present : position < from + length marks
   pub read : getD marks (position - from) 0 ≡ mark
 
--- a row stands where its marks do, among the marks from a position on: its tag is the mark at its
--- start and not a close, a text ends where it starts, and an element ends after its start, at a
--- close
+-- a row stands where its marks do, among the marks that begin at the position `from`. Its tag is
+-- the mark at its start and not a close. A text ends where it starts, and an element ends at a
+-- close after its start.
 pub record Marked (from : ℕ) (marks : List ℕ) (r : Row) : Type 0 where
   pub tag-at : MarkAt from marks (r .node .start) (r .tag)
   pub no-close : r .tag ≡ CLOSE → ⊥
@@ -61,6 +62,7 @@ pub record Marked (from : ℕ) (marks : List ℕ) (r : Row) : Type 0 where
 abbrev pub ROW-WORDS : ℕ
 ROW-WORDS = 5
 
+-- a row's five words
 unfoldable pub rowWords : Row → List ℕ
 rowWords r = wordsOf (r .node) ++ (r .tag ∷ [])
 
@@ -68,7 +70,7 @@ rowWords r = wordsOf (r .node) ++ (r .tag ∷ [])
 unfoldable pub tableWords : ℕ → List ℕ → List ℕ
 tableWords document marks = wordsIn rowWords (tableOf document marks)
 
--- the whole rows of the words
+-- the rows of the words; words at the end that make no whole row are left out
 unfoldable pub rows : List ℕ → List Row
 rows [] = []
 rows (d ∷ []) = []

@@ -1,6 +1,6 @@
-// Marks walked backwards. Each close is met before its opening, so where an element ends is known
-// when its row is made: the closes of the elements that are open at a place are kept, the
-// innermost's last, and there are never more of them than levels.
+// Walks a document's marks backwards. Each close is met before its opening, so an element's end is
+// known when its row is made. The closes of the elements that are open at a place are kept, the
+// innermost's last. There are never more of them than levels.
 use crate::mark::CLOSE;
 use crate::mark::MarkPlace;
 use crate::mark::TEXT;
@@ -13,7 +13,8 @@ ghost use Rattle.nodes.specs.Node.{MOST-LEVELS};
 ghost use Rattle.marks.specs.Mark.{CLOSE, TEXT};
 ghost use Rattle.marks.specs.Private.Walk.{openBefore, beforeMark, closesBefore, rowHere};
 
-// Returns how many elements are open before an opening or a text, with `depth` open after it.
+// Returns how many elements are open before `mark`, an opening or a text, where `depth` are open
+// after it.
 pub(crate) fn open_before(depth: usize, mark: u32) -> usize
     requires { ⌜ (mark ≡ CLOSE → ⊥) × ((mark ≡ TEXT → ⊥) → 0 < depth) ⌝ }
     ensures { λ r. ⌜ r ≡ openBefore depth mark ⌝ }
@@ -24,8 +25,8 @@ pub(crate) fn open_before(depth: usize, mark: u32) -> usize
     depth - 1
 }
 
-// Returns the row of the node that an opening or a text begins, with `depth` elements open after it:
-// a text ends where it starts, and an element at the innermost of the closes kept.
+// Returns the row of the node that `mark` begins at `position`, an opening or a text, where `depth`
+// elements are open after it. A text ends where it starts, an element at the innermost of `closes`.
 pub(crate) fn row_here(
     document: u32,
     position: u32,
@@ -59,7 +60,8 @@ pub(crate) fn row_here(
     }
 }
 
-// A close is kept: the element that it closes is open before it.
+// Keeps the close at `position` in `closes` and returns the place before it, where the element that
+// it closes is open.
 pub(crate) fn keep_close(
     closes: &mut [u32; MOST_LEVELS],
     position: u32,
@@ -76,7 +78,7 @@ pub(crate) fn keep_close(
     }
 }
 
-// The place before an opening or a text, which begins the last of the rows.
+// Returns the place before `mark`, an opening or a text, which begins the last of the rows.
 pub(crate) fn before_node(place: MarkPlace, mark: u32) -> MarkPlace
     requires { ⌜ (mark ≡ CLOSE → ⊥) × ((mark ≡ TEXT → ⊥) → 0 < place .depth) × (0 < place .rows) ⌝ }
     ensures { λ r. ⌜ r ≡ beforeMark place mark ⌝ }

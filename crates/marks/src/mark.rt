@@ -30,8 +30,8 @@ pub(crate) enum Step {
     Refused(u32),
 }
 
-// Whether the mark at a position is out of place: with nothing open only the first mark may come,
-// and it has to open the root.
+// Returns whether `mark` is out of place at `position`, where `depth` elements are open. With
+// nothing open only the first mark may come, and it has to open the root.
 fn is_stray(position: usize, depth: usize, mark: u32) -> bool
     ensures { λ r. ⌜ r ≡ strayb position depth mark ⌝ }
 {
@@ -47,7 +47,7 @@ fn is_stray(position: usize, depth: usize, mark: u32) -> bool
     1 < position
 }
 
-// Returns what is wrong with the mark at a position, with `depth` elements open before it: MARK,
+// Returns what is wrong with `mark` at `position`, where `depth` elements are open before it: MARK,
 // STRAY, DEEP, or nothing, which is TAKEN.
 pub(crate) fn mark_fault(position: usize, depth: usize, mark: u32) -> u32
     ensures { λ r. ⌜ r ≡ markFault position depth mark ⌝ }
@@ -67,7 +67,7 @@ pub(crate) fn mark_fault(position: usize, depth: usize, mark: u32) -> u32
     TAKEN
 }
 
-// Returns the place after a mark that isn't stray.
+// Returns the place after `mark`, which isn't stray.
 fn place_after(place: MarkPlace, mark: u32) -> MarkPlace
     requires { ⌜ (place .depth < MOST-NODES) × (place .rows < MOST-NODES) × (mark ≡ CLOSE → 0 < place .depth) ⌝ }
     ensures { λ r. ⌜ r ≡ afterMark place mark ⌝ }
@@ -90,7 +90,7 @@ fn place_after(place: MarkPlace, mark: u32) -> MarkPlace
     }
 }
 
-// One step: the place after the mark is reached, or the mark is refused.
+// Passes `mark` at `position`: returns the place after it, or its refusal.
 fn pass_mark(position: usize, place: MarkPlace, mark: u32) -> Step
     requires { ⌜ (place .depth < MOST-NODES) × (place .rows < MOST-NODES) ⌝ }
     ensures { λ r. ⌜ r ≡ passed position place mark ⌝ }
@@ -102,13 +102,15 @@ fn pass_mark(position: usize, place: MarkPlace, mark: u32) -> Step
     Step::Reached(place_after(place, mark))
 }
 
-// The walk along all marks, which are not too many: the place at their end, or the first refusal.
+// Walks along all `marks`, which are not too many, and returns the place at their end or the first
+// refusal.
 pub(crate) fn pass_marks(marks: &[u32]) -> Step
     requires { ⌜ length (now marks) ≤ MOST-NODES ⌝ }
     ensures { λ r. ⌜ r ≡ walked 1 (markPlace 0 0) (now (marks .entry)) ⌝ }
 {
     let mut place = MarkPlace { depth: 0, rows: 0 };
     let mut passed = 0;
+    // Rests on Passing: walk-on, walk-stop, all-closed.
     while passed < marks.len() {
         let step = pass_mark(passed + 1, place, marks[passed]);
         let Step::Reached(reached) = step else {
@@ -126,7 +128,7 @@ pub(crate) fn pass_marks(marks: &[u32]) -> Step
     Step::Reached(place)
 }
 
-// The number of a refusal; a place reached is TAKEN so far.
+// Returns the number of a refusal; a place reached is TAKEN so far.
 pub(crate) fn answer_in(step: Step) -> u32
     ensures { λ r. ⌜ r ≡ answerIn step ⌝ }
 {

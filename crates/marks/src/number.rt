@@ -1,4 +1,4 @@
-// Numbering: a document's marks into the rows of its table.
+// Numbers a document's marks into the rows of its table.
 use crate::back::before_node;
 use crate::back::keep_close;
 use crate::back::row_here;
@@ -27,8 +27,8 @@ ghost use Rattle.marks.specs.Outcome.{numberOutcome, numberOutput};
 ghost use Rattle.marks.specs.Table.{ROW-WORDS, tableWords};
 ghost use Rattle.marks.specs.Private.Walk.{beforeMark, closesBefore, outputBefore, rowCount};
 
-// One mark back: a close is kept, and the node of any other mark becomes the last row that is still
-// to be written.
+// Goes back over `mark`: keeps a close in `closes`, and writes the row of any other mark into `out`
+// as the last of the rows still to be written. Returns the place before the mark.
 fn write_mark(
     document: u32,
     position: u32,
@@ -54,7 +54,7 @@ fn write_mark(
     before_node(place, mark)
 }
 
-// The rows of accepted marks are written, the last one first.
+// Writes the rows of accepted marks into `out`, the last one first.
 fn write_rows(document: u32, marks: &[u32], rows: usize, out: &mut [u32])
     requires { ⌜ (checkMarks (now marks) ≡ TAKEN) × (rows ≡ rowCount (now marks)) × (rows ≤ length (now out) / ROW-WORDS) ⌝ }
     ensures { λ r. ⌜ now (out .exit) ≡ written (tableWords document (now (marks .entry))) (now (out .entry)) ⌝ }
@@ -65,6 +65,7 @@ fn write_rows(document: u32, marks: &[u32], rows: usize, out: &mut [u32])
         rows: rows,
     };
     let mut position = marks.len() as u32;
+    // Rests on Backward: back-on, back-end.
     while 0 < position {
         let mark = marks[position as usize - 1];
         place = write_mark(document, position, mark, &mut closes, place, out);
@@ -72,8 +73,8 @@ fn write_rows(document: u32, marks: &[u32], rows: usize, out: &mut [u32])
     }
 }
 
-// Writes the rows of a document's nodes into the output, in start order, and returns their number;
-// on refusal the output is as it was.
+// Writes the rows of a document's nodes into `out`, in start order, and returns their number. On
+// refusal `out` stays as it was.
 pub fn number(document: u32, marks: &[u32], out: &mut [u32]) -> Counted
     ensures { λ r. ⌜ (r ≡ numberOutcome document (now (marks .entry)) (now (out .entry)))
         × (now (out .exit) ≡ numberOutput document (now (marks .entry)) (now (out .entry))) ⌝ }

@@ -1,4 +1,4 @@
-// Picking a tag: the list of its nodes out of a table.
+// Picks the list of a tag's nodes out of a table.
 use crate::row::row_at;
 use crate::row::row_count;
 use crate::row::row_fault;
@@ -17,12 +17,13 @@ ghost use Rattle.answers.specs.Output.{written};
 ghost use Rattle.marks.specs.Outcome.{nodesWith, pickedWords, pickOutcome, pickOutput};
 ghost use Rattle.marks.specs.Table.{rows};
 
-// How many rows have the tag.
+// Returns how many rows of `table` have the tag `tag`.
 fn count_tag(table: &[u32], tag: u32) -> usize
     ensures { λ r. ⌜ r ≡ length (nodesWith tag (rows (now (table .entry)))) ⌝ }
 {
     let mut found = 0;
     let mut index = 0;
+    // Rests on Picking: firsts-yes, firsts-no, firsts-all.
     while index < row_count(table) {
         let row = row_at(table, index);
         if row.tag == tag {
@@ -33,13 +34,14 @@ fn count_tag(table: &[u32], tag: u32) -> usize
     found
 }
 
-// The nodes of the rows with the tag are written one after the other.
+// Writes the nodes of the rows with the tag `tag` into `out`, one after the other.
 fn put_tag(table: &[u32], tag: u32, out: &mut [u32])
     requires { ⌜ length (nodesWith tag (rows (now table))) ≤ count (now out) ⌝ }
     ensures { λ r. ⌜ now (out .exit) ≡ written (pickedWords tag (now (table .entry))) (now (out .entry)) ⌝ }
 {
     let mut found = 0;
     let mut index = 0;
+    // Rests on Picking: firsts-yes, firsts-no, firsts-all.
     while index < row_count(table) {
         let row = row_at(table, index);
         if row.tag == tag {
@@ -50,8 +52,8 @@ fn put_tag(table: &[u32], tag: u32, out: &mut [u32])
     }
 }
 
-// Writes the first four words of each row with the tag into the output, in row order, and returns
-// the number of nodes; on refusal the output is as it was. The rows may be any.
+// Writes the first four words of each row with the tag `tag` into `out`, in row order, and returns
+// the number of nodes. On refusal `out` stays as it was. The rows may be any.
 pub fn pick(table: &[u32], tag: u32, out: &mut [u32]) -> Counted
     ensures { λ r. ⌜ (r ≡ pickOutcome (now (table .entry)) tag (now (out .entry)))
         × (now (out .exit) ≡ pickOutput (now (table .entry)) tag (now (out .entry))) ⌝ }

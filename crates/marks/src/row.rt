@@ -20,15 +20,15 @@ pub struct Row {
     pub tag: u32,
 }
 
-// The number of whole rows in the words.
+// Returns the number of whole rows in `words`.
 pub(crate) fn row_count(words: &[u32]) -> usize
     ensures { λ r. ⌜ r ≡ length (now (words .entry)) / ROW-WORDS ⌝ }
 {
     words.len() / ROW_WORDS
 }
 
-// What is wrong with the words of a table, whatever the rows are: RAGGED, LONG, or nothing, which
-// is TAKEN.
+// Returns what is wrong with the words of a table, whatever the rows are: RAGGED, LONG, or nothing,
+// which is TAKEN.
 pub(crate) fn row_fault(words: &[u32]) -> u32
     ensures { λ r. ⌜ r ≡ rowFault (now (words .entry)) ⌝ }
 {
@@ -41,7 +41,7 @@ pub(crate) fn row_fault(words: &[u32]) -> u32
     TAKEN
 }
 
-// The row at an index of the table.
+// Returns the row at `index` of the table in `words`.
 pub(crate) fn row_at(words: &[u32], index: usize) -> Row
     requires { ⌜ index < length (now words) / ROW-WORDS ⌝ }
     ensures { λ r. ⌜ r ≡ rowIn (rows (now (words .entry))) index ⌝ }
@@ -58,7 +58,7 @@ pub(crate) fn row_at(words: &[u32], index: usize) -> Row
     }
 }
 
-// The row is written at an index of the output.
+// Writes `row` at `index` of `out`.
 pub(crate) fn put_row(out: &mut [u32], index: usize, row: Row)
     requires { ⌜ index < length (now out) / ROW-WORDS ⌝ }
     ensures { λ r. ⌜ now (out .exit) ≡ sets (now (out .entry)) (ROW-WORDS * index) (rowWords row) ⌝ }

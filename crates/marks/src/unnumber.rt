@@ -1,4 +1,4 @@
-// A table back into marks.
+// Turns a table back into marks.
 use crate::back::before_node;
 use crate::back::keep_close;
 use crate::back::open_before;
@@ -32,8 +32,8 @@ ghost use Rattle.marks.specs.Outcome.{unnumbered, unnumberOutcome, unnum
 ghost use Rattle.marks.specs.Table.{ROW-WORDS, rows};
 ghost use Rattle.marks.specs.Private.Walk.{markHere, fitsb, SteppedBack, allReadBack};
 
-// The answer of the way back: its number, the document's number and how many marks were written,
-// both 0 on refusal.
+// The answer of the way back: its number, the document's number and how many marks were written.
+// The last two are 0 on refusal.
 #[repr(C)]
 pub struct Unnumbered {
     pub answer: u32,
@@ -41,7 +41,7 @@ pub struct Unnumbered {
     pub count: usize,
 }
 
-// The answer of a call that wrote nothing.
+// Returns the answer of a call that wrote nothing.
 fn no_marks(answer: u32) -> Unnumbered
     ensures { λ r. ⌜ r ≡ unnumbered answer 0 0 ⌝ }
 {
@@ -52,7 +52,7 @@ fn no_marks(answer: u32) -> Unnumbered
     }
 }
 
-// Whether two rows are identical in all five words.
+// Returns whether two rows are identical in all five words.
 fn is_same_row(x: Row, y: Row) -> bool
     ensures { λ r. ⌜ r ≡ sameRowb x y ⌝ }
 {
@@ -62,7 +62,7 @@ fn is_same_row(x: Row, y: Row) -> bool
     x.tag == y.tag
 }
 
-// Returns the mark at a position, as the last of the first `count` rows tells: its tag where it
+// Returns the mark at `position`, as the last of the first `count` rows tells: its tag where it
 // starts there, else a close.
 fn mark_here(table: &[u32], count: usize, position: u32) -> u32
     requires { ⌜ count ≤ length (now table) / ROW-WORDS ⌝ }
@@ -78,7 +78,7 @@ fn mark_here(table: &[u32], count: usize, position: u32) -> u32
     last.tag
 }
 
-// Returns whether an element is open after an opening; after a text there need be none.
+// Returns whether an element is open after `mark`, an opening; after a text there need be none.
 fn is_opened(depth: usize, mark: u32) -> bool
     ensures { λ r. ⌜ r ≡ (textb mark || ltb 0 depth) ⌝ }
 {
@@ -88,7 +88,8 @@ fn is_opened(depth: usize, mark: u32) -> bool
     0 < depth
 }
 
-// Whether an opening or a text is in place, and the last of the rows is the one that it has.
+// Returns whether `mark`, an opening or a text, is in place and has the last of the rows left as
+// its row.
 fn is_fitting(
     table: &[u32],
     document: u32,
@@ -112,7 +113,8 @@ fn is_fitting(
     )
 }
 
-// One step back from a position: the place before the mark there, or the refusal of the table.
+// Steps back over the mark at `position` and returns the place before it, or the refusal of the
+// table.
 fn step_back(
     table: &[u32],
     document: u32,
@@ -136,7 +138,7 @@ fn step_back(
     Step::Reached(before_node(place, mark))
 }
 
-// Whether all rows are those of marks up to a last position, walked back to the first.
+// Returns whether all rows are those of marks up to the position `last`, walked back to the first.
 fn reads_back(table: &[u32], document: u32, last: u32) -> bool
     ensures { λ r. ⌜ r ≡ allReadBack (rows (now (table .entry))) document last ⌝ }
 {
@@ -146,6 +148,7 @@ fn reads_back(table: &[u32], document: u32, last: u32) -> bool
         rows: row_count(table),
     };
     let mut position = last;
+    // Rests on unnumber/reads_back/Proof: reads-on, reads-stop, read-all.
     while 0 < position {
         let step = step_back(table, document, position, &mut closes, place);
         let Step::Reached(reached) = step else {
@@ -160,8 +163,8 @@ fn reads_back(table: &[u32], document: u32, last: u32) -> bool
     place.rows == 0
 }
 
-// Whether the table is that of an accepted list of marks, the last of which is the root's close. No
-// marks have no table.
+// Returns whether `table` is that of an accepted list of marks, the last of which is the root's
+// close. No marks have no table.
 fn is_numbered(table: &[u32]) -> bool
     ensures { λ r. ⌜ r ≡ numberedb (rows (now (table .entry))) ⌝ }
 {
@@ -175,24 +178,26 @@ fn is_numbered(table: &[u32]) -> bool
     reads_back(table, root.node.document, root.node.end)
 }
 
-// Makes closes of the first `count` words of the output.
+// Makes closes of the first `count` words of `out`.
 fn put_closes(out: &mut [u32], count: usize)
     requires { ⌜ count ≤ length (now out) ⌝ }
     ensures { λ r. ⌜ now (out .exit) ≡ written (replicate count CLOSE) (now (out .entry)) ⌝ }
 {
     let mut put = 0;
+    // Rests on Tagging: close-more.
     while put < count {
         out[put] = CLOSE;
         put += 1;
     }
 }
 
-// Each row's tag is put at the row's start.
+// Puts each row's tag into `out`, at the row's start.
 fn put_tags(table: &[u32], out: &mut [u32])
     requires { ⌜ All (λ r. (0 < r .node .start) × (r .node .start ≤ length (now out))) (rows (now table)) ⌝ }
     ensures { λ r. ⌜ now (out .exit) ≡ tagged (rows (now (table .entry))) (now (out .entry)) ⌝ }
 {
     let mut index = 0;
+    // Rests on unnumber/put_tags/Proof: put-on, put-all.
     while index < row_count(table) {
         let row = row_at(table, index);
         out[row.node.start as usize - 1] = row.tag;
@@ -200,8 +205,8 @@ fn put_tags(table: &[u32], out: &mut [u32])
     }
 }
 
-// Writes the marks of a table into the output, and returns their number and the document's; on
-// refusal the output is as it was.
+// Writes the marks of `table` into `out`, and returns their number and the document's. On refusal
+// `out` stays as it was.
 pub fn unnumber(table: &[u32], out: &mut [u32]) -> Unnumbered
     ensures { λ r. ⌜ (r ≡ unnumberOutcome (now (table .entry)) (now (out .entry)))
         × (now (out .exit) ≡ unnumberOutput (now (table .entry)) (now (out .entry))) ⌝ }

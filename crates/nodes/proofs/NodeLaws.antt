@@ -1,7 +1,8 @@
--- Why it holds: Each test of two nodes is a test of their numbers; here it becomes the facts about
--- those numbers, and only here is `insideb` opened. A changed test of docs/SCOPE.md is proved again
--- here and nowhere else.
--- What would break it:
+-- Why it holds: Each test of two nodes is a test of their numbers, and becomes here the facts about
+-- those numbers. Only here is `insideb` opened, so a changed test is proved again here and nowhere
+-- else.
+-- What would break it: A test of other numbers, or one that took equal numbers where the scope does
+-- not, would be caught here.
 use mathlib.Core.Path.{_≡_, refl, sym, _∙_}
 use mathlib.Core.Logic.{_⊎_, inl, inr, ⊎-elim}
 use mathlib.Core.Bool.{true, false}
@@ -14,7 +15,7 @@ use Rattle.nodes.specs.declared.node.Node.{Node}
 use Rattle.nodes.specs.Node.{endsb, insideb, deeperb, directlyb, apartb, afterb, openb, sameb}
 use Rattle.laws.proofs.Tests.{not-so, and-read, and-make, or-read, or-left, or-right, or-none}
 
--- the ends of nodes that end within one another; only here is the comparison known
+-- a node that ends within another ends before it
 ends-before : (y x : Node) → endsb y x ≡ true → y .end < x .end
 unfolding endsb
 ends-before y x h = ltb-true _ _ h
@@ -23,7 +24,7 @@ ends-trans : (z y x : Node) → endsb z y ≡ true → endsb y x ≡ true → en
 unfolding endsb
 ends-trans z y x h k = let p = ends-before z y h in let q = ends-before y x k in lt-ltb (z .end) (x .end) (omega arith)
 
--- what every layer above knows of a node inside another
+-- what every layer above may use of a node inside another
 pub record Within (y x : Node) : Type 0 where
   pub document : y .document ≡ x .document
   pub start : x .start < y .start
@@ -61,7 +62,7 @@ inside-trans z y x h k =
 pub inside-self : (x : Node) → insideb x x ≡ false
 inside-self x = not-so (λ h. lt-irrefl _ (within x x h .start))
 
--- and no node is inside a text, which ends where it starts, unless it ends before it starts itself
+-- no node is inside a text, which ends where it starts, unless that node ends before its own start
 pub text-empty : (y x : Node) → y .start ≤ y .end → x .end ≡ x .start → insideb y x ≡ false
 text-empty y x span t = not-so (λ h. let w = within y x h in omega arith)
 
@@ -95,7 +96,7 @@ after-read y x h =
     (λ p. let q = and-read (eqb (y .document) (x .document)) p in inr (eqb-true _ _ (q .0), ltb-true _ _ (q .1)))
     (or-read (ltb (x .document) (y .document)) h)
 
--- within one document, what stands after starts after
+-- within one document, a node that stands after another starts after it
 pub after-starts : (y x : Node) → afterb y x ≡ true → x .document ≡ y .document → x .start < y .start
 after-starts y x h d = ⊎-elim (λ p. omega arith) (λ p. p .1) (after-read y x h)
 
@@ -116,7 +117,7 @@ after-trans z y x h k =
 pub after-self : (x : Node) → afterb x x ≡ false
 after-self x = not-so (λ h. ⊎-elim (λ p. omega arith) (λ p. omega arith) (after-read x x h))
 
--- of two nodes one stands after the other, or both have one document and start
+-- of two nodes one stands after the other, or both have the same document and start
 pub after-none : (y x : Node) → afterb y x ≡ false → afterb x y ≡ false → (y .document ≡ x .document) × (y .start ≡ x .start)
 unfolding afterb
 after-none y x h k =
@@ -133,6 +134,7 @@ after-none y x h k =
 pub inside-after : (y x : Node) → insideb y x ≡ true → afterb y x ≡ true
 inside-after y x h = after-start y x (within y x h .document) (within y x h .start)
 
+-- what every layer above may use of a node e that is open at n
 pub record Open (n e : Node) : Type 0 where
   pub document : e .document ≡ n .document
   pub reaches : n .start ≤ e .end
@@ -150,7 +152,7 @@ pub shut-read : (n e : Node) → openb n e ≡ false → e .document ≡ n .docu
 unfolding openb
 shut-read n e h d = leb-false _ _ (rw (eq-eqb _ _ d) at h)
 
--- what contains a node of good span is open at it
+-- a node that contains n is open at n, where n doesn't end before it starts
 pub inside-open : (n e : Node) → n .start ≤ n .end → insideb n e ≡ true → openb n e ≡ true
 inside-open n e s h = let w = within n e h in open-make n e (omega arith) (omega arith)
 
@@ -171,7 +173,7 @@ unfolding sameb
 same-self x =
     rw (eq-eqb (x .document) (x .document) refl, eq-eqb (x .start) (x .start) refl, eq-eqb (x .end) (x .end) refl, eq-eqb (x .level) (x .level) refl)
 
--- a node that isn't open at n, which stands after it, isn't open at any later node either
+-- a node e that n stands after and that isn't open at n isn't open at any later node either
 pub shut-later : (m n e : Node) → openb n e ≡ false → afterb n e ≡ true → afterb m n ≡ true → openb m e ≡ false
 shut-later m n e h k l = not-so (λ o. let p = open-read m e o in clash p (after-read n e k) (after-read m n l))
   where

@@ -1,5 +1,4 @@
--- Why it holds: Four words more are one node more, so an index of the nodes is four times that
--- index of the words.
+-- Why it holds: Each further node is four further words, so node number i begins at word 4 * i.
 -- What would break it: A node read one word off, or written over its neighbour, would be caught
 -- here.
 use mathlib.Core.Path.{_≡_, refl, ap, sym, _∙_}
@@ -44,7 +43,7 @@ node-words (d ∷ s ∷ e ∷ l ∷ ws) (suc i) h =
     (sym (beyond d s e l ws {k = 4 * i + 2} {m = 4 * suc i + 2} (omega arith)) k)
     (sym (beyond d s e l ws {k = 4 * i + 3} {m = 4 * suc i + 3} (omega arith)) k)
 
--- four stores past the first node are stores into the rest
+-- storing words past the first node stores them into the rest
 past : (d s e l : ℕ) (ws : List ℕ) {k m : ℕ} (vs : List ℕ) → m ≡ suc (suc (suc (suc k)))
     → sets (d ∷ s ∷ e ∷ l ∷ ws) m vs ≡ d ∷ s ∷ e ∷ l ∷ sets ws k vs
 past d s e l ws [] q = refl
@@ -61,13 +60,13 @@ stored (d ∷ s ∷ e ∷ l ∷ ws) zero n h = refl
 stored (d ∷ s ∷ e ∷ l ∷ ws) (suc i) n h =
     ap nodes (past d s e l ws {k = 4 * i} {m = 4 * suc i} (wordsOf n) (omega arith)) ∙ ap (λ ns. node d s e l ∷ ns) (stored ws i n (omega arith))
 
--- the four stores that write a node's words, from any word on
+-- four stores in a row write a node's words, at any place
 pub four-words : (ws : List ℕ) (w : ℕ) (n : Node)
     → set (set (set (set ws w (n .document)) (w + 1) (n .start)) (w + 2) (n .end)) (w + 3) (n .level) ≡ sets ws w (wordsOf n)
 unfolding wordsOf
 four-words ws w n = simp towards-suc
 
--- a node's words where one starts, stored and read
+-- writing a node's words where node i begins is `putNode` at i
 pub words-put : (ws : List ℕ) (w i : ℕ) (n : Node) → w ≡ 4 * i → i < count ws → sets ws w (wordsOf n) ≡ putNode ws i n
 unfolding putNode
 words-put ws w i n q h = rw (q, lt-ltb _ _ h) refl
@@ -76,11 +75,12 @@ pub four-stores : (ws : List ℕ) (w i : ℕ) (n : Node) → w ≡ 4 * i → i <
     → set (set (set (set ws w (n .document)) (w + 1) (n .start)) (w + 2) (n .end)) (w + 3) (n .level) ≡ putNode ws i n
 four-stores ws w i n q h = four-words ws w n ∙ words-put ws w i n q h
 
+-- after `putNode` at i the nodes are those from before, with node i replaced
 pub nodes-put : (ws : List ℕ) (i : ℕ) (n : Node) → i < count ws → nodes (putNode ws i n) ≡ set (nodes ws) i n
 unfolding putNode
 nodes-put ws i n h = rw (lt-ltb i (count ws) h) (stored ws i n h)
 
--- the nodes from an index on begin with the one there, and after the last there is none
+-- the nodes from an index on begin with the one there; from the count on there are none
 pub nodes-from : (ws : List ℕ) (i : ℕ) → i < count ws → drop i (nodes ws) ≡ nodeAt ws i ∷ drop (i + 1) (nodes ws)
 unfolding nodeAt
 nodes-from ws i h = rw (add-one i) (drop-cons (nodes ws) i (node 0 0 0 0) (omega (arith, length-nodes ws)))
@@ -88,7 +88,7 @@ nodes-from ws i h = rw (add-one i) (drop-cons (nodes ws) i (node 0 0 0 0) (omega
 pub nodes-behind : (ws : List ℕ) (i : ℕ) → count ws ≤ i → drop i (nodes ws) ≡ []
 nodes-behind ws i h = drop-of-length-le (nodes ws) {i = i} (omega (arith, length-nodes ws))
 
--- the nodes after a node's words, and those before them
+-- dropping or taking k nodes is dropping or taking 4 * k words
 behind-four : (d s e l : ℕ) (ws : List ℕ) {k m : ℕ} → m ≡ suc (suc (suc (suc k))) → drop m (d ∷ s ∷ e ∷ l ∷ ws) ≡ drop k ws
 behind-four d s e l ws q = rw q
 
@@ -126,7 +126,7 @@ unfolding nodes wordsIn flatMap wordsOf
 nodes-of-words [] = refl
 nodes-of-words (n ∷ ns) = ap (λ ms. n ∷ ms) (nodes-of-words ns)
 
--- and whole words read as nodes are written as the same words
+-- and words that make whole nodes, read as nodes, are written as the same words
 pub words-of-nodes : (ws : List ℕ) → length ws % 4 ≡ 0 → wordsIn wordsOf (nodes ws) ≡ ws
 unfolding nodes wordsIn flatMap wordsOf
 words-of-nodes [] h = refl

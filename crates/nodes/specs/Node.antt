@@ -8,19 +8,19 @@ use Rattle.nodes.specs.declared.node.Node.{Node}
 abbrev pub MOST-LEVELS : ℕ
 MOST-LEVELS = 64
 
--- y ends within x
+-- y ends within x: before x does
 unfoldable pub endsb : Node → Node → Bool
 endsb y x = ltb (y .end) (x .end)
 
--- y is inside x: of its document, x.start < y.start and y.end < x.end
+-- y is inside x: in the same document, y starts after x starts and ends before x ends
 unfoldable pub insideb : Node → Node → Bool
 insideb y x = eqb (y .document) (x .document) && (ltb (x .start) (y .start) && endsb y x)
 
--- y.level = x.level + 1
+-- y is one level deeper than x
 unfoldable pub deeperb : Node → Node → Bool
 deeperb y x = eqb (y .level) (x .level + 1)
 
--- y is directly inside x: it is inside, and y.level = x.level + 1
+-- y is directly inside x: it is inside, and one level deeper
 unfoldable pub directlyb : Node → Node → Bool
 directlyb y x = insideb y x && deeperb y x
 
@@ -28,11 +28,11 @@ directlyb y x = insideb y x && deeperb y x
 unfoldable pub apartb : Node → Node → Bool
 apartb x y = ltb (x .end) (y .start) || ltb (y .end) (x .start)
 
--- y stands after x: (document, start) of y is strictly after that of x
+-- y stands after x: in a later document, or later in the same one
 unfoldable pub afterb : Node → Node → Bool
 afterb y x = ltb (x .document) (y .document) || (eqb (y .document) (x .document) && ltb (x .start) (y .start))
 
--- e is open at n: it is of n's document, and has e.end ≥ n.start
+-- e is open at n: both are of one document, and e doesn't end before n starts
 unfoldable pub openb : Node → Node → Bool
 openb n e = eqb (e .document) (n .document) && leb (n .start) (e .end)
 

@@ -1,5 +1,5 @@
--- docs/SCOPE.md, "Nodes and lists": a list of nodes is a list of words, four a node, node after
--- node.
+-- docs/SCOPE.md, "Nodes and lists": a list of nodes is a list of words, four words a node, node
+-- after node.
 use Prim.Native.Nat.{ℕ, _*_, _/_}
 use mathlib.Core.Bool.{cond}
 use mathlib.Core.List.{List, [], _∷_}
@@ -8,6 +8,7 @@ use lib.ListN.{length, getD}
 use lib.Seq.{sets}
 use Rattle.nodes.specs.declared.node.Node.{Node}
 
+-- a node of its four words
 abbrev pub node : ℕ → ℕ → ℕ → ℕ → Node
 node document start end level = record { document = document; start = start; end = end; level = level }
 
@@ -19,7 +20,7 @@ NODE-WORDS = 4
 abbrev pub MOST-NODES : ℕ
 MOST-NODES = 4096
 
--- the whole nodes of the words; words that make no whole node are left over
+-- the nodes that the words make, four words each; up to three words at the end are left over
 unfoldable pub nodes : List ℕ → List Node
 nodes [] = []
 nodes (d ∷ []) = []
@@ -31,14 +32,14 @@ nodes (d ∷ s ∷ e ∷ l ∷ words) = node d s e l ∷ nodes words
 abbrev pub count : List ℕ → ℕ
 count words = length words / NODE-WORDS
 
--- the node at an index, or zeros where there is none
+-- the node at an index, or a node of zeros where there is none
 unfoldable pub nodeAt : List ℕ → ℕ → Node
 nodeAt words index = getD (nodes words) index (node 0 0 0 0)
 
--- the words of a node
+-- the four words of a node
 unfoldable pub wordsOf : Node → List ℕ
 wordsOf n = n .document ∷ n .start ∷ n .end ∷ n .level ∷ []
 
--- the words with the node at an index replaced; unaltered where there is none
+-- the words with the node at an index replaced by n; unaltered where there is none
 unfoldable pub putNode : List ℕ → ℕ → Node → List ℕ
 putNode words index n = cond (ltb index (count words)) (sets words (NODE-WORDS * index) (wordsOf n)) words

@@ -7,7 +7,7 @@ ghost use Rattle.nodes.specs.Words.{nodeAt, putNode, count};
 // How many words a node takes in a list.
 pub const NODE_WORDS: usize = 4;
 
-// The greatest level; so no more than this many nodes lie one inside the other.
+// The greatest level; so at most this many nodes lie one inside the other.
 pub const MOST_LEVELS: usize = 64;
 
 // The most nodes, rows or marks that one list may have.
@@ -21,14 +21,14 @@ pub struct Node {
     pub level: u32,
 }
 
-// Returns whether y ends within x, as a node inside x does.
+// Returns whether `y` ends within `x`, as a node inside `x` does.
 pub fn ends_within(y: Node, x: Node) -> bool
     ensures { λ r. ⌜ r ≡ endsb y x ⌝ }
 {
     y.end < x.end
 }
 
-// Returns whether y is inside x: of its document, starting after it and ending before it.
+// Returns whether `y` is inside `x`: of its document, starting after it and ending before it.
 pub fn is_inside(y: Node, x: Node) -> bool
     ensures { λ r. ⌜ r ≡ insideb y x ⌝ }
 {
@@ -41,14 +41,14 @@ pub fn is_inside(y: Node, x: Node) -> bool
     ends_within(y, x)
 }
 
-// Returns whether y stands one level below x, as a node directly inside x does.
+// Returns whether `y` stands one level below `x`, as a node directly inside `x` does.
 pub fn is_one_deeper(y: Node, x: Node) -> bool
     ensures { λ r. ⌜ r ≡ deeperb y x ⌝ }
 {
     y.level as u64 == x.level as u64 + 1
 }
 
-// Returns whether y stands after x: in a later document, or later in the same one.
+// Returns whether `y` stands after `x`: in a later document, or later in the same one.
 pub fn is_after(y: Node, x: Node) -> bool
     ensures { λ r. ⌜ r ≡ afterb y x ⌝ }
 {
@@ -61,7 +61,8 @@ pub fn is_after(y: Node, x: Node) -> bool
     x.start < y.start
 }
 
-// Returns whether e is still open at n: it is of n's document and does not end before n starts.
+// Returns whether `e` is open at `n`: it is of the document of `n` and doesn't end before `n`
+// starts.
 pub fn is_open(n: Node, e: Node) -> bool
     ensures { λ r. ⌜ r ≡ openb n e ⌝ }
 {
@@ -71,7 +72,7 @@ pub fn is_open(n: Node, e: Node) -> bool
     n.start <= e.end
 }
 
-// Returns whether x and y are identical in all four words.
+// Returns whether `x` and `y` are identical in all four words.
 pub fn is_same(x: Node, y: Node) -> bool
     ensures { λ r. ⌜ r ≡ sameb x y ⌝ }
 {
@@ -87,14 +88,14 @@ pub fn is_same(x: Node, y: Node) -> bool
     x.level == y.level
 }
 
-// Returns the number of whole nodes in the words.
+// Returns the number of whole nodes in `words`.
 pub fn node_count(words: &[u32]) -> usize
     ensures { λ r. ⌜ r ≡ count (now (words .entry)) ⌝ }
 {
     words.len() / NODE_WORDS
 }
 
-// Returns the node at an index of the list, or a node of zeros where the list has none there.
+// Returns the node at `index` of the list, or a node of zeros where the list has none there.
 pub fn node_at(words: &[u32], index: usize) -> Node
     ensures { λ r. ⌜ r ≡ nodeAt (now (words .entry)) index ⌝ }
 {
@@ -115,8 +116,7 @@ pub fn node_at(words: &[u32], index: usize) -> Node
     }
 }
 
-// The list's node at an index becomes the given one; where the list has none there, no word
-// changes.
+// Writes `node` at `index` of the list; where the list has no node there, no word changes.
 pub fn put_node(words: &mut [u32], index: usize, node: Node)
     ensures { λ r. ⌜ now (words .exit) ≡ putNode (now (words .entry)) index node ⌝ }
 {

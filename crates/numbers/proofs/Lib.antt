@@ -1,4 +1,4 @@
--- `LittleLaws` reads bytes as numbers and writes numbers as bytes; `Places` says where a part lies;
+-- `LittleLaws` reads bytes as numbers and writes numbers as bytes. `Places` says where a part lies.
 -- `Only` says that no second answer satisfies a public contract.
 pub mod LittleLaws
 pub mod Only

@@ -1,5 +1,5 @@
--- Why it holds: Four bytes more are one number more, as four words more are one node more; so the
--- laws of nodes in words are those of numbers in bytes.
+-- Why it holds: Each further number is four further bytes, just as each further node is four
+-- further words. So the laws of nodes in words also serve for numbers in bytes.
 -- What would break it: A number read one byte off, or with its bytes in another order, would be
 -- caught here.
 use mathlib.Core.Path.{_≡_, refl, ap, sym, _∙_}
@@ -20,7 +20,7 @@ use lib.Seq.{take-all}
 use Rattle.numbers.specs.Part.{copied}
 use Rattle.numbers.specs.Little.{NODE-BYTES, little, bytesOf, numbers, numberCount, numberAt, putNumber, nodeIn}
 
--- the number of four bytes that are read as if they were the words of a node
+-- four bytes, read as if they were a node's words, give this number
 four : Node → ℕ
 four n = little (n .document) (n .start) (n .end) (n .level)
 
@@ -35,7 +35,7 @@ by-fours (a ∷ b ∷ c ∷ d ∷ bs) = ap (λ ns. little a b c d ∷ ns) (by-fo
 pub length-numbers : (bs : List ℕ) → length (numbers bs) ≡ numberCount bs
 length-numbers bs = ap length (by-fours bs) ∙ length-map (nodes bs) four ∙ length-nodes bs
 
--- a number's bytes are those at four times its index
+-- number i has the bytes from 4 * i on
 pub number-bytes : (bs : List ℕ) (i : ℕ) → i < numberCount bs
     → numberAt bs i ≡ little (getD bs (4 * i) 0) (getD bs (4 * i + 1) 0) (getD bs (4 * i + 2) 0) (getD bs (4 * i + 3) 0)
 unfolding numberAt nodeAt four little
@@ -45,7 +45,7 @@ pub number-behind : (bs : List ℕ) (i : ℕ) → numberCount bs ≤ i → numbe
 unfolding numberAt
 number-behind bs i h = List·getD-eq-default (numbers bs) 0 (omega (arith, length-numbers bs))
 
--- the numbers after so many, and those before them
+-- dropping or taking k numbers is dropping or taking 4 * k bytes
 pub numbers-drop : (bs : List ℕ) (k : ℕ) → numbers (drop (4 * k) bs) ≡ drop k (numbers bs)
 numbers-drop bs k = by-fours (drop (4 * k) bs) ∙ ap (map four) (nodes-drop bs k) ∙ map-drop four k (nodes bs) ∙ ap (drop k) (sym (by-fours bs))
 
@@ -60,8 +60,7 @@ numbers-append (a ∷ b ∷ []) ys h = absurd (omega arith)
 numbers-append (a ∷ b ∷ c ∷ []) ys h = absurd (omega arith)
 numbers-append (a ∷ b ∷ c ∷ d ∷ xs) ys h = ap (λ ns. little a b c d ∷ ns) (numbers-append xs ys (omega arith))
 
--- a number is put together of its four digits to the base 256, and the digits are read off one by
--- one
+-- a number is the sum of its four digits to the base 256, and each digit is read off with `%`
 digits : (n one two three : ℕ) → one ≡ n / 256 → two ≡ one / 256 → three ≡ two / 256 → three < 256
     → n % 256 + 256 * (one % 256) + 65536 * (two % 256) + 16777216 * (three % 256) ≡ n
 digits n one two three p q r h = omega arith
@@ -86,7 +85,7 @@ bytes-of-number a b c d p q r s =
       digit d 0 (n / 16777216) s (omega arith),
     )
 
--- and so for lists of them
+-- the same holds of lists of numbers and of bytes
 pub numbers-of-bytes : (ns : List ℕ) → All (λ n. n < 4294967296) ns → numbers (wordsIn bytesOf ns) ≡ ns
 unfolding numbers wordsIn flatMap bytesOf
 numbers-of-bytes [] h = refl
@@ -107,7 +106,7 @@ pub length-bytes : (ns : List ℕ) → length (wordsIn bytesOf ns) ≡ 4 * lengt
 unfolding bytesOf
 length-bytes ns = length-items bytesOf 4 (λ n. refl) ns
 
--- the four stores that write a number
+-- four stores in a row write a number
 pub four-bytes : (bs : List ℕ) (i n : ℕ) → i < numberCount bs
     → set (set (set (set bs (4 * i) (n % 256)) (4 * i + 1) (n / 256 % 256)) (4 * i + 2) (n / 65536 % 256)) (4 * i + 3) (n / 16777216 % 256)
     ≡ putNumber bs i n
@@ -126,7 +125,7 @@ node-in-from bs i h = nodes-from (numbers bs) i (omega (arith, length-numbers bs
 pub node-in-behind : (bs : List ℕ) (i : ℕ) → length bs / NODE-BYTES ≤ i → drop i (nodes (numbers bs)) ≡ []
 node-in-behind bs i h = nodes-behind (numbers bs) i (omega (arith, length-numbers bs))
 
--- the number of the four bytes from a place on
+-- the number that the four bytes from `at` on make
 abbrev numberFrom : List ℕ → ℕ → ℕ
 numberFrom bs at = little (getD bs at 0) (getD bs (at + 1) 0) (getD bs (at + 2) 0) (getD bs (at + 3) 0)
 
@@ -134,7 +133,7 @@ number-there : (bs : List ℕ) (i at : ℕ) → at ≡ 4 * i → i < numberCount
 unfolding numberAt
 number-there bs i at e h = rw e (number-bytes bs i h)
 
--- a node's numbers are those of the bytes at sixteen times its index
+-- node i has the four numbers of the bytes from 16 * i on
 pub node-numbers : (bs : List ℕ) (i d s e l : ℕ) → i < length bs / NODE-BYTES
     → d ≡ numberFrom bs (16 * i) → s ≡ numberFrom bs (16 * i + 4) → e ≡ numberFrom bs (16 * i + 8) → l ≡ numberFrom bs (16 * i + 12)
     → node d s e l ≡ nodeIn bs i
@@ -146,7 +145,7 @@ node-numbers bs i d s e l h p q r t =
     let last = t ∙ sym (number-there bs (4 * i + 3) (16 * i + 12) (omega arith) (omega arith)) in
     (λ k. node (one k) (two k) (three k) (last k)) ∙ sym (node-words (numbers bs) i (omega (arith, length-numbers bs)))
 
--- numbers copied into words that have room for all of them
+-- where the words have room for all numbers, `copied` writes all of them
 pub copied-whole : (bytes words : List ℕ) → numberCount bytes ≤ length words → copied bytes words ≡ written (numbers bytes) words
 unfolding copied
 copied-whole bytes words h = ap (λ ns. written ns words) (take-all (length words) (numbers bytes) (omega (arith, length-numbers bytes)))

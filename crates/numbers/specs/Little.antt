@@ -8,23 +8,22 @@ use lib.Seq.{sets}
 use Rattle.nodes.specs.declared.node.Node.{Node}
 use Rattle.nodes.specs.Words.{NODE-WORDS, nodeAt}
 
--- how many bytes a number takes, and a node
+-- how many bytes a number takes, and how many a node takes
 abbrev pub NUMBER-BYTES : ℕ
 NUMBER-BYTES = 4
 
 abbrev pub NODE-BYTES : ℕ
 NODE-BYTES = NUMBER-BYTES * NODE-WORDS
 
--- the number of four bytes, the lowest first
+-- the number that four bytes make, the lowest byte first
 unfoldable pub little : ℕ → ℕ → ℕ → ℕ → ℕ
 little a b c d = a + 256 * b + 65536 * c + 16777216 * d
 
--- the four bytes of a number, the lowest first
+-- the four bytes of a number, the lowest byte first
 unfoldable pub bytesOf : ℕ → List ℕ
 bytesOf n = n % 256 ∷ n / 256 % 256 ∷ n / 65536 % 256 ∷ n / 16777216 % 256 ∷ []
 
--- the whole numbers of the bytes, one after the other; bytes that make no whole number are left
--- over
+-- the numbers that the bytes make, four bytes each; up to three bytes at the end are left over
 unfoldable pub numbers : List ℕ → List ℕ
 numbers [] = []
 numbers (a ∷ []) = []
@@ -40,10 +39,10 @@ numberCount bytes = length bytes / NUMBER-BYTES
 unfoldable pub numberAt : List ℕ → ℕ → ℕ
 numberAt bytes index = getD (numbers bytes) index 0
 
--- the bytes with the number at an index replaced; unaltered where there is none
+-- the bytes with the number at an index replaced by n; unaltered where there is none
 unfoldable pub putNumber : List ℕ → ℕ → ℕ → List ℕ
 putNumber bytes index n = cond (ltb index (numberCount bytes)) (sets bytes (NUMBER-BYTES * index) (bytesOf n)) bytes
 
--- the node at an index of a list that lies in bytes, or zeros where there is none
+-- the node at an index of a list that lies in bytes, or a node of zeros where there is none
 unfoldable pub nodeIn : List ℕ → ℕ → Node
 nodeIn bytes index = nodeAt (numbers bytes) index

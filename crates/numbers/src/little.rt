@@ -12,21 +12,21 @@ pub const NUMBER_BYTES: usize = 4;
 // How many bytes a node takes.
 pub const NODE_BYTES: usize = NUMBER_BYTES * NODE_WORDS;
 
-// Returns the number of whole numbers in the bytes.
+// Returns the number of whole numbers in `bytes`.
 fn number_count(bytes: &[u8]) -> usize
     ensures { λ r. ⌜ r ≡ numberCount (now (bytes .entry)) ⌝ }
 {
     bytes.len() / NUMBER_BYTES
 }
 
-// The number of four bytes, the lowest first.
+// Returns the number that the bytes `a`, `b`, `c` and `d` make, the lowest byte first.
 fn from_four(a: u8, b: u8, c: u8, d: u8) -> u32
     ensures { λ r. ⌜ r ≡ little a b c d ⌝ }
 {
     a as u32 + 256 * b as u32 + 65536 * c as u32 + 16777216 * d as u32
 }
 
-// The number of the four bytes from a place on.
+// Returns the number that the four bytes from `at` on make.
 fn number_from(bytes: &[u8], at: usize) -> u32
     requires { ⌜ at + 4 ≤ length (now bytes) ⌝ }
     ensures { λ r. ⌜ r ≡ little (getD (now (bytes .entry)) at 0) (getD (now (bytes .entry)) (at + 1) 0)
@@ -35,7 +35,7 @@ fn number_from(bytes: &[u8], at: usize) -> u32
     from_four(bytes[at], bytes[at + 1], bytes[at + 2], bytes[at + 3])
 }
 
-// Returns the number at an index of the bytes, counted in numbers, or 0 where they have none there.
+// Returns the number at `index` of the bytes, counted in numbers, or 0 where they have none there.
 pub fn number_at(bytes: &[u8], index: usize) -> u32
     ensures { λ r. ⌜ r ≡ numberAt (now (bytes .entry)) index ⌝ }
 {
@@ -45,8 +45,8 @@ pub fn number_at(bytes: &[u8], index: usize) -> u32
     number_from(bytes, NUMBER_BYTES * index)
 }
 
-// The number at an index of the bytes, counted in numbers, becomes the given one; where they have
-// none there, no byte changes.
+// Writes `number` at `index` of the bytes, counted in numbers; where they have none there, no byte
+// changes.
 pub fn put_number(bytes: &mut [u8], index: usize, number: u32)
     ensures { λ r. ⌜ now (bytes .exit) ≡ putNumber (now (bytes .entry)) index number ⌝ }
 {
@@ -60,7 +60,7 @@ pub fn put_number(bytes: &mut [u8], index: usize, number: u32)
     bytes[at + 3] = (number / 16777216 % 256) as u8;
 }
 
-// Returns the node at an index of a list that lies in bytes, or a node of zeros where the list has
+// Returns the node at `index` of a list that lies in bytes, or a node of zeros where the list has
 // none there.
 pub fn node_in(bytes: &[u8], index: usize) -> Node
     ensures { λ r. ⌜ r ≡ nodeIn (now (bytes .entry)) index ⌝ }

@@ -6,8 +6,8 @@ ghost use denote.Ref.{ptr};
 ghost use lib.ListN.{length};
 ghost use Rattle.numbers.specs.Part.{partOf, placeIn, copied};
 
-// Returns `count` of the bytes, the first of them at `from`, as far as they go; as a part of the
-// very bytes that were lent.
+// Returns at most `count` of the bytes, from byte `from` on, as a part of the very bytes that were
+// lent. Where the bytes end before, the part ends there as well.
 pub fn part_of(bytes: &[u8], from: usize, count: usize) -> &[u8]
     ensures { λ r. ⌜ (now r ≡ partOf (now (bytes .entry)) from count)
         × (ptr r ≡ placeIn (ptr (bytes .entry)) (length (now (bytes .entry))) from) ⌝ }
@@ -21,12 +21,13 @@ pub fn part_of(bytes: &[u8], from: usize, count: usize) -> &[u8]
     &bytes[from..from + count]
 }
 
-// The words begin with the numbers of the bytes, as many as there is room for; no word beyond them
-// changes.
+// Copies the numbers in `bytes` to the beginning of `words`, as many as there is room for; no word
+// after them changes.
 pub fn copy_numbers(bytes: &[u8], words: &mut [u32])
     ensures { λ r. ⌜ now (words .exit) ≡ copied (now (bytes .entry)) (now (words .entry)) ⌝ }
 {
     let mut index = 0;
+    // Rests on answers: OutputLaws: written-more.
     while index < words.len() && index < bytes.len() / NUMBER_BYTES {
         words[index] = number_at(bytes, index);
         index += 1;

@@ -1,7 +1,7 @@
--- Why it holds: What a call hands out ascends past its place, and what it leaves after lies past
--- the place that it reaches, so the place tells the two apart.
--- What would break it: Were the place not the last item's, or an equal key taken for one past the
--- place, an item would be lost or come twice, and this would fall.
+-- Why it holds: What a call hands out ascends past its place, and what it leaves lies past the
+-- place that it reaches. So the place tells the two apart.
+-- What would break it: A place that is not the last item's, or an equal key taken for one past the
+-- place, would be caught here. With either, an item would be lost or come twice.
 use mathlib.Core.Path.{_≡_, refl, subst}
 use mathlib.Core.Logic.{_⊎_, inl, inr, ⊎-elim}
 use mathlib.Core.Bool.{Bool, true, false}
@@ -21,7 +21,7 @@ use Rattle.paging.specs.Page.{Spot, fresh, after, pastb, remains, handed
 use Rattle.paging.proofs.KeyLaws.{above-self, above-trans}
 
 module _ {A : Type 0} (key : A → List ℕ) where
-  -- strictly ascending by key
+  -- the items ascend strictly by key
   abbrev pub Ascends : List A → Type 0
   Ascends xs = EveryTwo (λ x y. aboveb (key y) (key x) ≡ true) xs
 
@@ -72,7 +72,7 @@ module _ {A : Type 0} (key : A → List ℕ) where
   run-take place (suc n) [] r = tt
   run-take place (suc n) (x ∷ xs) r = (r .0, run-take (after (key x)) n xs (r .1))
 
-  -- what remains of an ascending listing runs on from the place
+  -- what remains of an ascending listing is a run from the place on
   pub run-remains : (place : Spot) (xs : List A) → Ascends xs → Run place (remains key place xs)
   unfolding remains
   run-remains place xs a =
@@ -91,7 +91,7 @@ module _ {A : Type 0} (key : A → List ℕ) where
         | inr k ↦ ⊎-elim (λ i. inl (List·Memᴰ·tail i)) inr (run-split (after (key y)) n xs (r .1) x k)
       ]
 
-  -- all that a call hands out runs on from its place
+  -- all that a call hands out is a run from its place on
   given-run : (place : Spot) (call : Call A) → Ascending call → Run place (given key place call)
   unfolding given handed
   given-run place refused a = tt
@@ -139,13 +139,13 @@ module _ {A : Type 0} (key : A → List ℕ) where
   unfolding pastb
   none-lost calls xs room a d x s i = none-lost-from fresh calls xs room a d x s i refl
 
-  -- no two items that a sequence of calls hands out have one key
+  -- no two items that a sequence of calls hands out have the same key
   pub no-key-twice : (calls : List (Call A)) → All Ascending calls → EveryTwo (λ x y. key x ≡ key y → ⊥) (allGiven key fresh calls)
   no-key-twice calls a =
       every-two-map (λ x y h e. never h (subst (λ k. aboveb k (key x) ≡ false) e (above-self (key x)))) (allGiven key fresh calls)
       (run-ascends fresh (allGiven key fresh calls) (calls-run fresh calls a))
 
-  -- a call hands out items of its own listing alone
+  -- a call hands out only items of its own listing
   pub own-listing : (place : Spot) (xs : List A) (room : ℕ) → All (λ x. In x xs) (handed key place room xs)
   unfolding handed remains
   own-listing place xs room =

@@ -1,7 +1,7 @@
--- Why it holds: Keys are compared number by number, so no key stands above itself, and above
--- follows above.
--- What would break it: A comparison that took an equal key, or that skipped a number, would be
--- caught here.
+-- Why it holds: Keys are compared number by number, so no key stands above itself. A key above a
+-- second one stands above all that the second stands above.
+-- What would break it: A comparison that took an equal key for one above, or that skipped a number,
+-- would be caught here.
 use mathlib.Core.Path.{_≡_, refl, _∙_}
 use mathlib.Core.Logic.{_⊎_, inl, inr}
 use mathlib.Core.Bool.{true, false, _&&_}
@@ -19,7 +19,7 @@ unfolding aboveb
 above-self [] = refl
 above-self (n ∷ k) = rw (le-ltb n n (omega arith), eq-eqb n n refl) (above-self k)
 
--- above by the first number, or by the rest
+-- a key stands above another by its first number, or by the rest
 abbrev Over : ℕ → List ℕ → ℕ → List ℕ → Type 0
 Over m j n k = (n < m) ⊎ ((m ≡ n) × (aboveb j k ≡ true))
 

@@ -1,6 +1,6 @@
--- Why it holds: What remains is chosen item by item, so it follows the listing's parts, and the
--- place reached follows the items handed out.
--- What would break it: An item that remained for what stands beside it, or a place that was not the
+-- Why it holds: What remains is chosen item by item, so what remains of two parts is what remains
+-- of each. The place reached is that of the last item handed out.
+-- What would break it: An item that remained because of its neighbour, or a place that was not the
 -- last item's, would be caught here.
 use mathlib.Core.Path.{_≡_, refl}
 use mathlib.Core.List.{List, [], _∷_, _++_}
@@ -14,7 +14,7 @@ pub remains-append : {A : Type 0} (key : A → List ℕ) (place : Spot) (xs ys :
 unfolding remains
 remains-append key place xs ys = keep-append (λ x. pastb place (key x)) xs ys
 
--- a function of the place reached is the place that the function's marks reach
+-- a function of the place reached is the place reached with that function applied to every mark
 pub reached-map : {A P Q : Type 0} (f : P → Q) (mark : A → P) (place : P) (xs : List A)
     → f (reached mark place xs) ≡ reached (λ x. f (mark x)) (f place) xs
 unfolding reached

@@ -57,8 +57,8 @@ module _ {A : Type 0} (words : A → List ℕ) (width : ℕ) where
         | inr h ↦ rw h (rw h at e)
       ]
 
-  -- a loop hands out items part by part, and what is left to serve is the whole: a part that found
-  -- room leaves the others,
+  -- a loop hands out items part by part, and serving what is left gives what serving the whole
+  -- gives: a part that found room leaves the others,
   pub left-on : (out : List ℕ) (n : ℕ) (xs ys : List A) {o : List ℕ} {d : ℕ} {b : Bool} {rest : List A} {whole : List ℕ × ℕ × Bool}
       → (o, d, b) ≡ serve words width out n xs → b ≡ true → rest ≡ xs ++ ys → serve words width out n rest ≡ whole → serve words width o d ys ≡ whole
   left-on out n xs ys {o} {d} p t r e =
@@ -76,12 +76,12 @@ module _ {A : Type 0} (words : A → List ℕ) (width : ℕ) where
   unfolding serve
   left-end out n t r e = same-answer refl refl t ∙ ap (serve words width out n) (sym r) ∙ e
 
-  -- an item stored keeps the output's length
+  -- storing an item keeps the length of the output
   pub store-length : (out : List ℕ) (count : ℕ) (x : A) → length (store words width out count x) ≡ length out
   unfolding store
   store-length out count x = length-sets out (width * count) (words x)
 
-  -- serving keeps the output's length
+  -- serving keeps the length of the output
   pub serve-length : (out : List ℕ) (count : ℕ) (xs : List A) → length (serve words width out count xs .0) ≡ length out
   unfolding serve
   serve-length out count [] = refl
@@ -105,7 +105,7 @@ module _ {A : Type 0} (words : A → List ℕ) (width : ℕ) where
         | inr h ↦ rw h l
       ]
 
-  -- an item stored right after the words before it
+  -- an item is stored right after the words before it
   store-behind : (front rest : List ℕ) (count : ℕ) (x : A) → length (words x) ≡ width → length front ≡ width * count
       → count < length (front ++ rest) / width → store words width (front ++ rest) count x ≡ front ++ words x ++ drop (length (words x)) rest
   unfolding store
@@ -115,7 +115,7 @@ module _ {A : Type 0} (words : A → List ℕ) (width : ℕ) where
       let one : width * (count + 1) ≡ width * count + width = mul-add width count 1 ∙ ap (λ n. width * count + n) (mul-one width) in
       ap (λ n. sets (front ++ rest) n (words x)) (sym l) ∙ sets-behind front rest (words x) (omega arith)
 
-  -- after words that stand, the items that find room follow
+  -- the items that find room follow the words that stand already
   serve-behind : ((x : A) → length (words x) ≡ width) → (front rest : List ℕ) (count room : ℕ) (xs : List A) → length front ≡ width * count
       → length (front ++ rest) / width ≡ count + room
       → serve words width (front ++ rest) count xs

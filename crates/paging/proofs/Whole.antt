@@ -1,8 +1,8 @@
 -- Why it holds: The place that a call reaches leaves of an unaltered listing just what the call did
--- not hand out, so the pages put together are the listing, and rooms that together suffice bring it
+-- not hand out. So the pages put together are the listing, and rooms that together suffice bring it
 -- to its end.
--- What would break it: Were a page to begin before or after where the last one ended, or to leave
--- room unused, this would fall.
+-- What would break it: A page that began before or after where the last one ended, or that left
+-- room unused, would be caught here.
 use mathlib.Core.Path.{_≡_, refl, ap, _∙_}
 use mathlib.Core.Bool.{true, false}
 use mathlib.Core.List.{List, [], _∷_, _++_, map, append-nil}
@@ -30,14 +30,14 @@ module _ {A : Type 0} (key : A → List ℕ) where
   end-past place [] r k p = p
   end-past place (x ∷ xs) r k p = past-trans key place (key x) k (r .0) (end-past (after (key x)) xs (r .1) k p)
 
-  -- and the key of that place doesn't
+  -- and the key of the place where the run began doesn't
   end-behind : (j : List ℕ) (xs : List A) → Run key (after j) xs → pastb (end (after j) xs) j ≡ false
   unfolding reached pastb
   end-behind j [] r = above-self j
   end-behind j (x ∷ xs) r =
       not-so (λ p. never (above-trans j (key x) j (end-past (after (key x)) xs (r .1) j p) (r .0)) (above-self j))
 
-  -- of a run all but its first n items lie past the place that these reach
+  -- all items of a run but its first n lie past the place that these reach
   run-rest : (place : Spot) (n : ℕ) (xs : List A) → Run key place xs → remains key (end place (take n xs)) xs ≡ drop n xs
   unfolding remains reached keep
   run-rest place zero xs r = keep-all (λ x. pastb place (key x)) xs (run-past key place xs r)

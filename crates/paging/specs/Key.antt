@@ -5,7 +5,7 @@ use mathlib.Core.Bool.{Bool, true, false, _&&_, _||_}
 use mathlib.Core.List.{List, [], _∷_}
 use lib.Dec.{ltb, eqb}
 
--- the first key stands above the second
+-- The first key stands above the second.
 unfoldable pub aboveb : List ℕ → List ℕ → Bool
 aboveb [] k = false
 aboveb (m ∷ j) [] = true

@@ -1,5 +1,5 @@
 -- What a page of a listing is, whatever is listed: `Key` orders the keys, `Page` says what a call
--- hands out, `Calls` follows a sequence of calls.
+-- hands out, and `Calls` follows a sequence of calls.
 pub mod Calls
 pub mod Key
 pub mod Page

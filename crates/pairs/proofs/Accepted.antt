@@ -1,5 +1,5 @@
--- Why it holds: Two lists that are accepted together are sound, ascend, and no node of one is at
--- odds with a node of the other; so each earlier node is fine with each later one, at any index.
+-- Why it holds: Two lists that are accepted together are sound and ascend, and no node of one is at
+-- odds with a node of the other. So each earlier node is fine with each later one, at any index.
 -- What would break it: An accepted pair of lists with a crossing would be caught here.
 use mathlib.Core.Path.{_≡_}
 use mathlib.Core.Bool.{true, false}

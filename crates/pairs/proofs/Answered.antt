@@ -1,7 +1,7 @@
--- Why it holds: A refused call has nothing to hand out, and an accepted one no more than fits, so
--- what it writes stays within the output and ends where it counts.
--- What would break it: A refusal that moved the ticket, a word altered after the last pair, or a
--- first page that left out a pair in spite of room would be caught here.
+-- Why it holds: A refused call has nothing to hand out, and an accepted one hands out no more than
+-- fits. So what it writes stays within the output and ends where it counts.
+-- What would break it: A refusal that moved the ticket, or a word altered after the last pair,
+-- would be caught here. So would a first page that left out a pair in spite of room.
 use mathlib.Core.Path.{_≡_, refl, sym, ap, _∙_}
 use mathlib.Core.Logic.{inl, inr}
 use mathlib.Core.Bool.{true, false}

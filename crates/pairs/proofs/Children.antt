@@ -1,5 +1,5 @@
--- Why it holds: Directly inside an ancestor lies what is in its run and one level deeper; what a
--- zone after it holds lies deeper still, so it is passed unseen.
+-- Why it holds: A child of an ancestor lies in its run and is one level deeper. What a zone after
+-- it holds lies deeper still, so it is passed unseen.
 -- What would break it: A child passed over with an inner zone, or a grandchild taken for a child,
 -- would be caught here.
 use mathlib.Core.Path.{_≡_, refl, ap, sym, subst, _∙_}
@@ -38,7 +38,7 @@ use Rattle.pairs.proofs.Accepted.{Accepted, accepted}
 use Rattle.pairs.proofs.Running.{running-from, end-from, inside-run}
 use Rattle.pairs.proofs.Stretches.{stretch-next, stretch-none}
 
--- what holds of all nodes of words, or of all pairs of them, holds at each index
+-- what holds of all nodes of the words, or of all pairs of them, holds at each index
 node-all : (ws : List ℕ) (P : Node → Type 0) (i : ℕ) → i < count ws → All P (nodes ws) → P (nodeAt ws i)
 unfolding nodeAt
 node-all ws P i l h = all-at P (nodes ws) i (node 0 0 0 0) (omega (arith, length-nodes ws)) h
@@ -73,11 +73,11 @@ module _ (ws : List ℕ) (a : Node) where
       let t : directlyb (nodeAt ws k) a ≡ true = directly-make (nodeAt ws k) a (inside-run ws a k k r (omega arith) h) (rw (← q) e) in
       rw (nodes-from ws k l, t, s) refl
 
-  -- one that isn't is no child
+  -- a descendant that isn't one level deeper is no child
   not-deeper : (d : Node) → (d .level ≡ a .level + 1 → ⊥) → directlyb d a ≡ false
   not-deeper d n = not-so (λ h. n (directly-inside d a h .1))
 
-  -- so its group comes first, in words
+  -- the same with places in words: the child's group comes first of what is left
   child-group : (from k level : ℕ) (d : Node) → Placed ws k → k < length ws → Running ws a (from / 4) → from ≤ k → k / 4 < runEnd ws a (from / 4)
       → d ≡ nodeAt ws (k / 4) → d .level ≡ level → level ≡ a .level + 1
       → group Ancestor a (matches (asked Directly Ancestor) a (drop (k / 4) (nodes ws)))
@@ -94,7 +94,7 @@ module _ (ws : List ℕ) (a : Node) where
       (omega arith) (omega arith))
       ∙ map-append (pairOf Ancestor a) (nodeAt ws (k / 4) ∷ []) ms ∙ ap (λ ns. group Ancestor a ns ++ group Ancestor a ms) (sym one)
 
-  -- and a group that found room leaves those after it to serve, while one that didn't ends the page
+  -- a group that found room leaves those after it to serve, and one that didn't ends the page
   pub child-on : (from k level : ℕ) (d : Node) → Placed ws k → k < length ws → Running ws a (from / 4) → from ≤ k
       → k / 4 < runEnd ws a (from / 4) → d ≡ nodeAt ws (k / 4) → d .level ≡ level → level ≡ a .level + 1 → (out : List ℕ) (n : ℕ) {o : List ℕ} {m : ℕ} {b : Bool} {whole : List ℕ × ℕ × Bool}
       → (o, m, b) ≡ servedGroup Ancestor out n a (stretch ws k (k + 4)) → b ≡ true
@@ -115,7 +115,7 @@ module _ (as′ ws : List ℕ) (taken : checkTwo as′ ws .answer ≡ TAKEN) whe
   pub even-at : (z : ℕ) → z < count as′ → All (λ d. oddsb (nodeAt as′ z) d ≡ false) (nodes ws)
   even-at z l = node-all as′ (λ x. All (λ d. oddsb x d ≡ false) (nodes ws)) z l (accepted as′ ws taken .even)
 
-  -- from a descendant that stands after a zone on, all do
+  -- if a descendant stands after a zone, so do all descendants from there on
   zone-running : (z k : ℕ) (x d : Node) → z < count as′ → k < count ws → x ≡ nodeAt as′ z → d ≡ nodeAt ws k → afterb d x ≡ true → Running ws x k
   zone-running z k x d l m p q h =
       let t = two-taken-iff as′ ws .0 taken .1 in

@@ -1,7 +1,7 @@
 -- Why it holds: At each descendant the ancestors on the stack are those that started before it and
--- have not ended, and the stack stands for the descendants to come.
--- What would break it: A zone left for good while descendants are still to come, or one joined only
--- while it is the innermost, would be caught here.
+-- have not ended. They stand for the ancestors passed at the descendants to come.
+-- What would break it: A zone taken off the stack while it is still open would be caught here. So
+-- would one that is joined only while it is the innermost.
 use mathlib.Core.Path.{_≡_, refl, ap, subst, _∙_}
 use mathlib.Core.Bool.{true, false, Bool}
 use mathlib.Core.List.{List, _++_, reverse}

@@ -1,7 +1,7 @@
--- Why it holds: The ticket keeps relation, order and the last pair's key, so a sequence of calls is
--- one of paging's, with the listing of each call's own lists.
--- What would break it: Were a pair lost or handed out twice between pages, for any edits in
--- between, this would fall.
+-- Why it holds: The ticket keeps the relation, the order and the key of the last pair. So a
+-- sequence of calls is one of paging's, with the listing of each call's own lists.
+-- What would break it: A pair that is lost or handed out twice between pages, for any edits in
+-- between, would be caught here.
 use mathlib.Core.Path.{_≡_, refl, sym, ap, subst, _∙_}
 use mathlib.Core.Logic.{inl, inr}
 use mathlib.Core.Bool.{true, false, cond}
@@ -31,7 +31,7 @@ use Rattle.pairs.specs.Page.{listingOf, handedOut, saysDone, ticketAfter
 use Rattle.pairs.proofs.Answered.{not-refused, is-accepted, lists-ascend}
 use Rattle.pairs.proofs.Shown.{shown-is}
 
--- of related pairs, the same starts are the same key
+-- related pairs with the same starts have the same key
 pub same-key : (relation : Relation) (order : Order) (p q : Pair) → relatedb relation p ≡ true → relatedb relation q ≡ true → SameStarts p q
     → sortKey order p ≡ sortKey order q
 unfolding keyOf
@@ -53,7 +53,7 @@ handed-own t c =
           (own-listing (sortKey (t .order)) (spotOf (t .place)) xs (room (c .out))))
     ]
 
--- a call hands out related pairs of its own two lists alone
+-- a call hands out only related pairs of its own two lists
 pub own-lists : (t : Ticket) (c : Call) → All (λ p. StandsIn p c × (askedb (askedBy t) p ≡ true)) (shown t c)
 own-lists t c = subst (All (λ p. StandsIn p c × (askedb (askedBy t) p ≡ true))) (sym (shown-is t c)) (handed-own t c)
 
@@ -65,7 +65,7 @@ fills-room t c a d =
     (rw (not-refused c a) at d))
 
 module _ (ask : Asked) where
-  -- a call as paging knows it
+  -- a call in the terms of the crate `paging`
   pub callOf : Call → PagingCall Pair
   callOf c = cond (refusedb (checkTwo (c .ancestors) (c .descendants))) refused (accepted (fullListing ask c) (room (c .out)))
 

@@ -1,14 +1,15 @@
--- Theorems for the reader: `Answered` says what a call answers, `Shown` that its output shows the
--- pairs it hands out, `Following` follows one listing through calls, `Unaltered` does so on lists
--- that nobody alters, and `Only` says that no second answer satisfies the contract. Laws for the
--- code: `Accepted` is what two accepted lists give at any index; `Stretches` says how a group is
--- served from one place to another; `SweepStart` where a sweep starts and which followers of a
--- leader lie past the place; `OpenNodes` how the chain of open ancestors grows and shrinks,
--- `OpenStack` does so for the stack, `Matching` says which of them match a descendant,
--- `StackMatches` where these lie on the stack, and `Descending` what a sweep along the descendants
--- has left. `Running` is an ancestor's run of descendants, `Children` says which of them lie
--- directly inside and which an inner zone holds, and `Zones` what a sweep along the ancestors has
--- left; `ListingGroups` turns what matches into groups, and `Paged` what was served into the page.
+-- Theorems for the reader: `Answered` says what a call answers, and `Shown` that its output shows
+-- the pairs it hands out. `Following` follows one listing through calls, and `Unaltered` does so on
+-- lists that nobody alters. `Only` says that no second answer satisfies the contract.
+-- Laws for the code: `Accepted` is what two accepted lists give at any index, and `Stretches` says
+-- how a group is served from one place to another. `SweepStart` says where a sweep starts and which
+-- followers of a leader lie past the place. `OpenNodes` says how the chain of open ancestors grows
+-- and shrinks, and `OpenStack` says so of the stack. `Matching` says which of them match a
+-- descendant, `StackMatches` where these lie on the stack, and `Descending` what a sweep along the
+-- descendants has left. `Running` is an ancestor's run of descendants. `Children` says which of
+-- them lie directly inside and which an inner zone holds. `Zones` says what a sweep along the
+-- ancestors has left. `ListingGroups` turns what matches into groups, and `Paged` what was served
+-- into the page.
 pub mod Accepted
 pub mod Answered
 pub mod Children

@@ -1,4 +1,4 @@
--- Why it holds: The pairs of a leader that have the relation are its group with the followers that
+-- Why it holds: A leader's pairs that have the relation are its group with the followers that
 -- match, and the starts of these rise.
 -- What would break it: A follower that matches and is left out, or two that come in the wrong
 -- order, would be caught here.
@@ -33,7 +33,7 @@ rising x [] f h = tt
 rising x (z ∷ zs) f h = (all-both (λ n g d. after-starts n z (g .after) (sym (h .0) ∙ d)) zs (f .0) (h .1), rising x zs (f .1) (h .1))
 
 module _ (relation : Relation) (order : Order) (x : Node) where
-  -- keeping pairs of a group keeps followers
+  -- keeping the related pairs of a group keeps the followers that match
   group-kept : (ys : List Node) → keep (relatedb relation) (group order x ys) ≡ group order x (matches (asked relation order) x ys)
   unfolding group matches keep
   group-kept [] = refl

@@ -1,7 +1,7 @@
 -- Why it holds: Only open ancestors contain a descendant, so the chain of open ones answers for
--- all; each of them contains it, and only the innermost directly.
--- What would break it: Joining with the innermost alone, or directly without the level, would be
--- caught here.
+-- all. Each of them contains it, and only the innermost can contain it directly.
+-- What would break it: A join with the innermost alone, or a direct join that ignores the level,
+-- would be caught here.
 use mathlib.Core.Path.{_≡_, refl, ap, sym, _∙_}
 use mathlib.Core.Logic.{inl}
 use mathlib.Core.Bool.{Bool, true, false, cond}

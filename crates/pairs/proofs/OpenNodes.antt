@@ -1,7 +1,7 @@
--- Why it holds: The open ancestors lie one inside the other and stand for all ancestors before;
--- those left out have ended before every node still to come.
--- What would break it: Were an open zone left out, or one taken off for good while it is open,
--- `open-skip` or `open-left` would fall.
+-- Why it holds: The open ancestors lie one inside the other and stand for all ancestors before.
+-- Those left out have ended before every node still to come.
+-- What would break it: An open zone that is left out would be caught at `open-skip`. One taken off
+-- for good while it is open would be caught at `open-left`.
 use mathlib.Core.Path.{_≡_, refl, subst, sym, _∙_}
 use mathlib.Core.Logic.{inl, inr, ⊎-elim}
 use mathlib.Core.Bool.{true, false}
@@ -31,7 +31,8 @@ upon-open n (e ∷ s) t f o =
     let p = open-read n e (o .0) in
     ⊎-elim (λ q. absurd (omega (arith, p))) (λ q. nested-read n e q) (fine-settles n e (t .span) (f .0) (p .document))
 
--- what lies under an open one contains it and is open too, so all that are left of a chain are open
+-- what lies under an open node contains it and is open too, so all that are left of a chain are
+-- open
 under-open : (n e : Node) (s : List Node) → Chain (e ∷ s) → openb n e ≡ true → All (λ f. openb n f ≡ true) s
 under-open n e [] c o = tt
 under-open n e (f ∷ s) c o =
@@ -45,7 +46,7 @@ unfolding unended
 left-open n [] c = tt
 left-open n (e ∷ s) c = elim (either (openb n e)) [ inl o ↦ rw o (o, under-open n e s c o) | inr o ↦ rw o (left-open n s (c .2)) ]
 
--- those left of a chain stood in it
+-- what is left of a chain stood in it before
 among-left : (n : Node) (before s : List Node) → All (λ e. In e before) s → All (λ e. In e before) (unended n s)
 unfolding unended
 among-left n before [] h = tt

@@ -1,5 +1,5 @@
--- Why it holds: A sweep passes the ancestors in their order; each that stands before the descendant
--- and is open at it fits onto the stack, the others are left out.
+-- Why it holds: A sweep passes the ancestors in their order. Each that stands before the descendant
+-- and is open at it fits onto the stack; the others are left out.
 -- What would break it: A stack that could overflow, or an open ancestor that is passed without
 -- being put on it, would be caught here.
 use mathlib.Core.Path.{_≡_}

@@ -1,6 +1,6 @@
--- Why it holds: Serving what remains from the beginning shows the first of it that fits, and the
+-- Why it holds: Serving what remains from the beginning writes the first of it that fits, and the
 -- place of the last pair can be read off the output.
--- What would break it: A call that is done because its room is full, or whose place lies past what
+-- What would break it: A call that is done although its room ran out, or whose place lies past what
 -- it wrote, would be caught here.
 use mathlib.Core.Path.{_≡_, refl, ap, _∙_}
 use mathlib.Core.Bool.{Bool, false}

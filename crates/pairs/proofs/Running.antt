@@ -1,7 +1,7 @@
 -- Why it holds: The descendants inside an ancestor are a run: they begin with the first that stands
 -- after it and end with the first at which it isn't open.
 -- What would break it: A run that began late or ended early would leave out a pair, and one that
--- went on would take a node outside; either would be caught here.
+-- went on would take a node outside. Either would be caught here.
 use mathlib.Core.Path.{_≡_, refl, ap, sym, subst, _∙_}
 use mathlib.Core.Logic.{_⊎_, inl, inr, ⊎-elim}
 use mathlib.Core.Bool.{Bool, true, false, not}
@@ -60,7 +60,7 @@ module _ (a : Node) where
   unfolding matches pairOf
   match-none relation zs h = keep-none _ zs (all-map (λ z n. not-so (λ m. never (related-inside relation _ m) n)) zs h)
 
-  -- where the ancestor isn't open, it isn't at a later node
+  -- where the ancestor isn't open at a node, it isn't open at a later one
   later-shut : (d : Node) (zs : List Node) → Run a (d ∷ zs) → openb d a ≡ false → All (λ z. openb z a ≡ false) zs
   later-shut d zs r o = all-map (λ z g. shut-later z d a o (r .fine .0 .after) (g .after)) zs (r .pairs .0)
 
@@ -76,7 +76,7 @@ module _ (a : Node) where
         | inr h ↦ absurd (never o (all-at (λ z. openb z a ≡ false) zs i (node 0 0 0 0) (omega arith) (later-shut d zs r h)))
       ]
 
-  -- at all from the run's end on it isn't open
+  -- at all nodes from the run's end on it isn't open
   run-rest : (zs : List Node) → Run a zs → All (λ z. openb z a ≡ false) (drop (firstAt (λ d. not (openb d a)) zs) zs)
   unfolding firstAt
   run-rest [] r = tt
@@ -142,7 +142,8 @@ module _ (ws : List ℕ) (a : Node) where
             (subst (All (λ d. afterb d a ≡ true)) (drop-drop (m - k) k (nodes ws)) (all-drop _ (m - k) (drop k (nodes ws)) (r .after)));
       }
 
-  -- whether there is a descendant at an index at which the ancestor is open, made and read
+  -- makes and reads the test whether there is a descendant at an index and the ancestor is open at
+  -- it
   pub running-none : (k : ℕ) → count ws ≤ k → false ≡ runningb ws a k
   unfolding runningb
   running-none k h = rw (le-ltb _ _ h)
@@ -189,11 +190,11 @@ module _ (ws : List ℕ) (a : Node) where
       let q : drop m (nodes ws) ≡ drop (m - k) (drop k (nodes ws)) = sym (drop-drop (m - k) k (nodes ws) ∙ ap (λ i. drop i (nodes ws)) e) in
       rw q (omega arith)
 
-  -- it ends in the list or at its end
+  -- the run ends in the list or at its end
   pub end-in : (k : ℕ) → k ≤ count ws → runEnd ws a k ≤ count ws
   end-in k h = omega (arith, first-in (λ d. not (openb d a)) (drop k (nodes ws)), length-drop k (nodes ws), length-nodes ws)
 
-  -- and each descendant before that lies inside
+  -- each descendant before its end lies inside the ancestor
   pub inside-run : (k j : ℕ) → Running ws a k → k ≤ j → j < runEnd ws a k → insideb (nodeAt ws j) a ≡ true
   unfolding nodeAt
   inside-run k j r l h =
@@ -208,7 +209,7 @@ module _ (ws : List ℕ) (a : Node) where
       (open-inside a (getD zs (j - k) (node 0 0 0 0)) (all-at Sound zs (j - k) (node 0 0 0 0) (omega arith) (run .sound))
       (all-at (Fine a) zs (j - k) (node 0 0 0 0) (omega arith) (run .fine)) o)
 
-  -- the same in words: a place goes on to the next, and from there to one further
+  -- the same with places in words: a place goes on to the next, and from there to one further
   pub further-none : (k : ℕ) → k % 4 ≡ 0 → Running ws a (k / 4) → Further ws a k k
   further-none k m r = (m, omega arith, r, refl)
 
@@ -224,7 +225,7 @@ module _ (ws : List ℕ) (a : Node) where
   pub further-stops : (k m : ℕ) → Further ws a k m → runningb ws a (m / 4) ≡ false → m / 4 ≡ runEnd ws a (k / 4)
   further-stops k m f o = sym (run-stops (m / 4) o) ∙ f .3
 
-  -- from its end on nothing lies inside
+  -- from the run's end on nothing lies inside
   pub none-match : (relation : Relation) (k m : ℕ) → Running ws a k → runEnd ws a k ≤ m → matches (asked relation Ancestor) a (drop m (nodes ws)) ≡ []
   none-match relation k m r h =
       let zs : List Node = drop k (nodes ws) in
@@ -238,7 +239,7 @@ module _ (ws : List ℕ) (a : Node) where
       (shut-none a relation (drop (m - k - n) (drop n zs)) (all-drop Sound (m - k - n) (drop n zs) (all-drop Sound n zs (run .sound)))
       (all-drop _ (m - k - n) (drop n zs) (run-rest a zs run)))
 
-  -- the descendants inside are those from a place to the run's end
+  -- the descendants inside the ancestor are those from a place to the run's end
   pub run-stretch : (from to : ℕ) → Running ws a (from / 4) → to / 4 ≡ runEnd ws a (from / 4)
       → stretch ws from to ≡ matches (asked Inside Ancestor) a (drop (from / 4) (nodes ws))
   run-stretch from to r q =

@@ -1,5 +1,5 @@
 -- Why it holds: A pair's eight words are its two nodes, and each pair's words follow those of the
--- pair before, so the output read in twos begins with the pairs.
+-- pair before. So the output, read two nodes at a time, begins with the pairs.
 -- What would break it: A pair written one word off, nodes in the wrong order, or a place that isn't
 -- that of the last pair written would be caught here.
 use mathlib.Core.Path.{_≡_, refl, sym, ap, _∙_}
@@ -23,13 +23,13 @@ use Rattle.pairs.specs.Calls.{Call, shown}
 use Rattle.pairs.specs.Page.{handedOut, pageOf, outputAfter}
 use Rattle.pairs.specs.Private.Sweep.{keyIn, placeReached}
 
--- words that begin with those of pairs, read in twos, begin with the pairs
+-- words that begin with those of pairs, read two nodes at a time, begin with the pairs
 pairs-first : (ps : List Pair) (rest : List ℕ) → pairsIn (nodes (wordsIn pairWords ps ++ rest)) ≡ ps ++ pairsIn (nodes rest)
 unfolding wordsIn flatMap pairWords wordsOf nodes pairsIn
 pairs-first [] rest = refl
 pairs-first (p ∷ ps) rest = ap (λ qs. p ∷ qs) (pairs-first ps rest)
 
--- the words of pairs alone are the pairs
+-- the words of some pairs, read back, are the pairs
 pub pairs-read : (ps : List Pair) → pairsIn (nodes (wordsIn pairWords ps)) ≡ ps
 unfolding nodes pairsIn
 pairs-read ps = ap (λ words. pairsIn (nodes words)) (sym (append-nil (wordsIn pairWords ps))) ∙ pairs-first ps [] ∙ append-nil ps
@@ -41,7 +41,7 @@ shown-is t c =
     let given = handedOut (c .ancestors) (c .descendants) t (c .out) in
     ap (take (length given)) (pairs-first given _) ∙ take-append-seam given _
 
--- the node at an index after two nodes
+-- after two nodes, the node at an index is the one two places earlier in the rest
 beyond : (x y : Node) (ns : List Node) {k m : ℕ} → m ≡ suc (suc k) → getD (x ∷ y ∷ ns) m (node 0 0 0 0) ≡ getD ns k (node 0 0 0 0)
 beyond x y ns q = rw q
 

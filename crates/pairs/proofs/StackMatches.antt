@@ -1,7 +1,7 @@
--- Why it holds: On the stack, what matches a descendant is the whole of it, the innermost alone, or
--- nothing; each is a stretch that ends at the top.
--- What would break it: A stretch that began one node off, or took in an ancestor two levels up as
--- directly containing, would be caught here.
+-- Why it holds: On the stack, what matches a descendant is all of it, the innermost alone, or
+-- nothing. Each is a stretch that ends at the top.
+-- What would break it: A stretch that began one node off, or that took an ancestor two levels up
+-- for a parent, would be caught here.
 use mathlib.Core.Path.{_≡_, refl, ap, sym, _∙_}
 use mathlib.Core.Bool.{Bool, true, false, cond}
 use mathlib.Core.List.{List, [], _∷_, reverse}
@@ -24,19 +24,19 @@ use Rattle.pairs.specs.Private.Sweep.{Placed, stretch, startsFrom, fromS
 use Rattle.pairs.proofs.Matching.{firsts-turned, inside-all, directly-top}
 use Rattle.pairs.proofs.Stretches.{stretch-ahead, served-as}
 
--- from r on up to the top lies what matches
+-- what matches lies on the stack from r on up to the top
 abbrev Stretch : Relation → Node → List ℕ → ℕ → ℕ → Type 0
 Stretch relation d ws used r =
     (r % 4 ≡ 0) × (r ≤ used) × (reverse (matches (asked relation Descendant) d (opened used ws)) ≡ stretch ws r used)
 
 module _ (relation : Relation) (d : Node) (ws : List ℕ) (used : ℕ) where
-  -- an empty stack
+  -- on an empty stack nothing matches
   pub match-none : used ≡ 0 → Stretch relation d ws used 0
   unfolding matches keep firsts
   match-none q = (refl, omega arith, rw q refl)
 
   module _ (l : Placed ws used) (c : Chain (opened used ws)) (u : Upon d (opened used ws)) where
-    -- inside all of them
+    -- the descendant lies inside all of them
     pub match-all : relation ≡ Inside → Stretch relation d ws used 0
     match-all q = (
       refl,
@@ -55,20 +55,20 @@ module _ (relation : Relation) (d : Node) (ws : List ℕ) (used : ℕ) where
       top-matches =
           ap (matches (asked Directly Descendant) d) at-top ∙ directly-top d e (opened (used - 4) ws) (rw at-top at c) (rw at-top at u)
 
-      -- directly inside the innermost
+      -- it lies directly inside the innermost
       pub match-top : deeperb d e ≡ true → Stretch relation d ws used (used - 4)
       match-top t =
           let one : used / 4 - (used - 4) / 4 ≡ 1 = omega arith in
           (omega arith, omega arith, rw (q, top-matches, t, one, nodes-from ws ((used - 4) / 4) (omega arith), ← h) refl)
 
-      -- directly inside none
+      -- it lies directly inside none
       pub match-past : deeperb d e ≡ false → Stretch relation d ws used used
       match-past t =
           let none : used / 4 - used / 4 ≡ 0 = omega arith in
           (l .1, le-refl used, rw (q, top-matches, t, none) refl)
 
--- from the first node that starts late enough on lies what is left of what matches, so serving it
--- from there on serves that
+-- what is left of what matches lies from the first node on that starts late enough, so serving from
+-- there on serves it
 module _ (ws : List ℕ) (from to ahead past : ℕ) (q : ahead / 4 ≡ firstAt (startsFrom past) (stretch ws from to) + from / 4)
     (relation : Relation) (d e : Node) (h : e ≡ d) (m : reverse (matches (asked relation Descendant) e (opened to ws)) ≡ stretch ws from to) where
   match-ahead : stretch ws ahead to ≡ fromStart past (reverse (matches (asked relation Descendant) d (opened to ws)))

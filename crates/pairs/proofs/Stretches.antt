@@ -1,6 +1,6 @@
--- Why it holds: A group is served follower by follower: one that fits is stored, one that doesn't
--- ends it, and so does the last.
--- What would break it: A pair stored one off, a follower skipped or a count of what fits that is
+-- Why it holds: A group is served follower by follower. A pair that fits is stored; one that
+-- doesn't fit ends the group, and so does the last follower.
+-- What would break it: A pair stored one off, a skipped follower, or a count of what fits that is
 -- one off would be caught here.
 use Prim.Native.Nat.{ℕ, zero, suc, _+_, _-_, _*_, _/_, _%_, _≤_, _<_, zero-le}
 use mathlib.Core.Path.{_≡_, refl, sym, ap, subst, _∙_}
@@ -47,7 +47,7 @@ take-less (suc m) (suc n) [] h = refl
 take-less (suc m) (suc n) (x ∷ xs) h = ap (λ ys. x ∷ ys) (take-less m n xs (omega arith))
 
 module _ (order : Order) (x : Node) where
-  -- nodes of which none finds room
+  -- where the output is full, none of the nodes finds room
   none-fit : (out : List ℕ) (n : ℕ) (ys : List Node) → room out ≤ n → 0 < length ys
       → _≡_ {A = List ℕ × ℕ × Bool} (out, n, false) (servedGroup order out n x ys)
   unfolding group
@@ -90,7 +90,7 @@ module _ (order : Order) (x : Node) where
       continued t out us written x₁ x₂ y v e₂ h e₁ e r s =
           v ∙ ap (λ z. servedGroup order us (written + 1) z (stretch ws (from + 4) to)) e₂ ∙ stored out us written x₁ y h e₁ e r s
 
-      -- it finds no room, or it was the last
+      -- the first pair finds no room, or it was the last
       pub cut : (out : List ℕ) (written : ℕ) → from < to → room out ≤ written
           → _≡_ {A = List ℕ × ℕ × Bool} (out, written, false) (servedGroup order out written x (stretch ws from to))
       cut out written h r = none-fit out written (stretch ws from to) r (subst (λ ys. 0 < length ys) (sym (stretch-next ws from to p q h)) (omega arith))
@@ -136,12 +136,12 @@ module _ (order : Order) (x : Node) where
             rw (ne-eqb fit wanted (λ o. omega arith))
             (none-fit us (written + fit) (drop fit (take wanted zs)) (omega (arith, same-room)) (omega (arith, left)))
 
--- the followers of a group that is served may be said in another way
+-- the followers of a group that is served may be written in another way
 pub served-as : (order : Order) (out : List ℕ) (written : ℕ) (x : Node) {ns ms : List Node} {r : List ℕ × ℕ × Bool}
     → r ≡ servedGroup order out written x ns → ns ≡ ms → r ≡ servedGroup order out written x ms
 served-as order out written x p q = p ∙ ap (servedGroup order out written x) q
 
--- the same of a part of the words, whose length tells how many fit
+-- the same for a part of the words, whose length tells how many fit
 module _ (order : Order) (x : Node) (ws : List ℕ) (from to m fit : ℕ) (p : Placed ws from) (q : Placed ws to) (h : from ≤ to) (e : m ≡ 4 * fit)
     (f : fit ≤ (to - from) / 4) where
   part-nodes : nodes (take m (drop from ws)) ≡ take fit (drop (from / 4) (nodes ws))
@@ -167,7 +167,7 @@ module _ (order : Order) (x : Node) (ws : List ℕ) (from to m fit : ℕ) (p : P
       (omega (arith, length-drop (from / 4) (nodes ws), length-nodes ws)) f t g)
       (ap (λ k. take k (drop (from / 4) (nodes ws))) w)
 
--- the first start from which on all nodes start
+-- every node starts at 0 or later, so the search finds the first
 pub first-zero : (ns : List Node) → firstAt (startsFrom 0) ns ≡ 0
 unfolding firstAt
 first-zero [] = refl

@@ -1,4 +1,4 @@
--- Why it holds: A sweep starts at the first leader that isn't before the place's own, where a
+-- Why it holds: A sweep starts at the first leader that isn't before the place's own. There a
 -- number tells which followers lie past the place; for every later leader all do.
 -- What would break it: A sweep that started one leader late, or left out a follower of a leader
 -- after the place's own, would be caught here.
@@ -31,11 +31,11 @@ pub served-in : (place : Place) (ws : List ℕ) (first : ℕ) → first ≡ serv
 unfolding servedIn
 served-in place ws first q = let h = first-in (λ x. not (servedb place x)) (nodes ws) in omega (arith, length-nodes ws)
 
--- for a place a sweep starts at this leader with this number
+-- a sweep for the place starts at the leader `first`, with the number `past`
 abbrev pub Started : Place → List ℕ → ℕ → ℕ → Type 0
 Started place ws first past = (first ≡ servedIn place (nodes ws)) × (past ≡ pastFrom place (nodeAt ws first))
 
--- at a leader a number tells which followers lie past a place
+-- at the leader at the word j, the number `past` tells which followers lie past the place
 abbrev pub Tells : Place → List ℕ → ℕ → ℕ → Type 0
 Tells place ws past j = j < length ws → Past place past (nodeAt ws (j / 4))
 

@@ -1,7 +1,7 @@
 -- Why it holds: Calls on the same two lists have the same full listing, so paging's pages of one
--- listing are theirs, whatever the room of each, and each leaves what it did not hand out.
--- What would break it: Were the listing not whole or not in order once a call is done, or not done
--- once the rooms suffice, this would fall.
+-- listing are theirs, whatever the room of each. Each call leaves what it did not hand out.
+-- What would break it: A listing that is not whole or not in order once a call is done would be
+-- caught here. So would a call that isn't done although the rooms suffice.
 use mathlib.Core.Path.{_≡_, refl, sym, ap, _∙_}
 use mathlib.Core.Bool.{true}
 use mathlib.Core.List.{List, [], _∷_, _++_, map, map-append}
@@ -37,7 +37,7 @@ module _ (ask : Asked) (c : Call) (a : AcceptedCall c) where
   ascends : Ascends (sortKey (ask .order)) whole
   ascends = let l = lists-ascend c a in listing-ascends ask (nodes (c .ancestors)) (nodes (c .descendants)) (l .0) (l .1)
 
-  -- two accepted lists have so few nodes that their listing has no more than 16,777,216 pairs
+  -- two accepted lists have so few nodes that their listing has at most 16,777,216 pairs
   pub whole-few : length whole ≤ MOST-NODES * MOST-NODES
   whole-few =
       let t = two-taken-iff (c .ancestors) (c .descendants) .0 a in

@@ -56,7 +56,7 @@ unfolding fromStart firstAt
 from-all past [] h = refl
 from-all past (z ∷ zs) h = rw (h .0) refl
 
--- of nodes whose starts rise, what is kept from a start on is what starts there of what is kept
+-- where the starts of nodes rise, a test and a cut at a start can be applied in either order
 keep-from : (test : Node → Bool) (past : ℕ) (zs : List Node) → EveryTwo (λ y z. y .start < z .start) zs
     → keep test (fromStart past zs) ≡ fromStart past (keep test zs)
 unfolding fromStart firstAt keep

@@ -15,50 +15,51 @@ use Rattle.tickets.specs.Ticket.{Asked}
 use Rattle.pairs.specs.declared.page.Page.{Page}
 use Rattle.pairs.specs.Page.{pageOf, outputAfter}
 
--- what a call is lent beside its ticket: two lists and an output
+-- What a call is lent in addition to its ticket: two lists and an output.
 pub record Call : Type 0 where
   pub ancestors : List ℕ
   pub descendants : List ℕ
   pub out : List ℕ
 
--- the two lists are accepted
+-- The two lists of the call are accepted.
 abbrev pub AcceptedCall : Call → Type 0
 AcceptedCall c = checkTwo (c .ancestors) (c .descendants) .answer ≡ TAKEN
 
--- the full listing of the two lists
+-- The full listing of the two lists.
 abbrev pub fullListing : Asked → Call → List Pair
 fullListing ask c = listing ask (nodes (c .ancestors)) (nodes (c .descendants))
 
--- two calls have the same lists
+-- The two calls have the same lists.
 abbrev pub SameLists : Call → Call → Type 0
 SameLists k c = (k .ancestors ≡ c .ancestors) × (k .descendants ≡ c .descendants)
 
--- a pair stands unaltered in the two lists, each node in its own
+-- The pair stands unaltered in the two lists, each node in its own.
 abbrev pub StandsIn : Pair → Call → Type 0
 StandsIn p c = In (p .ancestor) (nodes (c .ancestors)) × In (p .descendant) (nodes (c .descendants))
 
--- two pairs have one document, and their ancestors and descendants start at the same places
+-- The two pairs have one document, and their ancestors and descendants start at the same positions.
 abbrev pub SameStarts : Pair → Pair → Type 0
 SameStarts p q =
     (p .ancestor .document ≡ q .ancestor .document) × (p .ancestor .start ≡ q .ancestor .start) × (p .descendant .start ≡ q .descendant .start)
 
--- what a call answers, and its output on return
+-- The answer of a call.
 abbrev pub answer : Ticket → Call → Page
 answer t c = pageOf (c .ancestors) (c .descendants) t (c .out)
 
+-- The output of a call on return.
 abbrev pub output : Ticket → Call → List ℕ
 output t c = outputAfter (c .ancestors) (c .descendants) t (c .out)
 
--- the pairs that a call hands out: the first of its output, as many as it counts
+-- The pairs that a call hands out: the first of its output, as many as it counts.
 abbrev pub shown : Ticket → Call → List Pair
 shown t c = take (answer t c .count) (pairsIn (nodes (output t c)))
 
--- the ticket after a sequence of calls, each of which takes the ticket that the last one returned
+-- The ticket after a sequence of calls, each of which takes the ticket that the last one returned.
 unfoldable pub ticketThrough : Ticket → List Call → Ticket
 ticketThrough t [] = t
 ticketThrough t (c ∷ cs) = ticketThrough (answer t c .ticket) cs
 
--- all pairs that a sequence of calls hands out, in the order in which they came
+-- All pairs that a sequence of calls hands out, in the order in which they came.
 unfoldable pub shownThrough : Ticket → List Call → List Pair
 shownThrough t [] = []
 shownThrough t (c ∷ cs) = shown t c ++ shownThrough (answer t c .ticket) cs

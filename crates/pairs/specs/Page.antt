@@ -15,38 +15,38 @@ use Rattle.tickets.specs.PairWords.{pairWords, room}
 use Rattle.tickets.specs.Ticket.{spotOf, askedBy, ticketAt}
 use Rattle.pairs.specs.declared.page.Page.{Page}
 
--- the full listing that a ticket asks for
+-- The full listing that a ticket asks for.
 abbrev pub listingOf : Ticket → List ℕ → List ℕ → List Pair
 listingOf t ancestors descendants = listing (askedBy t) (nodes ancestors) (nodes descendants)
 
--- what remains of it past the ticket's place
+-- What remains of that listing past the ticket's place.
 abbrev pub remaining : Ticket → List ℕ → List ℕ → List Pair
 remaining t ancestors descendants = remains (sortKey (t .order)) (spotOf (t .place)) (listingOf t ancestors descendants)
 
--- one call: its two lists, its ticket and its output
+-- One call: its two lists, its ticket and its output.
 module _ (ancestors descendants : List ℕ) (t : Ticket) (out : List ℕ) where
-  -- the pairs that the call hands out: a refused one none, an accepted one the first that remain,
-  -- as many as fit
+  -- The pairs that the call hands out. A refused call hands out none; an accepted one hands out the
+  -- first that remain, as many as fit.
   unfoldable pub handedOut : List Pair
   handedOut =
       cond (refusedb (checkTwo ancestors descendants)) []
       (handed (sortKey (t .order)) (spotOf (t .place)) (room out) (listingOf t ancestors descendants))
 
-  -- done: the call is accepted and wrote all that remained
+  -- The call is done: it is accepted and wrote all that remained.
   unfoldable pub saysDone : Bool
   saysDone =
       cond (refusedb (checkTwo ancestors descendants)) false
       (doneb (sortKey (t .order)) (spotOf (t .place)) (room out) (listingOf t ancestors descendants))
 
-  -- the ticket that comes back: its place is the key of the last pair written, or the old place
-  -- when none was
+  -- The ticket that comes back. Its place is the key of the last pair written, or the old place
+  -- when none was.
   unfoldable pub ticketAfter : Ticket
   ticketAfter = ticketAt (askedBy t) (reached (λ p. After (keyOf (t .order) p)) (t .place) handedOut)
 
-  -- the answer
+  -- The answer of the call.
   unfoldable pub pageOf : Page
   pageOf = record { verdict = checkTwo ancestors descendants; count = length handedOut; done = saysDone; ticket = ticketAfter }
 
-  -- the output on return
+  -- The output on return.
   unfoldable pub outputAfter : List ℕ
   outputAfter = written (wordsIn pairWords handedOut) out

@@ -26,7 +26,7 @@ ghost use Rattle.lists.specs.Two.{checkTwo};
 ghost use Rattle.pairs.specs.Private.Sweep.{Placed, Running, Further, runningb, runEnd, RunFrom, matchesFrom, fromStart, servedGroup, servedAll};
 ghost use Rattle.tickets.specs.Ticket.{asked};
 
-// How many words further on the search for the end of a run looks: eight descendants.
+// The number of words by which the search for the end of a run moves on: eight descendants.
 const STRIDE: usize = 8 * NODE_WORDS;
 
 // What was handed out of an ancestor's run, and a guess of where the next run ends.
@@ -41,14 +41,15 @@ struct Passed {
     next: usize,
 }
 
-// Returns the word of the first descendant, from the word `from` on, that stands after the
-// ancestor, or the list's end.
+// Returns the word of the first descendant, from the word `from` on, that stands after `ancestor`,
+// or the end of the list.
 fn first_after(descendants: &[u32], from: usize, ancestor: Node) -> usize
     requires { ⌜ Placed (now descendants) from ⌝ }
     ensures { λ r. ⌜ (r % NODE-WORDS ≡ 0) × (r / NODE-WORDS
         ≡ firstAt (λ d. afterb d ancestor) (drop (from / NODE-WORDS) (nodes (now (descendants .entry)))) + from / NODE-WORDS) ⌝ }
 {
     let mut k = from;
+    // Rests on tickets: Search: search-found, search-on, search-end.
     while k < descendants.len() {
         if is_after(node_from(descendants, k), ancestor) {
             return k;
@@ -58,7 +59,7 @@ fn first_after(descendants: &[u32], from: usize, ancestor: Node) -> usize
     k
 }
 
-// Returns whether there is a descendant at the word `k` and the ancestor is open at it.
+// Returns whether there is a descendant at the word `k` and `ancestor` is open at it.
 fn is_running(descendants: &[u32], k: usize, ancestor: Node) -> bool
     requires { ⌜ (length (now descendants) % NODE-WORDS ≡ 0) × (k % NODE-WORDS ≡ 0) ⌝ }
     ensures { λ r. ⌜ r ≡ runningb (now (descendants .entry)) ancestor (k / NODE-WORDS) ⌝ }
@@ -69,7 +70,7 @@ fn is_running(descendants: &[u32], k: usize, ancestor: Node) -> bool
     is_open(node_from(descendants, k), ancestor)
 }
 
-// Returns a word up to which the ancestor stays open: `guess`, the node before it, or `from` where
+// Returns a word up to which `ancestor` stays open: `guess`, the node before it, or `from` where
 // neither is confirmed. The descendants ascend, so an ancestor that is open at one is open at all
 // between.
 fn past_guess(descendants: &[u32], from: usize, ancestor: Node, guess: usize) -> usize
@@ -88,25 +89,27 @@ fn past_guess(descendants: &[u32], from: usize, ancestor: Node, guess: usize) ->
     from
 }
 
-// Returns a word up to which the ancestor stays open from the word `from` on, found eight
-// descendants at a time.
+// Returns a word up to which `ancestor` stays open from the word `from` on, found eight descendants
+// at a time.
 fn past_strides(descendants: &[u32], from: usize, ancestor: Node) -> usize
     requires { ⌜ (from % NODE-WORDS ≡ 0) × Running (now descendants) ancestor (from / NODE-WORDS) ⌝ }
     ensures { λ r. ⌜ Further (now (descendants .entry)) ancestor from r ⌝ }
 {
     let mut k = from;
+    // Rests on Running: further-next, further-trans.
     while is_running(descendants, k + STRIDE - NODE_WORDS, ancestor) {
         k += STRIDE;
     }
     k
 }
 
-// Returns the end of the run, looking at each descendant from the word `from` on.
+// Returns the end of the run of `ancestor`, looking at each descendant from the word `from` on.
 fn past_run(descendants: &[u32], from: usize, ancestor: Node) -> usize
     requires { ⌜ (from % NODE-WORDS ≡ 0) × Running (now descendants) ancestor (from / NODE-WORDS) ⌝ }
     ensures { λ r. ⌜ (r % NODE-WORDS ≡ 0) × (r / NODE-WORDS ≡ runEnd (now (descendants .entry)) ancestor (from / NODE-WORDS)) ⌝ }
 {
     let mut k = from;
+    // Rests on Running: further-next, further-trans, further-stops.
     while is_running(descendants, k, ancestor) {
         k += NODE_WORDS;
     }
@@ -114,8 +117,8 @@ fn past_run(descendants: &[u32], from: usize, ancestor: Node) -> usize
 }
 
 // Returns the end of the run that begins at the word `from`: the word of the first descendant at
-// which the ancestor isn't open. The second descendant is tested first, then `guess`, the end of
-// the run before: nested zones end their runs together.
+// which `ancestor` isn't open. The second descendant is tested first, then `guess`, the end of the
+// run before: nested zones end their runs together.
 fn run_end(descendants: &[u32], from: usize, ancestor: Node, guess: usize) -> usize
     requires { ⌜ (from % NODE-WORDS ≡ 0) × (guess % NODE-WORDS ≡ 0) × Running (now descendants) ancestor (from / NODE-WORDS)
         × (runningb (now descendants) ancestor (from / NODE-WORDS) ≡ true) ⌝ }
@@ -133,7 +136,7 @@ fn run_end(descendants: &[u32], from: usize, ancestor: Node, guess: usize) -> us
     past_run(descendants, far, ancestor)
 }
 
-// Returns a word up to which the zone holds the descendants from the word `from` on. The end of the
+// Returns a word up to which `zone` holds the descendants from the word `from` on. The end of the
 // outer run, `to`, is tried first, then strides.
 fn past_held(descendants: &[u32], from: usize, zone: Node, to: usize) -> usize
     requires { ⌜ (from % NODE-WORDS ≡ 0) × (to % NODE-WORDS ≡ 0) × Running (now descendants) zone (from / NODE-WORDS) ⌝ }
@@ -209,6 +212,7 @@ fn hand_children(
     let level = node_from(ancestors, i).level + 1;
     let mut zone = i + NODE_WORDS;
     let mut k = from;
+    // Rests on Children: child-on, child-stop, inner-passed.
     while k < to {
         if node_from(descendants, k).level == level {
             handed = pair_with_descendants(
@@ -313,8 +317,8 @@ fn hand_ancestor(
 }
 
 // Hands out what remains of the listing in ancestor order. The sweep begins at the first ancestor
-// that may have pairs past the place. Where the next ancestor's run begins only moves on, as the
-// ancestors ascend.
+// that may have pairs past `place`. The word at which the next ancestor's run begins only moves on,
+// as the ancestors ascend.
 pub(crate) fn sweep_ancestors(
     ancestors: &[u32],
     descendants: &[u32],
@@ -335,6 +339,7 @@ pub(crate) fn sweep_ancestors(
     let mut from = 0;
     let mut guess = 0;
     let mut i = NODE_WORDS * first;
+    // Rests on Zones: sweep-on, sweep-next, sweep-stop.
     while i < ancestors.len() {
         from = first_after(descendants, from, node_from(ancestors, i));
         let turn = hand_ancestor(

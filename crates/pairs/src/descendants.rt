@@ -27,9 +27,9 @@ ghost use Rattle.tickets.specs.Private.Group.{matches};
 ghost use Rattle.tickets.specs.Ticket.{asked};
 ghost use Rattle.pairs.specs.Private.Sweep.{Placed, stretch, fromStart, servedGroup, servedAll};
 
-// Returns the word of the stack from which on the ancestors have the relation with a descendant
-// that lies inside all of them. Directly inside it can only lie in the innermost, as the levels
-// rise towards it.
+// Returns the word of `stack` from which on the ancestors have the relation with `descendant`,
+// which lies inside all of them. It can lie directly inside only the innermost, as the levels rise
+// towards it.
 fn first_match(relation: Relation, stack: &[u32], used: usize, descendant: Node) -> usize
     requires { ⌜ Placed (now stack) used × Chain (opened used (now stack)) × Upon descendant (opened used (now stack)) ⌝ }
     ensures { λ r. ⌜ (r % NODE-WORDS ≡ 0) × (r ≤ used)
@@ -49,8 +49,8 @@ fn first_match(relation: Relation, stack: &[u32], used: usize, descendant: Node)
     }
 }
 
-// Hands out the pairs of the descendant at the word `at` with those ancestors on the stack that
-// start at `past` or later. All on the stack contain it.
+// Hands out the pairs of the descendant at the word `at` with those ancestors on `stack` that start
+// at `past` or later. All ancestors on `stack` contain it.
 fn hand_descendant(
     out: &mut [u32],
     written: usize,
@@ -74,8 +74,8 @@ fn hand_descendant(
 }
 
 // Hands out what remains of the listing in descendant order. The sweep begins at the first
-// descendant that may have pairs past the place. Each descendant finds on the stack the ancestors
-// that started before it and have not ended: first those that ended are taken off, then those that
+// descendant that may have pairs past `place`. Each descendant finds on the stack the ancestors
+// that started before it and have not ended. First those that ended are taken off; then those that
 // started in between and are still open are put on.
 pub(crate) fn sweep_descendants(
     ancestors: &[u32],
@@ -98,6 +98,7 @@ pub(crate) fn sweep_descendants(
     let first = served_count(place, descendants);
     let mut past = past_from(place, node_at(descendants, first));
     let mut j = NODE_WORDS * first;
+    // Rests on Descending: descend-on, descend-stop, ready-next.
     while j < descendants.len() {
         let descendant = node_from(descendants, j);
         let left = still_open(&stack, used, descendant);

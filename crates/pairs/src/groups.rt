@@ -39,7 +39,7 @@ pub(crate) fn node_from(words: &[u32], at: usize) -> Node
     }
 }
 
-// Writes the four words of a node from the word `at` on.
+// Writes the four words of `node` from the word `at` on.
 pub(crate) fn put_words(words: &mut [u32], at: usize, node: Node)
     requires { ⌜ at + 3 < length (now words) ⌝ }
     ensures { λ r. ⌜ now (words .exit) ≡ sets (now (words .entry)) at (wordsOf node) ⌝ }
@@ -50,8 +50,8 @@ pub(crate) fn put_words(words: &mut [u32], at: usize, node: Node)
     words[at + 3] = node.level;
 }
 
-// Writes the words of an ancestor and then those of a descendant, as the pair at an index of the
-// output.
+// Writes the words of `ancestor` and then those of `descendant`, as the pair at `index` of the
+// output `out`.
 fn put_nodes(out: &mut [u32], index: usize, ancestor: Node, descendant: Node)
     requires { ⌜ index < room (now out) ⌝ }
     ensures { λ r. ⌜ now (out .exit) ≡ store pairWords PAIR-WORDS (now (out .entry)) index (record { ancestor = ancestor; descendant = descendant }) ⌝ }
@@ -61,7 +61,7 @@ fn put_nodes(out: &mut [u32], index: usize, ancestor: Node, descendant: Node)
     put_words(out, at + NODE_WORDS, descendant);
 }
 
-// Writes the pair of a leader and a follower, at an index of the output.
+// Writes the pair of `leader` and `follower` at `index` of the output `out`.
 fn put_pair(out: &mut [u32], index: usize, order: Order, leader: Node, follower: Node)
     requires { ⌜ index < room (now out) ⌝ }
     ensures { λ r. ⌜ now (out .exit) ≡ store pairWords PAIR-WORDS (now (out .entry)) index (pairOf order leader follower) ⌝ }
@@ -72,21 +72,22 @@ fn put_pair(out: &mut [u32], index: usize, order: Order, leader: Node, follower:
     }
 }
 
-// Writes the pairs of a leader with all followers after those that the output holds already. There
-// is room for them.
+// Writes the pairs of `leader` with all `followers`, after the `written` pairs that `out` holds
+// already. There is room for them.
 fn put_group(out: &mut [u32], written: usize, order: Order, leader: Node, followers: &[u32])
     requires { ⌜ written + count (now followers) ≤ room (now out) ⌝ }
     ensures { λ r. ⌜ (now (out .exit), written + count (now (followers .entry)), true)
         ≡ servedGroup order (now (out .entry)) written leader (nodes (now (followers .entry))) ⌝ }
 {
     let mut k = 0;
+    // Rests on Stretches: turned, ended.
     while k < node_count(followers) {
         put_pair(out, written + k, order, leader, node_at(followers, k));
         k += 1;
     }
 }
 
-// Returns how many of the wanted pairs fit into the room left.
+// Returns the number of the `wanted` pairs that fit into the room `left`.
 fn fitting(left: usize, wanted: usize) -> usize
     ensures { λ r. ⌜ (r ≤ left) × (r ≤ wanted) × ((left ≤ r) ⊎ (wanted ≤ r)) ⌝ }
 {
@@ -96,7 +97,7 @@ fn fitting(left: usize, wanted: usize) -> usize
     wanted
 }
 
-// Hands out the pairs of a leader with the followers from the word `from` to the word `to`, as many
+// Hands out the pairs of `leader` with the followers from the word `from` to the word `to`, as many
 // as fit. These are counted first, so that the loop that copies them asks nothing.
 fn hand_stretch(
     out: &mut [u32],
@@ -242,6 +243,7 @@ pub(crate) fn first_from(followers: &[u32], from: usize, to: usize, start: u64) 
         return from;
     }
     let mut k = from;
+    // Rests on Stretches: start-found, start-later, start-none.
     while k < to {
         if start <= node_from(followers, k).start as u64 {
             return k;

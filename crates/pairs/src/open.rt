@@ -1,5 +1,5 @@
 // The ancestors that are open where a sweep along the descendants stands. They lie on a stack, the
-// innermost on top; each lies inside the one below it and has a higher level, so there are never
+// innermost on top. Each lies inside the one below it and has a higher level, so there are never
 // more of them than levels.
 use crate::groups::node_from;
 use crate::groups::put_words;
@@ -21,24 +21,25 @@ ghost use Rattle.lists.specs.Check.{checkWords};
 ghost use Rattle.lists.specs.Private.Walk.{opened, unended, Chain, Fits};
 ghost use Rattle.pairs.specs.Private.Sweep.{Opening};
 
-// The stack's words.
+// The number of words in the stack: one node for each level.
 pub(crate) const STACK_WORDS: usize = NODE_WORDS * MOST_LEVELS;
 
-// How far a sweep has come along the ancestors: how many words of the stack are in use, and the
+// How far a sweep has come along the ancestors: the number of words of the stack in use, and the
 // word of the next ancestor.
 pub(crate) struct Opened {
     pub used: usize,
     pub passed: usize,
 }
 
-// Returns how many words of the stack are left once the ancestors on top that ended before the node
-// are taken off. What lies under an open one contains it and is open too, so the first open one
-// ends the search.
+// Returns the number of words of `stack` that are left once the ancestors on top that ended before
+// `node` are taken off. What lies under an open one contains it and is open too, so the first open
+// one ends the search.
 pub(crate) fn still_open(stack: &[u32; STACK_WORDS], used: usize, node: Node) -> usize
     requires { ⌜ Fits used ⌝ }
     ensures { λ r. ⌜ Fits r × (r ≤ used) × (opened r (now (stack .entry)) ≡ unended node (opened used (now (stack .entry)))) ⌝ }
 {
     let mut left = used;
+    // Rests on lists: WalkLaws: head-open, head-shut, head-none.
     while 0 < left {
         if is_open(node, node_from(stack, left - NODE_WORDS)) {
             return left;
@@ -48,8 +49,9 @@ pub(crate) fn still_open(stack: &[u32; STACK_WORDS], used: usize, node: Node) ->
     left
 }
 
-// Puts an ancestor onto the stack if it is open at the descendant. All that lie there are open at
-// it too, so the ancestor, which starts after them, lies inside the innermost.
+// Puts `ancestor` onto `stack` if it is open at `descendant`, and returns the number of words in
+// use. All that lie there are open at `descendant` too, so `ancestor`, which starts after them,
+// lies inside the innermost.
 fn open_next(stack: &mut [u32; STACK_WORDS], used: usize, ancestor: Node, descendant: Node) -> usize
     requires { ⌜ Fits used × (ancestor .level ≤ MOST-LEVELS)
         × (openb descendant ancestor ≡ true → Chain (ancestor ∷ opened used (now stack))) ⌝ }
@@ -63,8 +65,8 @@ fn open_next(stack: &mut [u32; STACK_WORDS], used: usize, ancestor: Node, descen
     used + NODE_WORDS
 }
 
-// Puts the ancestors that stand before the descendant and are open at it onto the stack, one after
-// the other.
+// Puts the ancestors that stand before `descendant` and are open at it onto `stack`, one after the
+// other.
 pub(crate) fn open_before(
     stack: &mut [u32; STACK_WORDS],
     used: usize,
@@ -80,6 +82,7 @@ pub(crate) fn open_before(
 {
     let mut reached = used;
     let mut i = passed;
+    // Rests on OpenStack: next-passed, passing-ends, passing-done.
     while i < ancestors.len() {
         if !is_after(descendant, node_from(ancestors, i)) {
             return Opened {

@@ -21,8 +21,8 @@ ghost use Rattle.tickets.specs.Ticket.{askedBy, ticketAt};
 ghost use Rattle.pairs.specs.Page.{pageOf, outputAfter};
 ghost use Rattle.pairs.specs.Private.Sweep.{keyIn, placeReached, servedAll};
 
-// What a page call answers: the verdict on its two lists, how many pairs it wrote, whether that was
-// all that remained, and the ticket for the next page.
+// What a page call answers: the verdict on its two lists, the number of pairs it wrote, whether
+// that was all that remained, and the ticket for the next page.
 pub struct Page {
     pub verdict: Verdict,
     pub count: usize,
@@ -30,7 +30,7 @@ pub struct Page {
     pub ticket: Ticket,
 }
 
-// What remains of the listing that a ticket asks for is handed out, as much as fits.
+// Hands out what remains of the listing that `ticket` asks for, as much as fits into `out`.
 fn sweep(ancestors: &[u32], descendants: &[u32], ticket: Ticket, out: &mut [u32]) -> Handed
     requires { ⌜ checkTwo (now ancestors) (now descendants) .answer ≡ TAKEN ⌝ }
     ensures { λ r. ⌜ (now (out .exit), r .count, r .done) ≡ servedAll (askedBy ticket) (ticket .place)
@@ -45,7 +45,7 @@ fn sweep(ancestors: &[u32], descendants: &[u32], ticket: Ticket, out: &mut [u32]
     }
 }
 
-// The key of a pair at an index of the output.
+// Returns the key of the pair at `index` of the output `out`.
 fn key_at(order: Order, out: &[u32], index: usize) -> Key
     requires { ⌜ index ≤ room (now out) ⌝ }
     ensures { λ r. ⌜ r ≡ keyIn order (nodes (now (out .entry))) index ⌝ }
@@ -66,8 +66,8 @@ fn key_at(order: Order, out: &[u32], index: usize) -> Key
     }
 }
 
-// Returns the ticket after `count` pairs were written: its place is the key of the last of them, or
-// the old place when there was none.
+// Returns the ticket after `count` pairs were written to `out`. Its place is the key of the last of
+// them, or the place of `old` when there was none.
 fn ticket_after(old: Ticket, out: &[u32], count: usize) -> Ticket
     requires { ⌜ count ≤ room (now out) ⌝ }
     ensures { λ r. ⌜ r ≡ ticketAt (askedBy old) (placeReached (old .order) (old .place) (nodes (now (out .entry))) count) ⌝ }
@@ -85,9 +85,9 @@ fn ticket_after(old: Ticket, out: &[u32], count: usize) -> Ticket
     }
 }
 
-// Returns the next page of a listing: the first pairs past the ticket's place, as many as the
-// output holds, and a ticket for what is left. A call whose lists are refused hands out nothing,
-// returns its ticket and alters no word of the output.
+// Returns the next page of a listing: the first pairs past the place of `ticket`, as many as `out`
+// holds, and a ticket for what is left. A call whose lists are refused hands out nothing, returns
+// `ticket` and alters no word of `out`.
 pub fn next_page(ancestors: &[u32], descendants: &[u32], ticket: Ticket, out: &mut [u32]) -> Page
     ensures { λ r. ⌜ (r ≡ pageOf (now (ancestors .entry)) (now (descendants .entry)) ticket (now (out .entry)))
         × (now (out .exit) ≡ outputAfter (now (ancestors .entry)) (now (descendants .entry)) ticket (now (out .entry))) ⌝ }

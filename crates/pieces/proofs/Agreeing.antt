@@ -1,6 +1,6 @@
--- Why it holds: Two nodes of two lists are at odds wherever their lists are cut, so the wholes
--- agree exactly when each piece of one agrees with each piece of the other.
--- What would break it: A piece that was held against fewer than all pieces of the other list would
+-- Why it holds: Whether two nodes of two lists are at odds does not depend on where the lists are
+-- cut. So the wholes agree exactly when each piece of one agrees with each piece of the other.
+-- What would break it: A piece that was compared with fewer than all pieces of the other list would
 -- be caught here.
 use Prim.Native.Nat.{ℕ}
 use mathlib.Core.Path.{_≡_}

@@ -1,4 +1,4 @@
--- Why it holds: Nodes of different documents are neither related nor at odds, so pieces that share
+-- Why it holds: Nodes of different documents are neither related nor at odds. So pieces that share
 -- no document have no pairs, and are taken together where each is taken.
 -- What would break it: A relation or a check that looked past a document's end would be caught
 -- here.
@@ -35,7 +35,7 @@ none-in : {A : Type 0} (xs : List A) → ((x : A) → In x xs → ⊥) → xs �
 none-in [] f = refl
 none-in (x ∷ xs) f = absurd (f x (List·Memᴰ·head refl))
 
--- two pieces that share no document
+-- two pieces that share no document have no pairs, and are taken together where each is taken
 module _ (v w : List ℕ) (apart : OtherDocuments v w) where
   pub nothing-listed : (ask : Asked) → listing ask (nodes v) (nodes w) ≡ []
   nothing-listed ask = none-in (listing ask (nodes v) (nodes w)) (λ p m.
@@ -60,7 +60,7 @@ module _ (v w : List ℕ) (lower : LowerDocuments v w) where
   pub lower-after : StandsAfter w v
   lower-after = all-map (λ x k. all-map (λ y l. after-document y x l) (nodes w) k) (nodes v) lower
 
--- nor do two pieces share one of which the second has the lower documents
+-- two pieces share no document either where the second has the lower documents
 pub higher-others : (v w : List ℕ) → LowerDocuments w v → OtherDocuments v w
 higher-others v w h =
     all-turned (λ y x. x .document ≡ y .document → ⊥) (nodes w) (nodes v)

@@ -1,8 +1,7 @@
--- Why it holds: Along a taken piece every node stands after the first and before the last, so the
+-- Why it holds: Along a taken piece every node stands after the first and before the last. So the
 -- last node of one piece and the first node of the next decide how all nodes of the two stand to
 -- one another.
--- What would break it: An empty piece between two others would break the chain, and would be caught
--- here.
+-- What would break it: An empty piece between two others would break the chain and be caught here.
 use Prim.Native.Nat.{ℕ, _-_, _≤_, _<_}
 use mathlib.Core.Path.{_≡_, refl, sym, subst}
 use mathlib.Core.Logic.{_↔_, _⊎_, inl, inr, ⊎-elim}
@@ -28,7 +27,7 @@ use Rattle.pieces.proofs.Apart.{lower-taken, lower-others, higher-other
 use Rattle.pieces.proofs.Checking.{whole-checked}
 use Rattle.pieces.proofs.Cutting.{every-two-both}
 
--- a node is another, or stands after it
+-- the node n is e, or stands after it
 abbrev From : Node → Node → Type 0
 From e n = (n ≡ e) ⊎ (afterb n e ≡ true)
 
@@ -61,9 +60,9 @@ to-last w t =
           subst (λ k. getD (nodes w) (count w - 1) none ≡ getD (nodes w) k none) (sym e) refl)
     ])
 
--- two taken pieces that have a node each
+-- v and w are two taken pieces that have a node each
 module _ (v w : List ℕ) (s : Taken v) (t : Taken w) (v-has : HasNode v) (w-has : HasNode w) where
-  -- a node up to the last of v, and one from the first of w on
+  -- a node from the first of w on stands after a node up to the last of v
   between : (e n : Node) → From e (lastNode v) → From (firstNode w) n → StartsAfter w v → afterb n e ≡ true
   between e n p q a =
       let after-end : afterb n (lastNode v) ≡ true =
@@ -74,7 +73,7 @@ module _ (v w : List ℕ) (s : Taken v) (t : Taken w) (v-has : HasNode v) (w-has
   pub stands : StartsAfter w v → StandsAfter w v
   stands a = all-map (λ e p. all-map (λ n q. between e n p q a) (nodes w) (from-first w t)) (nodes v) (to-last v s)
 
-  -- and one that starts in a higher document has only higher documents
+  -- and where w starts in a higher document than v ends in, all its documents are higher
   pub documents-part : lastNode v .document < firstNode w .document → LowerDocuments v w
   documents-part l =
       all-map (λ e p. all-map (λ n q.
@@ -82,13 +81,13 @@ module _ (v w : List ℕ) (s : Taken v) (t : Taken w) (v-has : HasNode v) (w-has
       let y = from-document (firstNode w) n q in
       omega arith) (nodes w) (from-first w t)) (nodes v) (to-last v s)
 
--- two pieces share no document where one ends in a lower one than the other starts in
+-- two pieces share no document where one ends in a lower document than the other starts in
 pub ranges-part : (v w : List ℕ) → Taken v → Taken w → HasNode v → HasNode w
     → (lastNode v .document < firstNode w .document) ⊎ (lastNode w .document < firstNode v .document) → OtherDocuments v w
 ranges-part v w s t p q h =
     ⊎-elim (λ l. lower-others v w (documents-part v w s t p q l)) (λ l. higher-others v w (documents-part w v t s q p l)) h
 
--- where each has a node and all nodes of w come after those of v, so does the first of w after the
+-- where each has a node and all nodes of w come after those of v, the first of w comes after the
 -- last of v
 starts : (v w : List ℕ) → HasNode v → HasNode w → StandsAfter w v → StartsAfter w v
 unfolding nodeAt
@@ -129,7 +128,8 @@ together ws t c h =
     pairs-passed (λ w. Taken w × HasNode w) TakenTogether ws (all-both (λ w a b. (a, b)) ws t c)
     (every-two-map (λ v w k a b. ⊎-elim (λ l. lower-taken v w (documents-part v w (a .0) (b .0) (a .1) (b .1) l) (a .0) (b .0)) (λ x. x) k) ws h)
 
--- so it is exact to check each piece, the borders, and any two pieces whose documents may meet
+-- so the whole draws none of the answers 3 to 7 exactly when each piece, the borders, and any two
+-- pieces whose documents may meet pass their checks
 pub borders-checked : (ws : List (List ℕ)) → All Fits ws → All HasNode ws → DrawsNone (whole ws) ↔ (All Taken ws
     × EachNext (λ v w. StartsAfter w v) ws
     × EveryTwo (λ v w. (lastNode v .document < firstNode w .document) ⊎ TakenTogether v w) ws)

@@ -1,8 +1,8 @@
--- Why it holds: A fault of rows 3 to 7 is a fault of one node or of two, and any two nodes of the
--- whole lie in one piece or in two, so the checks of each piece and of any two pieces find every
--- fault. Checks of neighbouring pieces alone would miss a node that crosses one two pieces before
--- it.
--- What would break it:
+-- Why it holds: Each of the answers 3 to 7 is drawn by one node or by two. Any two nodes of the
+-- whole lie in one piece or in two. So the checks of each piece and of any two pieces find every
+-- fault.
+-- What would break it: A check of neighbouring pieces alone would be caught here. It would miss a
+-- node that crosses another two pieces before it.
 use Prim.Native.Nat.{ℕ}
 use mathlib.Core.Logic.{_↔_}
 use mathlib.Core.List.{List}

@@ -1,5 +1,5 @@
 -- Why it holds: Where no cut goes through a node, the nodes of the whole are those of the pieces in
--- turn, so what holds of all of them, or of any two, holds within each piece and across any two
+-- turn. So what holds of all of them, or of any two, holds within each piece and across any two
 -- pieces.
 -- What would break it: A piece left out, or a cut through a node, would be caught here.
 use Prim.Native.Nat.{ℕ}
@@ -31,12 +31,12 @@ module _ {A : Type 0} where
       let r = every-two-parts R xs ys (h .1) in
       ((a .0, r .0), r .1, (a .1, r .2))
 
-  -- two things that hold of every earlier and later element
+  -- two relations that hold of every earlier and later element give a third
   pub every-two-both : {R S Q : A → A → Type 0} → ((x y : A) → R x y → S x y → Q x y) → (xs : List A) → EveryTwo R xs → EveryTwo S xs → EveryTwo Q xs
   every-two-both f [] h k = tt
   every-two-both f (x ∷ xs) h k = (all-both (f x) xs (h .0) (k .0), every-two-both f xs (h .1) (k .1))
 
--- what holds of each with each may be told from either list
+-- what holds of each element of one list with each of another may be read from either list
 pub all-turned : {A B : Type 0} (R : A → B → Type 0) (xs : List A) (ys : List B) → All (λ x. All (R x) ys) xs → All (λ y. All (λ x. R x y) xs) ys
 all-turned R xs [] h = tt
 all-turned R xs (y ∷ ys) h = (all-map (λ x k. k .0) xs h, all-turned R xs ys (all-map (λ x k. k .1) xs h))
@@ -59,7 +59,7 @@ unfolding whole nodes
 nodes-whole [] h = refl
 nodes-whole (w ∷ ws) h = nodes-append w (whole ws) (h .0) ∙ ap (λ ns. nodes w ++ ns) (nodes-whole ws (h .1))
 
--- what holds of every node
+-- what holds of every node holds within each piece, and the other way round
 pub all-pieces : (P : Node → Type 0) (ws : List (List ℕ)) → All P (pieceNodes ws) ↔ All (λ w. All P (nodes w)) ws
 all-pieces P [] = (λ h. tt, λ h. tt)
 all-pieces P (w ∷ ws) = (
@@ -67,7 +67,8 @@ all-pieces P (w ∷ ws) = (
   λ h. all-append P (nodes w) (pieceNodes ws) (h .0) (all-pieces P ws .1 (h .1)),
 )
 
--- what holds of a node and every node of a later piece
+-- what holds of each node of a piece and every node of the later pieces holds across the piece and
+-- each later one, and the other way round
 module _ (R : Node → Node → Type 0) (w : List ℕ) (ws : List (List ℕ)) where
   pub to-later : All (λ e. All (R e) (pieceNodes ws)) (nodes w) → All (Across R w) ws
   to-later h = all-turned (λ e v. All (R e) (nodes v)) (nodes w) ws (all-map (λ e k. all-pieces (R e) ws .0 k) (nodes w) h)
@@ -75,7 +76,8 @@ module _ (R : Node → Node → Type 0) (w : List ℕ) (ws : List (List ℕ)) wh
   pub from-later : All (Across R w) ws → All (λ e. All (R e) (pieceNodes ws)) (nodes w)
   from-later h = all-map (λ e k. all-pieces (R e) ws .1 k) (nodes w) (all-turned (λ v e. All (R e) (nodes v)) ws (nodes w) h)
 
--- what holds of every earlier and later node
+-- what holds of every earlier and later node holds within each piece and across any two, and the
+-- other way round
 pub pairs-pieces : (R : Node → Node → Type 0) (ws : List (List ℕ))
     → EveryTwo R (pieceNodes ws) ↔ (All (λ w. EveryTwo R (nodes w)) ws × EveryTwo (Across R) ws)
 pairs-pieces R [] = (λ h. (tt, tt), λ h. tt)

@@ -1,5 +1,5 @@
--- Why it holds: In ascending lists the first n are those with fewer than n below them, and a list
--- that holds fewer items has no more below any of them.
+-- Why it holds: In an ascending list the first n items are those with fewer than n below them. A
+-- list that holds fewer items has no more below any of them.
 -- What would break it: Lists that ascend by different keys, or an item that only one of them holds,
 -- would be caught here.
 use Prim.Native.Nat.{ℕ, zero, suc, _≤_}

@@ -1,7 +1,7 @@
--- Why it holds: A page is the last where no more pairs are left than it has room for, and what is
--- left of the whole is what is left of the pieces together.
--- What would break it: A whole called done while one of its pieces has a pair left would be caught
--- here.
+-- Why it holds: A page is the last where no more pairs are left than it has room for. What is left
+-- of the whole is what is left of the pieces together.
+-- What would break it: A whole that is called done while one of its pieces has a pair left would be
+-- caught here.
 use Prim.Native.Nat.{ℕ, _≤_}
 use mathlib.Core.Path.{_≡_, refl}
 use mathlib.Core.Logic.{_↔_}
@@ -30,7 +30,7 @@ use Rattle.pieces.proofs.Made.{each-again}
 use Rattle.pieces.proofs.PageParts.{wholePairs, pairs-met, pairs-ascend, parts, left, left-iff, left-ascends, part-left}
 use Rattle.pieces.proofs.Pages.{pages-left}
 
--- an accepted call says done where the page of its two lists is the last
+-- an accepted call says done exactly where the page of its two lists is the last
 pub call-last : (t : Ticket) (c : Call) → AcceptedCall c
     → answer t c .done ≡ isLast (askedBy t) (spotOf (t .place)) (room (c .out)) (c .ancestors) (c .descendants)
 unfolding pageOf saysDone

@@ -1,11 +1,13 @@
 -- Theorems for the reader: `Meeting` says that the pairs of the pieces are those of the wholes,
--- `Once` that none comes twice, `InTurn` when they come in order, `Checking` what checks of pieces
--- say of the whole, `Borders` how much of that the first and last nodes show, `Apart` which pieces
--- need no call, `Agreeing` when two lists cut into pieces agree, `Pages` what the pieces' pages say
--- of the whole's page, `LastPages` whether it is the last, `PagesInTurn` how leading pieces asked
--- in turn make it, and `MergedInTurn` that both lists may be cut for that. Laws for these:
--- `Cutting` is what a cut does to nodes, `Made` what pieces make together, `Firsts` what ascending
--- lists have first, `PageParts` why the pieces' listings are parts of the whole's.
+-- `Once` that none comes twice, and `InTurn` when they come in order. `Checking` says what checks
+-- of pieces tell of the whole, and `Borders` how much of that the first and last nodes show.
+-- `Apart` says which pieces need no call, and `Agreeing` when two lists cut into pieces agree.
+-- `Pages` says what the pieces' pages tell of the whole's page, and `LastPages` whether it is the
+-- last. `PagesInTurn` says how leading pieces that are asked in turn make it, and `MergedInTurn`
+-- that both lists may be cut for that.
+-- Laws for these: `Cutting` is what a cut does to nodes, and `Made` what pieces make together.
+-- `Firsts` is what ascending lists have first, and `PageParts` why the pieces' listings are parts
+-- of the whole's.
 pub mod Agreeing
 pub mod Apart
 pub mod Borders

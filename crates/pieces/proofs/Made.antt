@@ -1,6 +1,6 @@
--- Why it holds: Pieces make together what any two of them make, one after the other, so what holds
--- of each part holds of all of it.
--- What would break it: Two pieces passed over would be caught here.
+-- Why it holds: What pieces make together is what each two of them make, one after the other. So
+-- what holds of each part holds of all of it.
+-- What would break it: Two pieces that are passed over would be caught here.
 use Prim.Native.Nat.{ℕ}
 use mathlib.Core.Logic.{inl, inr}
 use mathlib.Core.List.{List, [], _∷_, Memᴰ·append-left, Memᴰ·append-right, List·Memᴰ·append-cases}
@@ -21,7 +21,7 @@ module _ (P : Pair → Type 0) (make : List ℕ → List ℕ → List Pair) wher
   each-all [] ds h = tt
   each-all (a ∷ as′) ds h = all-append P (withEach make a ds) (eachWithEach make as′ ds) (with-all a ds (h .0)) (each-all as′ ds (h .1))
 
--- a pair that pieces make by f they make by g, where any two that make it by f do
+-- if any two pieces that make a pair by f make it by g too, then so do all pieces together
 module _ (p : Pair) (f g : List ℕ → List ℕ → List Pair) where
   with-again : (a : List ℕ) (ds : List (List ℕ)) → All (λ d. In p (f a d) → In p (g a d)) ds → In p (withEach f a ds) → In p (withEach g a ds)
   unfolding withEach

@@ -1,8 +1,8 @@
--- Why it holds: A pair has its ancestor in some piece and its descendant in some piece, so the
+-- Why it holds: A pair has its ancestor in some piece and its descendant in some piece. So the
 -- listings of each ancestor piece with each descendant piece hold what the listing of the wholes
 -- holds.
--- What would break it: Joining each piece with the piece of its own position alone would lose
--- pairs, and would be caught here.
+-- What would break it: A join of each piece with only the piece at its own position would lose
+-- pairs and be caught here.
 use Prim.Native.Nat.{ℕ}
 use mathlib.Core.Path.{_≡_}
 use mathlib.Core.Logic.{_↔_, inl, inr}

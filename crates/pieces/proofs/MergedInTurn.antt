@@ -1,6 +1,7 @@
 -- Why it holds: A leading piece's page with the whole other list is merged from its pages with that
--- list's pieces, so leading pieces asked in turn, each with all of these, make the whole's page.
--- What would break it: A piece of the other list passed over would be caught here.
+-- list's pieces. So leading pieces that are asked in turn, each with all of these, make the whole's
+-- page.
+-- What would break it: A piece of the other list that is passed over would be caught here.
 use Prim.Native.Nat.{ℕ, _-_}
 use mathlib.Core.Path.{_≡_, refl, sym, ap, subst, _∙_}
 use mathlib.Core.List.{List, [], _∷_, _++_, append-nil}
@@ -25,7 +26,7 @@ use Rattle.pieces.proofs.PagesInTurn.{descendants-in-turn, ancestors-in
 abbrev Good : List ℕ → Type 0
 Good w = WholeNodes w × DrawsNone w
 
--- where the whole draws none of them, no piece does
+-- where the whole draws none of these answers, no piece does
 none-drawn : (ws : List (List ℕ)) → All WholeNodes ws → DrawsNone (whole ws) → All Good ws
 none-drawn ws h t =
     let r = taken-iff (pieceNodes ws) .0 (rw (nodes-whole ws h) at t) in
@@ -33,12 +34,12 @@ none-drawn ws h t =
     all-both (λ w s f. taken-iff (nodes w) .1 (s, f)) ws (all-pieces Sound ws .0 (r .0)) (pairs-pieces Fine ws .0 (r .1) .0) in
     all-both (λ w x y. (x, y)) ws h drawn
 
--- the whole of one piece
+-- a single piece is its own whole
 one : (w : List ℕ) → whole (w ∷ []) ≡ w
 unfolding whole
 one w = append-nil w
 
--- equal pages make the same in turn
+-- where two ways to make a page agree on every piece, they make the same in turn
 same-in-turn : (f g : ℕ → List ℕ → List Pair) (n : ℕ) (ws : List (List ℕ)) → All (λ w. (k : ℕ) → f k w ≡ g k w) ws → inTurn f n ws ≡ inTurn g n ws
 unfolding inTurn
 same-in-turn f g n [] h = refl
@@ -48,7 +49,7 @@ same-in-turn f g n (w ∷ ws) h =
 
 module _ (relation : Relation) (place : Spot) (n : ℕ) (as′ ds : List (List ℕ)) (h : All WholeNodes as′) (k : All WholeNodes ds)
     (t : DrawsNone (whole as′)) (u : DrawsNone (whole ds)) (merged : ℕ → List ℕ → List Pair) where
-  -- descendants that lead, each with all pieces of the ancestors
+  -- the descendants lead, each piece with all pieces of the ancestors
   pub descendants-merged : let ask = asked relation Descendant in
       All (λ d. (j : ℕ) → MergedFrom ask (merged j d) (piecePages ask place j as′ (d ∷ []))) ds
       → inTurn (λ j d. take j (merged j d)) n ds ≡ pageFor ask place n (whole as′) (whole ds)
@@ -59,7 +60,7 @@ module _ (relation : Relation) (place : Spot) (n : ℕ) (as′ ds : List (List �
       ∙ ap (pageFor ask place j (whole as′)) (one d)) ds (none-drawn ds k u) m)
       ∙ sym (descendants-in-turn relation place n (whole as′) ds k)
 
-  -- ancestors that lead, each with all pieces of the descendants
+  -- the ancestors lead, each piece with all pieces of the descendants
   pub ancestors-merged : let ask = asked relation Ancestor in
       All (λ a. (j : ℕ) → MergedFrom ask (merged j a) (piecePages ask place j (a ∷ []) ds)) as′
       → inTurn (λ j a. take j (merged j a)) n as′ ≡ pageFor ask place n (whole as′) (whole ds)

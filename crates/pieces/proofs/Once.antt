@@ -1,6 +1,6 @@
 -- Why it holds: Pairs of two listings have their ancestors or their descendants in different
--- pieces, and a node of a later piece stands after all nodes of the earlier ones, so no pair comes
--- in both.
+-- pieces. A node of a later piece stands after all nodes of the earlier ones, so no pair comes in
+-- both.
 -- What would break it: Pieces that overlap would be caught here.
 use Prim.Native.Nat.{ℕ}
 use mathlib.Core.Path.{_≡_, sym, subst, _∙_}
@@ -45,7 +45,7 @@ pub pieces-ascend : (ws : List (List ℕ)) → All WholeNodes ws → DrawsNone (
 pieces-ascend ws h t = pairs-pieces After ws .0 (whole-ascends ws h t)
 
 module _ (ask : Asked) where
-  -- two related pairs whose ancestors, or whose descendants, stand one after the other
+  -- two related pairs differ where their ancestors, or their descendants, stand one after the other
   ancestors-differ : (p q : Pair) → After (p .ancestor) (q .ancestor) → Differ p q
   ancestors-differ p q h e = let s = after-starts (q .ancestor) (p .ancestor) h (e .0) in omega (arith, s, e .1)
 

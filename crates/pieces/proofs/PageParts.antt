@@ -1,5 +1,6 @@
--- Why it holds: The nodes of a piece are nodes of the whole and ascend, so the listing of two
--- pieces ascends too and holds pairs of the whole's listing alone, and past a place as well.
+-- Why it holds: The nodes of a piece are nodes of the whole and ascend. So the listing of two
+-- pieces ascends too and holds only pairs of the whole's listing, and so does what is left past a
+-- place.
 -- What would break it: Pieces that hold another node, or don't ascend, would be caught here.
 use Prim.Native.Nat.{ℕ}
 use mathlib.Core.Path.{_≡_}
@@ -27,7 +28,7 @@ own : (ws : List (List ℕ)) → All WholeNodes ws → DrawsNone (whole ws)
 own ws h d = all-both (λ w a i. (a, i)) ws (pieces-ascend ws h d .0) (all-pieces (λ x. In x (pieceNodes ws)) ws .0 (each-in (pieceNodes ws)))
 
 module _ (ask : Asked) where
-  -- the listing of two pieces ascends, and holds pairs of a listing alone
+  -- the listing of two pieces ascends, and holds only pairs of a given listing
   abbrev pub Part : List Pair → List ℕ → List ℕ → Type 0
   Part ps a d = Ascends (sortKey (ask .order)) (pairsOf ask a d) × All (λ p. In p ps) (pairsOf ask a d)
 

@@ -1,5 +1,5 @@
--- Why it holds: A pair of the whole's page has no more pairs before it in its own two pieces'
--- listing than in the whole's, so it stands on their page too.
+-- Why it holds: A pair of the whole's page has no more pairs before it in the listing of its own
+-- two pieces than in the whole's. So it stands on their page too.
 -- What would break it: Pages with less room than the whole's, or past another place, would be
 -- caught here.
 use Prim.Native.Nat.{ℕ}
@@ -39,7 +39,7 @@ module _ (ask : Asked) (place : Spot) (n : ℕ) where
   on-page : (ps : List Pair) (p : Pair) → In p (handed key place n ps) → In p (left ask place ps)
   on-page ps p m = all-in (λ q. In q (left ask place ps)) (handed key place n ps) (page-left ask place n ps) m
 
-  -- two pieces have on their page each of their pairs that is on the whole's
+  -- each pair of two pieces that is on the whole's page is on their page too
   own-page : (ps : List Pair) (a d : List ℕ) → Ascends key ps → Part ask ps a d → (p : Pair) → In p (handed key place n ps) → In p (pairsOf ask a d)
       → In p (pageFor ask place n a d)
   unfolding handed
@@ -65,7 +65,7 @@ module _ (ask : Asked) (place : Spot) (n : ℕ) where
         (all-map (λ a x. all-map (λ d part. own-page listed a d ascending part p m) ds x) as′ (parts ask as′ ds h k t u))
         (pairs-met ask as′ ds p (left-iff ask place listed p .0 (on-page listed p m) .0)))
 
-    -- the pieces' pages hold pairs that are left of the whole's listing alone
+    -- the pieces' pages hold only pairs that are left of the whole's listing
     pub pages-left : All (λ p. In p (left ask place listed)) pages
     pages-left =
         each-all (λ p. In p (left ask place listed)) (pageFor ask place n) as′ ds

@@ -12,53 +12,53 @@ use Rattle.paging.specs.Page.{Spot, handed, doneb}
 use Rattle.tickets.specs.Listing.{Pair, sortKey, listing}
 use Rattle.tickets.specs.Ticket.{Asked}
 
--- the words of all pieces, one piece after the other
+-- The words of all pieces, one piece after the other.
 unfoldable pub whole : List (List ℕ) → List ℕ
 whole [] = []
 whole (w ∷ ws) = w ++ whole ws
 
--- the words make whole nodes: no cut goes through a node
+-- The words make whole nodes: no cut goes through a node.
 abbrev pub WholeNodes : List ℕ → Type 0
 WholeNodes w = length w % NODE-WORDS ≡ 0
 
--- what one ancestor piece and each descendant piece in turn make, one after the other
+-- What one ancestor piece makes with each descendant piece in turn, one after the other.
 unfoldable pub withEach : (List ℕ → List ℕ → List Pair) → List ℕ → List (List ℕ) → List Pair
 withEach make a [] = []
 withEach make a (d ∷ ds) = make a d ++ withEach make a ds
 
--- what each ancestor piece makes with each descendant piece, one after the other
+-- What each ancestor piece makes with each descendant piece, one after the other.
 unfoldable pub eachWithEach : (List ℕ → List ℕ → List Pair) → List (List ℕ) → List (List ℕ) → List Pair
 eachWithEach make [] ds = []
 eachWithEach make (a ∷ as′) ds = withEach make a ds ++ eachWithEach make as′ ds
 
--- the full listing of two lists of words
+-- The full listing of two lists of words.
 abbrev pub pairsOf : Asked → List ℕ → List ℕ → List Pair
 pairsOf ask a d = listing ask (nodes a) (nodes d)
 
--- the full listings of each ancestor piece with each descendant piece
+-- The full listings of each ancestor piece with each descendant piece.
 abbrev pub piecePairs : Asked → List (List ℕ) → List (List ℕ) → List Pair
 piecePairs ask as′ ds = eachWithEach (pairsOf ask) as′ ds
 
--- a page of two lists of words: of their full listing the first n pairs past a place
+-- A page of two lists of words: the first `n` pairs of their full listing past a place.
 abbrev pub pageFor : Asked → Spot → ℕ → List ℕ → List ℕ → List Pair
 pageFor ask place n a d = handed (sortKey (ask .order)) place n (pairsOf ask a d)
 
--- the pages of each ancestor piece with each descendant piece, all past one place
+-- The pages of each ancestor piece with each descendant piece, all past one place.
 abbrev pub piecePages : Asked → Spot → ℕ → List (List ℕ) → List (List ℕ) → List Pair
 piecePages ask place n as′ ds = eachWithEach (pageFor ask place n) as′ ds
 
--- pairs merged by key into one list: the same pairs, the key of each later one above that of each
--- earlier one
+-- `merged` is the pairs merged by key into one list: the same pairs, where the key of each later
+-- one stands above that of each earlier one.
 abbrev pub MergedFrom : Asked → List Pair → List Pair → Type 0
 MergedFrom ask merged pairs =
     EveryTwo (λ p q. aboveb (sortKey (ask .order) q) (sortKey (ask .order) p) ≡ true) merged × ((p : Pair) → In p merged ↔ In p pairs)
 
--- the page is the last: nothing of the full listing is left past it
+-- The page is the last: nothing of the full listing is left past it.
 abbrev pub isLast : Asked → Spot → ℕ → List ℕ → List ℕ → Bool
 isLast ask place n a d = doneb (sortKey (ask .order)) place n (pairsOf ask a d)
 
--- pages of pieces in turn, all past one place: of each piece as many pairs as the pages before it
--- leave room for
+-- Pages of the pieces in turn, all past one place. Each piece gives as many pairs as the pages
+-- before it leave room for.
 unfoldable pub inTurn : (ℕ → List ℕ → List Pair) → ℕ → List (List ℕ) → List Pair
 inTurn page n [] = []
 inTurn page n (w ∷ ws) = page n w ++ inTurn page (n - length (page n w)) ws

@@ -1,5 +1,5 @@
 -- Why it holds: A checked book with two lists or more has a first and a second, each under its own
--- tag, and both are copied whole; so the lists that are joined are the book's.
+-- tag. Both are copied whole. So the lists that are joined are the book's.
 -- What would break it: Another list joined, or a check left out, would be caught here.
 use mathlib.Core.Path.{_≡_, refl, sym, ap, _∙_}
 use mathlib.Core.List.{List}

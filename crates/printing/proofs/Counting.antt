@@ -1,7 +1,7 @@
--- Why it holds: A page counts the pairs that it hands out and leaves the others, so the pairs
--- counted and those that remain are always all of them, and a page that isn't done leaves fewer
--- than there were.
--- What would break it: A page counted twice, or one that moved nothing though it had room, would be
+-- Why it holds: A page counts the pairs that it hands out and leaves the others. So the pairs
+-- counted and those that remain are always all of them. A page that isn't done leaves fewer than
+-- there were.
+-- What would break it: A page counted twice, or a page with room that handed out nothing, would be
 -- caught here.
 use mathlib.Core.Path.{_≡_, refl, sym, ap, _∙_}
 use mathlib.Core.Bool.{true, false}
@@ -27,15 +27,15 @@ use Rattle.pairs.proofs.Following.{fills-room}
 use Rattle.pairs.proofs.Unaltered.{whole-few, left-after, none-left}
 
 module _ (ancestors descendants : List ℕ) where
-  -- the pairs that are printed
+  -- the pairs that are to be printed
   abbrev pub whole : List Pair
   whole = listing (asked Inside Descendant) (nodes ancestors) (nodes descendants)
 
-  -- how many remain for a ticket
+  -- how many pairs remain for a ticket
   abbrev pub left : Ticket → ℕ
   left t = length (remaining t ancestors descendants)
 
-  -- a ticket of this listing, of which `count` pairs were counted
+  -- a ticket of this listing, where `count` pairs were counted before
   pub record Counted (t : Ticket) (count : ℕ) : Type 0 where
     pub relation : t .relation ≡ Inside
     pub order : t .order ≡ Descendant
@@ -54,7 +54,7 @@ module _ (ancestors descendants : List ℕ) where
     abbrev c : Call
     c = record { ancestors = ancestors; descendants = descendants; out = out }
 
-    -- what remained is what it counts and what remains for the ticket that it returns,
+    -- what remained is what the page counts and what remains for the ticket that it returns;
     pub counted-page : left t ≡ r .count + left (r .ticket)
     counted-page = left-after t c a ∙ ap (λ p. p .count + left (p .ticket)) (sym e)
 
@@ -66,13 +66,13 @@ module _ (ancestors descendants : List ℕ) where
       together = omega (arith, counted-page, h .together);
     }
 
-    -- nothing once it is done,
+    -- nothing remains once the page is done,
     pub counted-all : r .done ≡ true → count + r .count ≡ length whole
     counted-all d =
         let none : left (r .ticket) ≡ 0 = ap (λ p. left (p .ticket)) e ∙ none-left t c a (sym (ap (λ p. p .done) e) ∙ d) in
         omega (arith, none, counted-more .together)
 
-    -- and less than before where it isn't
+    -- and less than before remains if it isn't
     pub counted-less : r .done ≡ false → 0 < room out → left (r .ticket) < left t
     counted-less d l =
         let full : r .count ≡ room out = ap (λ p. p .count) e ∙ fills-room t c a (sym (ap (λ p. p .done) e) ∙ d) in

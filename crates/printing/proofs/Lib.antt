@@ -1,7 +1,8 @@
--- For the reader: `Printed` says that pages of a book's two lists, line by line, are what is
--- printed, and `Only` that no second answer satisfies the contract. Laws for the code: `PageLines`
--- says what a page shows and that its lines are those of its pairs, `Counting` how many pairs are
--- left after a page, `Answering` which lists of a book are joined.
+-- Theorems for the reader: `Printed` says that pages of a book's two lists, line by line, are what
+-- is printed. `Only` says that no second answer satisfies the contract.
+-- Laws for the code: `PageLines` says what a page shows and that its lines are those of its pairs.
+-- `Counting` is how many pairs are left after a page. `Answering` is which lists of a book are
+-- joined.
 pub mod Answering
 pub mod Counting
 pub mod Only

@@ -1,7 +1,7 @@
 -- Why it holds: The contract equates the answer with a definition, and two things that equal a
--- third are equal; so no second answer satisfies it. `Post` is what the function's `ensures` says
--- of its result; what is written on standard output isn't part of it.
--- What would break it:
+-- third are equal. So no second answer satisfies it.
+-- What would break it: A contract that left the answer open would be caught here. What is written
+-- on standard output isn't part of the contract.
 use mathlib.Core.Path.{_≡_}
 use Rattle.laws.proofs.Only.{only}
 use Rattle.printing.proofs.print.print_book.Reads as print-book

@@ -1,5 +1,5 @@
--- Why it holds: A page's output begins with the words of the pairs that it hands out, and a text
--- with room for so many of the longest lines gets the line of each.
+-- Why it holds: A page's output begins with the words of the pairs that it hands out. A text with
+-- room for the longest line of each pair gets all their lines.
 -- What would break it: A page with more pairs than room, or lines of other words than those handed
 -- out, would be caught here.
 use mathlib.Core.Path.{_≡_, ap, _∙_}
@@ -39,14 +39,14 @@ module _ (ancestors descendants : List ℕ) (t : Ticket) (out : List ℕ) where
       ∙ ap (λ ps. wordsIn pairLine (take most ps)) (pairs-read given)
       ∙ ap (wordsIn pairLine) (take-all most given (omega arith))
 
-  -- what a page says it wrote is what it hands out
+  -- a page counts the pairs that it hands out
   page-count : (r : Page) → r ≡ pageOf ancestors descendants t out → r .count ≡ length given
   page-count r e = ap (λ p. p .count) e ∙ count-given t c
 
   pub page-few : (r : Page) → r ≡ pageOf ancestors descendants t out → PAIR-WORDS * r .count ≤ length out
   page-few r e = let n = page-count r e in let few = given-fits t c in omega arith
 
-  -- the text after the lines were put into it begins with those of the pairs handed out
+  -- the text with the lines put into it begins with those of the pairs handed out
   pub lines-made : (r : Page) → r ≡ pageOf ancestors descendants t out → (out′ : List ℕ) → out′ ≡ outputAfter ancestors descendants t out
       → (n : ℕ) → n ≡ PAIR-WORDS * r .count → (text after : List ℕ) (bytes : ℕ) → LINE-BYTES * room out ≤ length text
       → bytes ≡ length (linesFor (take n out′) text) → after ≡ written (linesFor (take n out′) text) text
@@ -58,7 +58,7 @@ module _ (ancestors descendants : List ℕ) (t : Ticket) (out : List ℕ) where
       (λ i. linesFor (take ((q ∙ ap (λ k. PAIR-WORDS * k) (page-count r e)) i) (o i)) text) ∙ given-lines text h in
       (e, rw (b, l) (omega (arith, length-append us (drop (length us) text))), rw (b, l) (take-append-seam us (drop (length us) text) ∙ made))
 
-  -- and its verdict is that on the two lists
+  -- a page's verdict is that on the two lists
   pub page-answer : (r : Page) → r ≡ pageOf ancestors descendants t out → r .verdict .answer ≡ checkTwo ancestors descendants .answer
   unfolding pageOf
   page-answer r e = ap (λ p. p .verdict .answer) e

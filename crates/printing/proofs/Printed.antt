@@ -1,4 +1,4 @@
--- Why it holds: The pages of two lists that nobody alters are their full listing, so the lines of
+-- Why it holds: The pages of two lists that nobody alters are their full listing. So the lines of
 -- the pages, one page after the other, are those of the listing.
 -- What would break it: A page left out or printed twice, or a number other than that of the pairs,
 -- would be caught here.
@@ -35,7 +35,7 @@ abbrev first : Ticket
 first = freshTicket (asked Inside Descendant)
 
 module _ (book : List ℕ) (good : printedAnswer book ≡ TAKEN) where
-  -- then the two lists are accepted together
+  -- if the program's answer is TAKEN, the two lists are accepted together
   lists-taken : checkTwo (listAt book 0) (listAt book 1) .answer ≡ TAKEN
   unfolding printedAnswer refusedb
   lists-taken =

@@ -1,2 +1,2 @@
--- What the contract of `printing` cites.
+-- What the contract of `printing` cites: the program's answer and what it prints, in `Print`.
 pub mod Print

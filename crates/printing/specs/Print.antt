@@ -25,7 +25,8 @@ MOST-BYTES = 61440
 abbrev pub PAGE-PAIRS : ℕ
 PAGE-PAIRS = 4096
 
--- LONG, the book's own answer, ABSENT for fewer than two lists, JOINT
+-- the program's answer: LONG, the book's own answer, ABSENT for fewer than two lists, then the
+-- answer on both lists, which may be JOINT
 unfoldable pub printedAnswer : List ℕ → ℕ
 printedAnswer book =
     cond (ltb MOST-BYTES (length book)) LONG
@@ -36,8 +37,7 @@ printedAnswer book =
 unfoldable pub listingIn : List ℕ → List Pair
 listingIn book = listing (asked Inside Descendant) (nodes (listAt book 0)) (nodes (listAt book 1))
 
--- what the program prints, whole: a line for each pair and then their number, or a refusal's one
--- line
+-- all that the program prints: a line for each pair and then their number, or a refusal's one line
 unfoldable pub printed : List ℕ → List ℕ
 printed book =
     cond (eqb (printedAnswer book) TAKEN) (wordsIn pairLine (listingIn book) ++ totalLine (length (listingIn book)))

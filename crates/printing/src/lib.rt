@@ -1,3 +1,3 @@
-// What the printing program does with a book.
+// Prints the pairs of a book's first two lists.
 mod pages;
 pub mod print;

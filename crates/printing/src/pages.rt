@@ -1,4 +1,4 @@
-// A listing is printed page by page.
+// Prints a listing page by page.
 use answers::answer::TAKEN;
 use io::write_all;
 use libc::STDOUT_FILENO;
@@ -30,10 +30,10 @@ ghost use Rattle.tickets.specs.Ticket.{asked};
 ghost use Rattle.pairs.specs.Page.{handedOut, pageOf};
 ghost use Rattle.lines.specs.Line.{LINE-BYTES, pairLine};
 
-// How many pairs are printed at a time: a full page is written in one block of 24 to 135 thousand
-// bytes. Each page checks both lists again, so larger ones cost less; but their buffers are cleared
-// at the start. This size takes 266,240 bytes of stack, out of 458,753 for all arrays of the
-// program.
+// How many pairs are printed at a time. A full page is written in one block of 24 to 135 thousand
+// bytes. Each page checks both lists again, so larger pages cost less, but their buffers are
+// cleared at the start. This size takes 266,240 bytes of stack, out of 458,753 for all arrays of
+// the program.
 const PAGE_PAIRS: usize = 4096;
 
 // A page of a listing, and how many bytes its lines have.
@@ -42,14 +42,15 @@ struct Lines {
     bytes: usize,
 }
 
-// What was printed of a listing: the answer, and whether all pairs were, with their number.
+// What was printed of a listing: the answer, whether all pairs were printed, and if so their
+// number.
 struct Printed {
     answer: u32,
     count: u64,
     whole: bool,
 }
 
-// Prints the line of a refusal, and returns its answer.
+// Prints the line of the refusal `answer`, and returns `answer`.
 pub(crate) fn print_refusal(answer: u32) -> u32
     ensures { λ r. ⌜ r ≡ answer ⌝ }
 {
@@ -59,15 +60,15 @@ pub(crate) fn print_refusal(answer: u32) -> u32
     answer
 }
 
-// Prints the last line, with the number of all pairs.
+// Prints the last line, with `count`, the number of all pairs.
 fn print_total(count: u64) {
     let mut text = [0u8; NOTE_BYTES];
     let bytes = put_total(count, &mut text);
     write_all(STDOUT_FILENO, part_of(&text[0..NOTE_BYTES], 0, bytes));
 }
 
-// Makes the next page of the listing. The text then begins with the lines of just those pairs that
-// it hands out.
+// Makes the next page of the listing in `out`. Then `text` begins with the lines of exactly those
+// pairs that the page hands out.
 fn make_lines(
     ancestors: &[u32],
     descendants: &[u32],
@@ -101,9 +102,9 @@ fn stopped(answer: u32) -> Printed
     }
 }
 
-// Prints the lines of all pairs of two lists, page by page, each made in the two buffers. Stops at
-// a refusal, and where standard output can't be written. Once all pairs are printed, the count is
-// their number.
+// Prints the lines of all pairs of two lists, page by page, and makes each page in the two buffers.
+// Stops at a refusal, and where standard output can't be written. Once all pairs are printed, the
+// count is their number.
 fn print_pairs(ancestors: &[u32], descendants: &[u32], out: &mut [u32], text: &mut [u8]) -> Printed
     requires { ⌜ (0 < room (now out)) × (LINE-BYTES * room (now out) ≤ length (now text)) ⌝ }
     ensures { λ r. ⌜ (r .answer ≡ checkTwo (now (ancestors .entry)) (now (descendants .entry)) .answer)
@@ -111,6 +112,7 @@ fn print_pairs(ancestors: &[u32], descendants: &[u32], out: &mut [u32], text: &m
 {
     let mut ticket = fresh(Relation::Inside, Order::Descendant);
     let mut count = 0u64;
+    // Rests on Counting: counted-more, counted-less, counted-all.
     loop {
         let lines = make_lines(ancestors, descendants, ticket, out, text);
         let page = lines.page;
@@ -148,7 +150,7 @@ fn print_all(ancestors: &[u32], descendants: &[u32], out: &mut [u32], text: &mut
     TAKEN
 }
 
-// Prints the pairs of two lists, or JOINT or whatever else refuses them, and returns the answer.
+// Prints the pairs of two lists, or JOINT or another refusal of them, and returns the answer.
 pub(crate) fn print_pages(ancestors: &[u32], descendants: &[u32]) -> u32
     ensures { λ r. ⌜ r ≡ checkTwo (now (ancestors .entry)) (now (descendants .entry)) .answer ⌝ }
 {

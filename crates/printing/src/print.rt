@@ -1,4 +1,4 @@
-// What is printed of a book.
+// Checks a book and prints the pairs of its first two lists.
 use crate::pages::print_pages;
 use crate::pages::print_refusal;
 use answers::answer::ABSENT;
@@ -39,9 +39,9 @@ fn print_lists(book: &[u8], lists: u32) -> u32
     print_pages(&first[0..words], &second[0..more])
 }
 
-// Joins the first list of a book with the second and prints the pairs on standard output, inside
-// and in descendant order, a line each, and then their number; or one line that says why not.
-// Returns the answer.
+// Joins the first list of a book with the second, relation inside, in descendant order. Prints a
+// line for each pair on standard output and then their number, or on refusal the one line that says
+// why. Returns the answer.
 pub fn print_book(book: &[u8]) -> u32
     ensures { λ r. ⌜ r ≡ printedAnswer (now (book .entry)) ⌝ }
 {

@@ -1,7 +1,7 @@
--- Why it holds: Of an accepted book all is kept, and a tag's body is the part whose place and size
--- the search by tag answers; of a refused one nothing is kept.
--- What would break it: A body of a list that the book hasn't, or of bytes that are no book, would
--- be caught here.
+-- Why it holds: Of an accepted book everything is kept, and a tag's body is the part that the
+-- search by tag finds. Of a refused book nothing is kept.
+-- What would break it: A body of a list that the book doesn't have, or of bytes that are no book,
+-- would be caught here.
 use mathlib.Core.Path.{_≡_, refl, ap, _∙_}
 use mathlib.Core.Logic.{inl, inr}
 use mathlib.Core.List.{List, []}
@@ -46,8 +46,8 @@ module _ (book : List ℕ) (ok : bookVerdict book .answer ≡ TAKEN) where
   unfolding keptLists
   all-lists = ap listsIn kept-whole
 
-  -- the body at a place among the book's own entries is the part that the search by place answers,
-  -- empty where the book has fewer lists
+  -- the body at a position among the book's own entries is the part that the search by position
+  -- finds, empty where the book has fewer lists
   module _ (position : ℕ) where
     abbrev Answered : Type 0
     Answered = bodyOf book (getD (contentsOf book) position (entry 0 0 0)) ≡ partOf book (foundAt book position .from) (foundAt book position .bytes)
@@ -70,11 +70,11 @@ module _ (book : List ℕ) (ok : bookVerdict book .answer ≡ TAKEN) where
   unfolding keptBody keptLists tagBody tagEntry foundTag contentsOf
   body-found tag = rw kept-whole (answered (tagAt tag (contentsOf book)))
 
-  -- a tag's body is that of the book with all its lists
+  -- a tag's body is the one in the whole book, with all its lists
   pub kept-tag : (tag : ℕ) → keptBody book tag ≡ tagBody book (listsIn book) tag
   unfolding keptBody
   kept-tag tag = rw (kept-whole, all-lists) refl
 
-  -- so each list's body comes back under its tag
+  -- so each list's body comes back under its own tag
   pub body-at : (position : ℕ) → position < listsIn book → keptBody book (entryAt book position .tag) ≡ bodyOf book (entryAt book position)
   body-at position h = kept-tag (entryAt book position .tag) ∙ tag-body-at book ok position h

@@ -1,6 +1,6 @@
 -- Why it holds: Each contract equates its answer with a definition, and two things that equal a
--- third are equal; so no second answer satisfies it. The functions over a reader have no reading,
--- so this is said of the `ensures` itself: in every model two answers of which it holds are equal.
+-- third are equal. So no second answer satisfies it. These functions are proved by hand, so this is
+-- said of the contract itself: in every model, two answers that satisfy it are equal.
 -- What would break it: A contract that left the slice or the number of a reader open would be
 -- caught here.
 use mathlib.Core.Path.{_≡_}
@@ -22,7 +22,7 @@ use Rattle.readers.proofs.reader.open as opening
 use Rattle.readers.proofs.reader.over as over
 
 module _ {M : Type 1} (𝓤 : URA M) (H : Heap 𝓤) (A : Atoms 𝓤) (mem : Memory → SProp 𝓤) (run : Routine → Fun 𝓤) (κs : Lfts 1) where
-  -- two facts together give what follows from both
+  -- what follows from two facts holds where both hold
   follows : {P Q R : Type 0} → (P → Q → R) → ent 𝓤 (sep 𝓤 (fact 𝓤 P) (fact 𝓤 Q)) (fact 𝓤 R)
   follows {P} {Q} {R} f =
       fact-use 𝓤 P (fst∗ 𝓤 (fact 𝓤 P) (fact 𝓤 Q)) (λ p.

@@ -1,7 +1,7 @@
--- Why it holds: What the walks over a reader share: its type, its description and its laws, over
--- the one lifetime that a signature names.
--- What would break it: A reader with another field, or one of another width, would be caught here
--- first.
+-- Why it holds: The proofs about a reader share its type, its description and its laws, for the one
+-- lifetime that a signature names.
+-- What would break it: A reader with another field, or a field of another width, would be caught
+-- here first.
 use denote.RattleType.{RattleType}
 use denote.Signature.{namedLft}
 use denote.Struct.Declared.{Declared}
@@ -10,11 +10,14 @@ use contract.Lifetimes.{Lfts}
 use Rattle.readers.proofs.reader.Reader as T
 use Rattle.readers.proofs.reader.Reader.Laws as T′
 
+-- a reader's type
 abbrev pub B : Lfts 1 → RattleType
 B κs = T.the-row (namedLft 1 0 tt κs)
 
+-- the description of its fields
 abbrev pub D : Lfts 1 → Declared
 D κs = T.the-type (namedLft 1 0 tt κs)
 
+-- the laws of these fields
 abbrev pub L : (κs : Lfts 1) → LL.Laws (D κs)
 L κs = T′.the-laws (namedLft 1 0 tt κs)

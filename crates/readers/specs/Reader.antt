@@ -1,5 +1,5 @@
--- docs/SCOPE.md, "The field book": an opened book refers to the caller's bytes; a refused one
--- refers to an empty part. Both begin where the caller's bytes begin.
+-- docs/SCOPE.md, "The field book": what a reader keeps of the caller's bytes. It keeps all of an
+-- accepted book and an empty part of a refused one. Both begin where the caller's bytes begin.
 use Prim.Native.Nat.{ℕ}
 use mathlib.Core.Bool.{cond}
 use mathlib.Core.List.{List, []}
@@ -8,18 +8,18 @@ use Rattle.answers.specs.Verdict.{refusedb}
 use Rattle.books.specs.Book.{bookVerdict}
 use Rattle.books.specs.Find.{tagBody, tagPlace}
 
--- what an opened book refers to
+-- the bytes that a reader keeps
 unfoldable pub keptOf : List ℕ → List ℕ
 keptOf book = cond (refusedb (bookVerdict book)) [] book
 
--- the number of its lists, 0 of a refused one
+-- the number of lists that a reader has, 0 for a refused book
 unfoldable pub keptLists : List ℕ → ℕ
 keptLists book = listsIn (keptOf book)
 
--- a tag's body, empty where there is none or the book is refused
+-- the body of a tag, empty where the book is refused or has no such list
 unfoldable pub keptBody : List ℕ → ℕ → List ℕ
 keptBody book tag = tagBody (keptOf book) (keptLists book) tag
 
--- where it lies, given where the book begins
+-- where that body lies, given where the book begins
 unfoldable pub keptPlace : ℕ × ℕ → List ℕ → ℕ → ℕ × ℕ
 keptPlace start book tag = tagPlace start (keptOf book) (keptLists book) tag

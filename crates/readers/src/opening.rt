@@ -7,7 +7,7 @@ ghost use denote.Ref.{ptr};
 ghost use Rattle.contents.specs.Contents.{listsIn};
 ghost use Rattle.readers.specs.Reader.{keptOf};
 
-// Returns all of an accepted book, and the empty part at the beginning of a refused one.
+// Returns all of an accepted book, or the empty part at the beginning of a refused one.
 pub(crate) fn kept_part(book: &[u8]) -> &[u8]
     ensures { λ r. ⌜ (now r ≡ keptOf (now (book .entry))) × (ptr r ≡ ptr (book .entry)) ⌝ }
 {
@@ -19,7 +19,7 @@ pub(crate) fn kept_part(book: &[u8]) -> &[u8]
     book
 }
 
-// Returns the number of lists that a book says it has, and 0 of an empty part.
+// Returns the number of lists that `book` says it has, or 0 for an empty part.
 pub(crate) fn list_count(book: &[u8]) -> u32
     ensures { λ r. ⌜ r ≡ listsIn (now (book .entry)) ⌝ }
 {

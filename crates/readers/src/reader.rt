@@ -14,22 +14,22 @@ pub struct Reader<'a> {
     pub lists: u32,
 }
 
-// Returns the number of the book's lists.
+// Returns the number of lists of the book that `r` holds.
 pub fn lists<'a>(r: Reader<'a>) -> u32
     ensures { λ n. ⌜ n ≡ r .entry .lists ⌝ }
 {
     r.lists
 }
 
-// Returns the book's bytes, as the part that the reader holds.
+// Returns the bytes of the book, as the very part that `r` holds.
 pub fn book<'a>(r: Reader<'a>) -> &'a [u8]
     ensures { λ s. ⌜ s ≡ r .entry .book ⌝ }
 {
     r.book
 }
 
-// Returns the body of a tag as a part of the book; or the empty part at its beginning where there
-// is none. Nothing is checked again.
+// Returns the body of `tag` as a part of the book, or the empty part at its beginning where no list
+// has the tag. Nothing is checked again.
 pub fn body<'a>(r: Reader<'a>, tag: u32) -> &'a [u8]
     ensures { λ s. ⌜ (now s ≡ tagBody (now (r .entry .book)) (r .entry .lists) tag)
         × (ptr s ≡ tagPlace (ptr (r .entry .book)) (now (r .entry .book)) (r .entry .lists) tag) ⌝ }
@@ -37,7 +37,7 @@ pub fn body<'a>(r: Reader<'a>, tag: u32) -> &'a [u8]
     tag_body(r.book, r.lists, tag)
 }
 
-// Returns a reader over a book that was opened before and has `lists` lists. Nothing is checked
+// Returns a reader over a `book` that was opened before and has `lists` lists. Nothing is checked
 // again.
 pub fn over<'a>(book: &'a [u8], lists: u32) -> Reader<'a>
     ensures { λ r. ⌜ (r .book ≡ book .entry) × (r .lists ≡ lists) ⌝ }
@@ -45,8 +45,8 @@ pub fn over<'a>(book: &'a [u8], lists: u32) -> Reader<'a>
     Reader { book, lists }
 }
 
-// Returns a reader over the bytes where they are a book, and over the empty part at their
-// beginning, with no lists, where they aren't.
+// Returns a reader over `bytes` where they are a book. Where they aren't, it is a reader over the
+// empty part at their beginning, with no lists.
 pub fn open<'a>(bytes: &'a [u8]) -> Reader<'a>
     ensures { λ r. ⌜ (now (r .book) ≡ keptOf (now (bytes .entry)))
         × (ptr (r .book) ≡ ptr (bytes .entry))
@@ -57,9 +57,8 @@ pub fn open<'a>(bytes: &'a [u8]) -> Reader<'a>
     over(part, count)
 }
 
-// Returns the body of a tag out of bytes that may be any, as a part of them; or the empty part at
-// their beginning where they are no book or it has no such list. A caller of it needs no proof by
-// hand.
+// Returns the body of `tag` out of any bytes, as a part of them. Where they are no book, or it has
+// no such list, that is the empty part at their beginning. A caller of it needs no proof by hand.
 pub fn body_in(bytes: &[u8], tag: u32) -> &[u8]
     ensures { λ s. ⌜ (now s ≡ keptBody (now (bytes .entry)) tag)
         × (ptr s ≡ keptPlace (ptr (bytes .entry)) (now (bytes .entry)) tag) ⌝ }

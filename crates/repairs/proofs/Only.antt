@@ -1,7 +1,7 @@
 -- Why it holds: The contract equates the part's words and its place with definitions, and two
--- things that equal a third are equal; so no second answer satisfies it.
--- What would break it: `Post` is what the function's `ensures` says of its result; a contract that
--- left a word or the place open would be caught here.
+-- things that equal a third are equal. So no second answer satisfies it.
+-- What would break it: A contract that left open a word of the part, or its place, would be caught
+-- here.
 use mathlib.Core.Path.{_≡_}
 use denote.Ref.{now, ptr}
 use Rattle.laws.proofs.Only.{only}

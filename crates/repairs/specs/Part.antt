@@ -13,31 +13,33 @@ use Rattle.answers.specs.declared.verdict.Verdict.{Verdict}
 use Rattle.lists.specs.Two.{checkTwo}
 use Rattle.answers.specs.Verdict.{DESCENDANTS}
 
--- the answer is one of 3 to 7, which carry a node's index
+-- whether the answer is one of 3 to 7, which carry a node's index
 unfoldable pub showsb : Verdict → Bool
 showsb v = leb LEVEL (v .answer) && leb (v .answer) DEPTH
 
--- from the faulty node to the end of the list that has it
+-- the part that a verdict shows: from the faulty node to the end of the list that has it, or
+-- nothing
 unfoldable pub partAt : Verdict → List ℕ → List ℕ → List ℕ
 partAt v ancestors descendants =
     cond (showsb v) (drop (NODE-WORDS * v .index) (cond (eqb (v .list) DESCENDANTS) descendants ancestors)) []
 
+-- the part that the check of these two lists shows
 unfoldable pub faultyPart : List ℕ → List ℕ → List ℕ
 faultyPart ancestors descendants = partAt (checkTwo ancestors descendants) ancestors descendants
 
--- where the part of a list from the node at an index on lies, given where the list begins
+-- where the part of a list from the node at `index` on lies, given where the list begins
 unfoldable pub placeFrom : ℕ × ℕ → List ℕ → ℕ → ℕ × ℕ
 placeFrom start words index = placeIn start (NUMBER-BYTES * length words) (NODE-BYTES * index)
 
--- in the list that has the faulty node, at that node; where no node is at fault, at the beginning
--- of the ancestors
+-- Where the part that a verdict shows lies: at the faulty node, in the list that has it. Where no
+-- node is at fault, it lies at the beginning of the ancestors.
 unfoldable pub placeAt : Verdict → ℕ × ℕ → ℕ × ℕ → List ℕ → List ℕ → ℕ × ℕ
 placeAt v ofAncestors ofDescendants ancestors descendants =
     cond (showsb v)
     (cond (eqb (v .list) DESCENDANTS) (placeFrom ofDescendants descendants (v .index)) (placeFrom ofAncestors ancestors (v .index)))
     ofAncestors
 
--- where the part at fault lies, given where the ancestors and the descendants begin
+-- where the part that the check of these two lists shows lies, given where each list begins
 unfoldable pub faultyPlace : ℕ × ℕ → ℕ × ℕ → List ℕ → List ℕ → ℕ × ℕ
 faultyPlace ofAncestors ofDescendants ancestors descendants =
     placeAt (checkTwo ancestors descendants) ofAncestors ofDescendants ancestors descendants

@@ -12,7 +12,7 @@ ghost use lib.ListN.{drop};
 ghost use Rattle.nodes.specs.Words.{NODE-WORDS};
 ghost use Rattle.repairs.specs.Part.{faultyPart, placeFrom, faultyPlace};
 
-// Returns the part of a list from the node at an index on, or an empty one where the list has ended
+// Returns the part of a list from the node at `index` on, or an empty one where the list ends
 // before.
 fn part_from(words: &[u32], index: u32) -> &[u32]
     ensures { λ r. ⌜ (now r ≡ drop (NODE-WORDS * index) (now (words .entry)))
@@ -24,9 +24,8 @@ fn part_from(words: &[u32], index: u32) -> &[u32]
     &words[NODE_WORDS * index as usize..]
 }
 
-// Returns the part of one of the two lists that starts at the faulty node and goes to that list's
-// end, as a part of the very list that was lent; or the empty part at the beginning of the
-// ancestors where no node is at fault.
+// Returns the part from the faulty node to the end of its list, as a part of the very list that was
+// lent. Where no node is at fault, that is the empty part at the beginning of `ancestors`.
 pub fn faulty_part<'a>(ancestors: &'a [u32], descendants: &'a [u32]) -> &'a [u32]
     ensures { λ r. ⌜ (now r ≡ faultyPart (now (ancestors .entry)) (now (descendants .entry)))
         × (ptr r ≡ faultyPlace (ptr (ancestors .entry)) (ptr (descendants .entry))

@@ -1,7 +1,6 @@
 -- Why it holds: Each public contract equates the answer with a definition, and two things that
--- equal a third are equal; so no second answer satisfies it.
--- What would break it: `Post` is what a function's `ensures` says of its result; a contract that
--- left a field open would be caught here.
+-- equal a third are equal. So no second answer satisfies it.
+-- What would break it: A contract that left a field of the answer open would be caught here.
 use mathlib.Core.Path.{_≡_}
 use Rattle.laws.proofs.Only.{only}
 use Rattle.ticket_words.proofs.words.ticket_back.Reads as ticket-back

@@ -1,5 +1,5 @@
 -- Why it holds: A place reached lies after the last item that was handed out, and the words take
--- the three numbers of its key; where none was, they stay.
+-- the three numbers of its key. Where nothing was handed out, the words stay.
 -- What would break it: Words that stood for another place, or for another relation or order than
 -- before, would be caught here.
 use mathlib.Core.Path.{_≡_, refl}
@@ -16,7 +16,7 @@ use Rattle.tickets.specs.Ticket.{asked, ticketAt}
 use Rattle.ticket_words.specs.declared.words.TicketWords.{TicketWords}
 use Rattle.ticket_words.specs.Words.{relationOf, orderOf, placeOf, ticketOf, movedTo, ticketBack}
 
--- relation and order stay
+-- the relation and the order stay
 pub kept : (w : TicketWords) (place : Place) → (movedTo w place .relation ≡ w .relation) × (movedTo w place .order ≡ w .order)
 kept w Fresh = (refl, refl)
 kept w (After k) = (refl, refl)

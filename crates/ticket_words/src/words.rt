@@ -7,10 +7,10 @@ use tickets::ticket::Ticket;
 ghost use mathlib.Core.Path.{_≡_};
 ghost use Rattle.ticket_words.specs.Words.{relationOf, orderOf, placeOf, ticketOf, movedTo, ticketBack};
 
-// What a caller keeps between two pages. Any six words make a usable ticket: a relation of 0 is
-// inside and any other number directly inside; an order of 0 is descendant order and any other
-// number ancestor order; a ticket whose `placed` is 0 is fresh, and with any other number it is
-// placed after the key in the last three words.
+// What a caller keeps between two pages. Any six words make a usable ticket. A relation of 0 is
+// inside, and any other number directly inside. An order of 0 is descendant order, and any other
+// number ancestor order. A ticket whose `placed` is 0 is fresh; with any other number it is placed
+// after the key in the last three words.
 #[repr(C)]
 pub struct TicketWords {
     pub relation: u32,
@@ -21,7 +21,7 @@ pub struct TicketWords {
     pub second: u32,
 }
 
-// Returns the relation that a number stands for.
+// Returns the relation that `number` stands for.
 fn relation_of(number: u32) -> Relation
     ensures { λ r. ⌜ r ≡ relationOf number ⌝ }
 {
@@ -31,7 +31,7 @@ fn relation_of(number: u32) -> Relation
     Relation::Directly
 }
 
-// Returns the order that a number stands for.
+// Returns the order that `number` stands for.
 fn order_of(number: u32) -> Order
     ensures { λ r. ⌜ r ≡ orderOf number ⌝ }
 {
@@ -41,7 +41,7 @@ fn order_of(number: u32) -> Order
     Order::Ancestor
 }
 
-// Returns the place that the last four words stand for.
+// Returns the place that the last four of `words` stand for.
 fn place_of(words: TicketWords) -> Place
     ensures { λ r. ⌜ r ≡ placeOf words ⌝ }
 {
@@ -55,7 +55,7 @@ fn place_of(words: TicketWords) -> Place
     })
 }
 
-// Returns the ticket that six words stand for.
+// Returns the ticket that the six `words` stand for.
 pub fn ticket_of(words: TicketWords) -> Ticket
     ensures { λ r. ⌜ r ≡ ticketOf words ⌝ }
 {
@@ -66,7 +66,7 @@ pub fn ticket_of(words: TicketWords) -> Ticket
     }
 }
 
-// Returns the words with the place moved to a new one. A fresh place leaves them as they are.
+// Returns `words` with the place moved to `place`. A fresh place leaves them as they are.
 fn moved_to(words: TicketWords, place: Place) -> TicketWords
     ensures { λ r. ⌜ r ≡ movedTo words place ⌝ }
 {
@@ -83,8 +83,9 @@ fn moved_to(words: TicketWords, place: Place) -> TicketWords
     }
 }
 
-// Returns the words for the next call, after a call with these words that wrote `count` pairs and
-// reached a place: the same six words if it wrote none, else these words moved to that place.
+// Returns the words for the next call, after a call with `words` that wrote `count` pairs and
+// reached `place`. They are the same six words if it wrote none; otherwise they are moved to
+// `place`.
 pub fn ticket_back(words: TicketWords, count: usize, place: Place) -> TicketWords
     ensures { λ r. ⌜ r ≡ ticketBack words count place ⌝ }
 {

@@ -1,7 +1,7 @@
--- Why it holds: What remains of a listing is what remains of its groups, and a group remains from
--- its first follower past the place on.
--- What would break it: A group passed over that had a pair past the place, or a follower taken too
--- early, would be caught here.
+-- Why it holds: What remains of a listing is what remains of its groups. Of a group there remains
+-- what lies from its first follower past the place on.
+-- What would break it: A group that is passed over although it has a pair past the place, or a
+-- follower taken too early, would be caught here.
 use Prim.Native.Nat.{ℕ, _≤_, _<_}
 use mathlib.Core.Path.{_≡_, refl, ap, _∙_}
 use mathlib.Core.Bool.{Bool, true, false}

@@ -1,7 +1,7 @@
 -- Why it holds: Every leader meets every follower once, in the order of both lists, and related
 -- nodes are of one document, so what is listed ascends.
--- What would break it: A pair left out, listed twice or out of its order would be caught here, in
--- either order and for either relation.
+-- What would break it: A pair that is left out, listed twice or out of order would be caught here,
+-- in either order and for either relation.
 use Prim.Native.Nat.{ℕ, _*_, _≤_}
 use mathlib.Core.Path.{_≡_, refl, sym, ap, subst, _∙_}
 use mathlib.Core.Bool.{true, false}
@@ -52,7 +52,7 @@ unfolding leaders followers pairOf
 pair-of Descendant p = refl
 pair-of Ancestor p = refl
 
--- a pair of a group is its leader's, with one of the followers
+-- a pair of a group consists of its leader and one of the followers
 group-in : (order : Order) (x : Node) (ys : List Node) (p : Pair) → In p (map (pairOf order x) ys) → (leader order p ≡ x) × In (follower order p) ys
 group-in order x [] p m = absurd (List·Memᴰ·not-nil m)
 group-in order x (y ∷ ys) p m =
@@ -84,7 +84,7 @@ in-every order x y (z ∷ xs) ys m n =
       | inr k ↦ Memᴰ·append-right (map (pairOf order z) ys) (in-every order x y xs ys k n)
     ]
 
--- which of the two lists is the ancestors' is the order's matter alone
+-- the order alone decides which of the two lists is the ancestors'
 sides : (order : Order) (as′ ds : List Node) (p : Pair)
     → (In (leader order p) (leaders order as′ ds) × In (follower order p) (followers order as′ ds)) ↔ (In (p .ancestor) as′ × In (p .descendant) ds)
 unfolding leaders followers
@@ -137,19 +137,19 @@ leader-above y x j k h =
     ]
 
 module _ (relation : Relation) (order : Order) where
-  -- of an earlier and a later pair, the later one's key stands above
+  -- the key of the later of two pairs stands above that of the earlier
   abbrev Above : Pair → Pair → Type 0
   Above p q = aboveb (sortKey order q) (sortKey order p) ≡ true
 
-  -- it does if both are related
+  -- the later key stands above if both pairs are related
   abbrev Rises : Pair → Pair → Type 0
   Rises p q = relatedb relation p ≡ true → relatedb relation q ≡ true → Above p q
 
-  -- pairs of a leader and of a later one
+  -- this holds for pairs of a leader and of a later one
   groups-rise : (x y v w : Node) → afterb v x ≡ true → Rises (pairOf order x y) (pairOf order v w)
   groups-rise x y v w h p q = rw (key-of order x y, key-of order v w) (leader-above v x (w .start ∷ []) (y .start ∷ []) h)
 
-  -- two pairs of one leader
+  -- and for two pairs of one leader
   group-rise : (x y z : Node) → afterb z y ≡ true → Rises (pairOf order x y) (pairOf order x z)
   group-rise x y z h p q =
       rw (key-of order x y, key-of order x z)
@@ -210,8 +210,7 @@ listed-once ask as′ ds a d =
     every-two-map (λ p q h e. never h (subst (λ r. aboveb (sortKey (ask .order) r) (sortKey (ask .order) p) ≡ false) e (above-self (sortKey (ask .order) p))))
     (listing ask as′ ds) (listing-ascends ask as′ ds a d)
 
--- of no more leaders and followers than a list may have nodes, no more pairs are made than their
--- product
+-- with at most `MOST-NODES` followers, each leader makes at most `MOST-NODES` pairs
 few-made : (order : Order) (xs ys : List Node) → length ys ≤ MOST-NODES → length (everyPair order xs ys) ≤ MOST-NODES * length xs
 unfolding everyPair
 few-made order [] ys l = omega arith

@@ -1,7 +1,7 @@
--- Why it holds: A pair's key begins with its leader's document and start, so what is known of the
--- leader's two numbers settles all of its pairs.
--- What would break it: A leader that was passed too early, or a follower that lay past the place
--- before an earlier one, would be caught here.
+-- Why it holds: A pair's key begins with its leader's document and start, so these two numbers
+-- settle how all of the leader's pairs lie to a place.
+-- What would break it: A leader that is passed too early would be caught here. So would a follower
+-- that lay past the place while one with a later start didn't.
 use Prim.Native.Nat.{ℕ, _+_, _≤_, _<_, zero-le}
 use mathlib.Core.Path.{_≡_, refl, sym, _∙_}
 use mathlib.Core.Bool.{Bool, true, false}
@@ -25,8 +25,8 @@ use Rattle.tickets.specs.declared.ticket.Place.the-variants.{Fresh, Afte
 use Rattle.tickets.specs.Leaders.{pastFrom, servedb}
 use Rattle.tickets.specs.Ticket.{spotOf}
 
--- the pair of a leader and a follower lies past a place: its document and two starts do, the
--- leader's first
+-- the pair of a leader and a follower lies past a place: its document and two starts, the leader's
+-- first, stand above the place's key
 unfoldable pub aheadb : Place → Node → Node → Bool
 aheadb place leader follower = pastb (spotOf place) (leader .document ∷ leader .start ∷ follower .start ∷ [])
 
@@ -52,7 +52,7 @@ served-none (After k) x y h =
     above-longer (k .document ∷ k .leader ∷ []) (x .document ∷ x .start ∷ []) (k .follower ∷ []) (y .start ∷ []) refl h in
     not-so (λ a. never (above-trans own key own a over) (above-self own))
 
--- of two keys that differ in their last number alone
+-- where two keys differ in their last number alone, that number decides
 pub above-last : (d s m n : ℕ) → n < m → aboveb (d ∷ s ∷ m ∷ []) (d ∷ s ∷ n ∷ []) ≡ true
 unfolding aboveb
 above-last d s m n h = rw (le-ltb d d (omega arith), eq-eqb d d refl, le-ltb s s (omega arith), eq-eqb s s refl, lt-ltb n m h) refl
@@ -65,8 +65,8 @@ Past place past x = (y : Node) → aheadb place x y ≡ leb past (y .start)
 abbrev Beyond : Key → Node → Type 0
 Beyond k x = (k .document < x .document) ⊎ ((k .document ≡ x .document) × (k .leader < x .start))
 
--- all followers of a leader that stands after the place's own lie past it, and of that one those
--- that start after the place's follower
+-- all followers of a leader that stands after the place's own lie past the place; of the place's
+-- own those do that start after the place's follower
 module _ (k : Key) (x y : Node) where
   ahead-all : Beyond k x → aheadb (After k) x y ≡ true
   unfolding aheadb pastb aboveb
@@ -89,7 +89,7 @@ module _ (k : Key) (x y : Node) where
         | inr h ↦ rw h (let l : y .start ≤ k .follower = ltb-false _ _ h in sym (lt-leb (k .follower + 1) (y .start) (omega arith)))
       ])
 
--- one that doesn't stand before it stands after it, or is that one
+-- a leader that doesn't stand before the place's own stands after it, or is that one
 unserved : (k : Key) (x : Node) → servedb (After k) x ≡ false → Beyond k x ⊎ ((k .document ≡ x .document) × (k .leader ≡ x .start))
 unfolding servedb aboveb
 unserved k x h =
@@ -127,7 +127,7 @@ ahead-fresh x y = refl
 from-start : (y : Node) → leb 0 (y .start) ≡ true
 from-start y = le-leb 0 (y .start) zero-le
 
--- from which start on the followers of a leader that isn't served lie past the place
+-- the start from which on the followers of a leader that isn't served lie past the place
 pub past-first : (place : Place) (x : Node) (past : ℕ) → servedb place x ≡ false → past ≡ pastFrom place x → Past place past x
 past-first Fresh x past h q y = ahead-fresh x y ∙ sym (rw (q, past-fresh x) (from-start y))
 past-first (After k) x past h q y =

@@ -1,6 +1,5 @@
--- Why it holds: A search through the nodes of words that has passed k of them has k to add to what
--- the rest says.
--- What would break it: An element passed over, or a count one off, would be caught here.
+-- Why it holds: A search that has passed k nodes adds k to what the search through the rest finds.
+-- What would break it: A node that is passed over, or a count one off, would be caught here.
 use Prim.Native.Nat.{ℕ, _+_, _≤_, _<_, zero-le}
 use mathlib.Core.Path.{_≡_, refl}
 use mathlib.Core.Bool.{Bool, true, false}
@@ -19,7 +18,7 @@ abbrev pub Searched : (Node → Bool) → List ℕ → ℕ → ℕ → Type 0
 Searched test ws answer k = (k ≤ count ws) × (firstAt test (drop k (nodes ws)) + k ≡ answer)
 
 module _ (test : Node → Bool) (ws : List ℕ) where
-  -- through all nodes, or from one on
+  -- the search begins with all nodes, or from a node on
   pub search-start : Searched test ws (firstAt test (nodes ws)) 0
   search-start = (zero-le, omega arith)
 

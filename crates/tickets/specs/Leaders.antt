@@ -9,17 +9,17 @@ use Rattle.paging.specs.Key.{aboveb}
 use Rattle.tickets.specs.declared.ticket.Place.{Place}
 use Rattle.tickets.specs.declared.ticket.Place.the-variants.{Fresh, After}
 
--- the start from which on a leader's followers lie past a place, where the leader doesn't stand
--- before the place's own
+-- The start from which on a leader's followers lie past a place. It is meant for a leader that
+-- doesn't stand before the place's own.
 unfoldable pub pastFrom : Place → Node → ℕ
 pastFrom Fresh leader = 0
 pastFrom (After k) leader = cond (eqb (k .document) (leader .document) && eqb (k .leader) (leader .start)) (k .follower + 1) 0
 
--- a leader stands before the leader of a place, so that none of its pairs lies past it
+-- The leader stands before the leader of the place, so that none of its pairs lies past it.
 unfoldable pub servedb : Place → Node → Bool
 servedb Fresh leader = false
 servedb (After k) leader = aboveb (k .document ∷ k .leader ∷ []) (leader .document ∷ leader .start ∷ [])
 
--- how many leaders stand before the leader of a place
+-- The number of leaders that stand before the leader of the place.
 unfoldable pub servedIn : Place → List Node → ℕ
 servedIn place ns = firstAt (λ x. not (servedb place x)) ns

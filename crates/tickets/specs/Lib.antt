@@ -1,5 +1,5 @@
--- What the contracts of `tickets` cite: `Ticket` and `Listing` follow docs/SCOPE.md, `PairWords`
--- says how pairs lie in words, `Leaders` how a leader's pairs lie to a ticket's place.
+-- What the contracts of `tickets` cite: `Ticket` and `Listing` follow docs/SCOPE.md. `PairWords`
+-- says how pairs lie in words, and `Leaders` how a leader's pairs lie to a ticket's place.
 pub mod Leaders
 pub mod Listing
 pub mod PairWords

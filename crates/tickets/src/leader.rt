@@ -9,13 +9,13 @@ ghost use mathlib.Core.Path.{_≡_};
 ghost use Rattle.nodes.specs.Words.{nodes};
 ghost use Rattle.tickets.specs.Leaders.{pastFrom, servedb, servedIn};
 
-// How many words a pair takes in an output: the ancestor's and then the descendant's.
+// The number of words that a pair takes in an output: the ancestor's and then the descendant's.
 pub const PAIR_WORDS: usize = 2 * NODE_WORDS;
 
-// Returns the least start of a follower whose pair with the leader lies past the place: one more
-// than the place's follower if the leader is the place's own, else 0, which is every follower. It
-// is 0 for an earlier leader too, though none of its pairs lies past the place: `is_served` tells
-// those apart.
+// Returns the least start of a follower whose pair with `leader` lies past `place`. It is one more
+// than the place's follower if `leader` is the place's own; otherwise it is 0, which is every
+// follower. It is 0 for an earlier leader too, though none of its pairs lies past the place:
+// `is_served` tells those apart.
 pub fn past_from(place: Place, leader: Node) -> u64
     ensures { λ r. ⌜ r ≡ pastFrom place leader ⌝ }
 {
@@ -33,8 +33,8 @@ pub fn past_from(place: Place, leader: Node) -> u64
     }
 }
 
-// Returns whether a leader stands before the leader of a place; then none of its pairs lies past
-// the place.
+// Returns whether `leader` stands before the leader of `place`; then none of its pairs lies past
+// `place`.
 pub fn is_served(place: Place, leader: Node) -> bool
     ensures { λ r. ⌜ r ≡ servedb place leader ⌝ }
 {
@@ -52,12 +52,13 @@ pub fn is_served(place: Place, leader: Node) -> bool
     }
 }
 
-// Returns the index of the first leader that doesn't stand before the leader of a place, or the
-// number of leaders.
+// Returns the index of the first of `leaders` that doesn't stand before the leader of `place`, or
+// the number of leaders.
 pub fn served_count(place: Place, leaders: &[u32]) -> usize
     ensures { λ r. ⌜ r ≡ servedIn place (nodes (now (leaders .entry))) ⌝ }
 {
     let mut k = 0;
+    // Rests on Search: search-found, search-on, search-end.
     while k < node_count(leaders) {
         if !is_served(place, node_at(leaders, k)) {
             return k;

@@ -2,20 +2,20 @@
 ghost use mathlib.Core.Path.{_≡_};
 ghost use Rattle.tickets.specs.Ticket.{freshTicket, asked};
 
-// Which pairs are listed.
+// The pairs to list: those of nodes that lie inside, or only directly inside.
 pub enum Relation {
     Inside,
     Directly,
 }
 
-// In which order they come: by the descendants first, or by the ancestors first.
+// The order in which they come: by the descendants first, or by the ancestors first.
 pub enum Order {
     Descendant,
     Ancestor,
 }
 
-// The sort key of a pair: its document, where the node starts that comes first in the order, and
-// where the other one starts.
+// The sort key of a pair: its document, the start of the node that comes first in the order, and
+// the start of the other one.
 pub struct Key {
     pub document: u32,
     pub leader: u32,
@@ -35,7 +35,7 @@ pub struct Ticket {
     pub place: Place,
 }
 
-// Returns the ticket that starts a listing.
+// Returns the ticket that starts a listing by `relation` and in `order`.
 pub fn fresh(relation: Relation, order: Order) -> Ticket
     ensures { λ r. ⌜ r ≡ freshTicket (asked relation order) ⌝ }
 {

@@ -1,5 +1,5 @@
--- Why it holds: Where bodies lie one after the other, an offset is the contents' end and sixteen
--- bytes for each node before it; so each body is the next part of the nodes after the contents.
+-- Why it holds: If bodies lie one after the other, an offset is the contents' end and sixteen bytes
+-- for each node before it. So each body is the next part of the nodes after the contents.
 -- What would break it: A body that starts elsewhere, or a count that takes a node too many, would
 -- be caught here.
 use mathlib.Core.Path.{_≡_, refl, ap, sym, _∙_}
@@ -45,7 +45,7 @@ pub length-contents : (ws : List Wanted) → length (wordsIn entryNumbers (conte
 unfolding contentsFor entryNumbers
 length-contents ws = length-items entryNumbers 3 (λ e. refl) (contentsFor ws) ∙ ap (λ k. 3 * k) (length-laid (contentsEnd (length ws)) ws)
 
--- what lying one after the other says of the first body and of the later ones
+-- where bodies lie one after the other, the first starts at the place `at` and the others after it
 pub laid-first : (at : ℕ) (e : Entry) (es : List Entry) (size : ℕ) → laidb at (e ∷ es) size ≡ true
     → (e .offset ≡ at) × (laidb (at + NODE-BYTES * e .count) es size ≡ true)
 unfolding laidb
@@ -64,7 +64,7 @@ laid-end at (e ∷ es) size h =
     let l = laid-end (at + NODE-BYTES * e .count) es size (laid-first at e es size h .1) in
     omega arith
 
--- bodies that lie one after the other are laid out as their tags and counts are
+-- bodies that lie one after the other are laid out as their tags and counts say
 pub laid-wants : (at : ℕ) (es : List Entry) (size : ℕ) → laidb at es size ≡ true → laidOut at (wants es) ≡ es
 unfolding laidOut
 laid-wants at [] size h = refl
@@ -73,12 +73,12 @@ laid-wants at (e ∷ es) size h =
     let later = laid-wants (at + NODE-BYTES * e .count) es size (p .1) in
     λ k. entry (e .tag) (sym (p .0) k) (e .count) ∷ later k
 
--- the nodes after the contents of so many lists
+-- the nodes after the contents of a book of `lists` lists
 abbrev pub behind : ℕ → List ℕ → List Node
 behind lists book = nodes (drop (1 + 3 * lists) (numbers book))
 
 module _ (book : List ℕ) (lists : ℕ) where
-  -- the body at so many nodes after the contents
+  -- the body that starts `k` nodes after the contents
   body-there : (k : ℕ) (e : Entry) → e .offset ≡ contentsEnd lists + NODE-BYTES * k → nodesOf book e ≡ take (e .count) (drop k (behind lists book))
   unfolding nodesOf bodyOf partOf contentsEnd
   body-there k e h =
@@ -92,7 +92,7 @@ module _ (book : List ℕ) (lists : ℕ) where
       ∙ nodes-take (drop (4 * k) (drop (1 + 3 * lists) ns)) (e .count)
       ∙ ap (take (e .count)) (nodes-drop (drop (1 + 3 * lists) ns) k)
 
-  -- the bodies from so many nodes after the contents on are those of their tags and counts
+  -- the bodies that start `k` nodes after the contents and later are those of their tags and counts
   pub bodies-laid : (k at : ℕ) (es : List Entry) (size : ℕ) → at ≡ contentsEnd lists + NODE-BYTES * k → laidb at es size ≡ true
       → map (nodesOf book) es ≡ bodiesFor (wants es) (drop k (behind lists book))
   unfolding bodiesFor
@@ -103,7 +103,7 @@ module _ (book : List ℕ) (lists : ℕ) where
       let rest = later ∙ ap (bodiesFor (wants es)) (sym (drop-drop (e .count) k (behind lists book))) in
       λ t. body-there k e (p .0 ∙ q) t ∷ rest t
 
-  -- and one after the other they are all those nodes
+  -- and put one after the other they are all those nodes
   pub nodes-laid : (k at : ℕ) (es : List Entry) (size : ℕ) → at ≡ contentsEnd lists + NODE-BYTES * k → laidb at es size ≡ true
       → size ≡ contentsEnd lists + NODE-BYTES * length (behind lists book) → flatMap (nodesOf book) es ≡ drop k (behind lists book)
   unfolding flatMap laidb

@@ -1,5 +1,5 @@
--- Why it holds: The check of what is to be written asks first for whole entries and nodes, then for
--- the contents and the bodies as reading a book does.
+-- Why it holds: The check of what is to be written asks first for whole entries and nodes. Then it
+-- asks for the contents and the bodies, as reading a book does.
 -- What would break it: LONG, which the contents rule out, or a taken book that named a list would
 -- be caught here.
 use mathlib.Core.Path.{_≡_, ap, sym, _∙_}
@@ -34,7 +34,7 @@ module _ (entries list : List ℕ) where
   unfolding checkWanted raggedEntries raggedb
   nodes-ragged e h = rw (eq-eqb (length entries % WANTED-WORDS) 0 e, ne-eqb (length list % NODE-WORDS) 0 h)
 
-  -- the answer for whole ones
+  -- the verdict on whole entries and nodes
   abbrev pub parts : Verdict
   parts = checkParts (wantedFault (wanted entries) (nodes list)) (bodiesFor (wanted entries) (nodes list))
 

@@ -1,5 +1,5 @@
--- Why it holds: A book that was written reads back as the lists wanted, and in a book each list is
--- found under its own tag; so under the tag of each entry lies the list that was written for it.
+-- Why it holds: A book that was written reads back as the lists wanted. In a book each list is
+-- found under its own tag. So under the tag of each entry lies the list that was written for it.
 -- What would break it: A body that lay under another list's tag would be caught here.
 use mathlib.Core.Path.{_≡_, sym, ap, _∙_}
 use mathlib.Core.List.{List}

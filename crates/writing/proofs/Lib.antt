@@ -1,9 +1,11 @@
 -- Theorems for the reader: `Returned` says that writing and reading a book return each other's
--- words and bytes, `FoundAgain` that each list that was written is found under its tag, `Checking`
--- that LONG is never given, and `Only` that no second answer satisfies a public contract. Laws for
--- the code: `WantedLaws` is how entries lie in words, `BodyOffsets` how bodies lie after the
--- contents, `Rules` what the contents' rules bound, `Reading` and `Rereading` what a book that was
--- written or read reads as, `Putting` how its numbers are stored, `Outcomes` what a call answers.
+-- words and bytes. `FoundAgain` says that each list that was written is found under its tag.
+-- `Checking` says that LONG is never given. `Only` says that no second answer satisfies a public
+-- contract.
+-- Laws for the code: `WantedLaws` is how entries lie in words. `BodyOffsets` is how bodies lie
+-- after the contents. `Rules` is what the contents' rules bound. `Reading` and `Rereading` are what
+-- a book that was written or read reads as. `Putting` is how its numbers are stored. `Outcomes` is
+-- what a call answers.
 pub mod BodyOffsets
 pub mod Checking
 pub mod FoundAgain

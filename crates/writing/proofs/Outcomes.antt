@@ -1,7 +1,7 @@
--- Why it holds: A call is refused for what its check finds, then for want of room, and only a call
--- that is taken writes and counts.
--- What would break it: A refusal with a count, a count or a room other than the book's length, or
--- an output altered by a refusal would be caught here.
+-- Why it holds: A call is refused for what its check finds, then for want of room. Only a call that
+-- is taken writes and counts.
+-- What would break it: A refusal with a count, a refusal that altered the output, or a count or
+-- room other than the book's length would be caught here.
 use mathlib.Core.Path.{_≡_, sym, subst, _∙_}
 use mathlib.Core.List.{List}
 use Prim.Native.Nat.{ℕ, _≤_, _<_}
@@ -20,7 +20,7 @@ abbrev pub WritesBook : List ℕ → List ℕ → List ℕ → List ℕ → Type
 WritesBook entries list out book =
     (writtenOf entries list out ≡ record { verdict = taken; count = length book }) × (writtenOutput entries list out ≡ written book out)
 
--- a call that is refused by a verdict
+-- a call that is refused with a verdict
 abbrev pub Refuses : List ℕ → List ℕ → List ℕ → Verdict → Type 0
 Refuses entries list out v = (writtenOf entries list out ≡ record { verdict = v; count = 0 }) × (writtenOutput entries list out ≡ out)
 

@@ -1,5 +1,5 @@
--- Why it holds: A number stored where the bytes to come begin is the first of them, so what is
--- still to be stored makes the whole at every turn.
+-- Why it holds: A number stored where the bytes to come begin is the first of them. So at every
+-- turn what is still to be stored completes the whole.
 -- What would break it: A number stored one place off, or a number left out, would be caught here.
 use mathlib.Core.Path.{_≡_, refl, _∙_}
 use mathlib.Core.List.{List, [], _∷_, _++_, flatMap}
@@ -18,7 +18,7 @@ use Rattle.writing.specs.declared.wanted.Wanted.{Wanted}
 use Rattle.writing.specs.Wanted.{laidOut, contentsFor}
 use Rattle.writing.proofs.BodyOffsets.{length-contents}
 
--- a number, and the bytes after it
+-- a number stored, and then the bytes after it
 pub put-on : (bs : List ℕ) (i n next : ℕ) (rest : List ℕ) → i < numberCount bs → next ≡ 4 * i + 4
     → sets (putNumber bs i n) next rest ≡ sets bs (4 * i) (bytesOf n ++ rest)
 unfolding putNumber bytesOf
@@ -43,11 +43,11 @@ put-three bs at e h =
     ∙ put-on one (at + 1) (e .offset) (4 * (at + 2)) (bytesOf (e .count) ++ []) (omega arith) second
     ∙ put-on bs at (e .tag) (4 * (at + 1)) (bytesOf (e .offset) ++ (bytesOf (e .count) ++ [])) (omega arith) first
 
--- the bytes of contents that are laid out from a place on
+-- the bytes of contents whose first body starts at a place
 abbrev pub laidBytes : ℕ → List Wanted → List ℕ
 laidBytes at ws = wordsIn bytesOf (wordsIn entryNumbers (laidOut at ws))
 
--- the entry of a list, and those after it
+-- the entry of a list stored, and then those after it
 pub laid-on : (bs : List ℕ) (at next end : ℕ) (w : Wanted) (ws : List Wanted) → next ≡ at + 12
     → sets (sets bs at (wordsIn bytesOf (entryNumbers (entry (w .tag) end (w .count))))) next (laidBytes (end + NODE-BYTES * w .count) ws)
     ≡ sets bs at (laidBytes end (w ∷ ws))

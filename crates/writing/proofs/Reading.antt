@@ -1,6 +1,5 @@
--- Why it holds: A book reads as lists and nodes where its first number counts the lists, its
--- contents are laid out for them, and the nodes lie after; then reading and writing answer the
--- same.
+-- Why it holds: A book reads as lists and nodes if its first number counts the lists, its contents
+-- are laid out for them, and the nodes lie after. Then reading and writing answer the same.
 -- What would break it: A number, an entry or a node that reading and writing took differently would
 -- be caught here.
 use mathlib.Core.Path.{_≡_, ap, _∙_}
@@ -63,7 +62,7 @@ module _ (book : List ℕ) (ws : List Wanted) (ns : List Node) (r : Reads book w
     unfolding bookVerdict bodiesIn
     same-check = λ t. checkParts (same-fault t) (same-bodies t)
 
--- a book that is written has as many bytes as its lists and nodes take
+-- a written book has as many bytes as its lists and nodes take
 pub size-written : (ws : List Wanted) (ns : List Node) → length (bookBytes ws ns) ≡ sizeFor ws ns
 unfolding bookBytes bookNumbers sizeFor contentsEnd
 size-written ws ns =

@@ -1,6 +1,6 @@
 -- Why it holds: A book whose contents keep the rules reads as the tags and counts of its contents
--- and the nodes after them, and numbers, entries and nodes that are whole are written as they were
--- read; so its bytes come back.
+-- and the nodes after them. Whole numbers, entries and nodes are written as they were read. So its
+-- bytes come back.
 -- What would break it: A byte that no number, entry or node held would be caught here.
 use mathlib.Core.Path.{_≡_, refl, ap, sym, _∙_}
 use mathlib.Core.List.{List, [], _∷_, _++_, flatMap}

@@ -1,5 +1,5 @@
--- Why it holds: What is written is read back as the very words that it was written from, and what
--- is read as a book is written back to the very bytes that it was read from.
+-- Why it holds: What is written is read back as the very words that it was written from. What is
+-- read as a book is written back to the very bytes that it was read from.
 -- What would break it: A tag, a count, a node or a byte that did not come back would be caught
 -- here.
 use mathlib.Core.Path.{_≡_, ap, sym, subst, _∙_}
@@ -116,8 +116,7 @@ module _ (book : List ℕ) (t : bookVerdict book .answer ≡ TAKEN) where
   bytes-back small =
       (λ k. bookBytes (entries-read k) (nodes-read k)) ∙ same-bytes book (wantedIn book) (behind (listsIn book) book) reads-book small
 
--- the call's own words: with room for it, a book is written that is read back as the words that the
--- call was given
+-- with room for it, the call writes a book that is read back as the words that the call was given
 pub words-return : (entries list out : List ℕ) → All Small entries → All Small list → checkWanted entries list .answer ≡ TAKEN
     → length (bytesFor entries list) ≤ length out
     → WritesBook entries list out (bytesFor entries list)

@@ -1,5 +1,5 @@
--- Why it holds: The contents that a book will have keep the rules where nothing is broken, and then
--- there are few lists, none too long, each after the last.
+-- Why it holds: If nothing is broken, the contents that a book will have keep the rules. Then there
+-- are few lists, none too long, each after the last.
 -- What would break it: A count that no rule bounds, or an offset that a number could not hold,
 -- would be caught here.
 use mathlib.Core.Path.{_≡_}
@@ -25,7 +25,7 @@ use Rattle.writing.specs.declared.wanted.Wanted.{Wanted}
 use Rattle.writing.specs.Wanted.{WANTED-WORDS, wanted, laidOut, contentsFor, sizeFor, wantedFault}
 use Rattle.writing.proofs.WantedLaws.{length-wanted}
 
--- the rules that bound numbers
+-- the rules that bound the numbers of a book
 pub record Rules (lists : ℕ) (es : List Entry) (size : ℕ) : Type 0 where
   pub few : lists ≤ MOST-LISTS
   pub short : All (λ e. e .count ≤ MOST-NODES) es
@@ -43,7 +43,7 @@ rules lists es size h =
       laid = not-none _ (r .1);
     }
 
--- where there is no fault, nothing is broken: CONTENTS is 15, a number after 14
+-- if there is no fault, nothing is broken; CONTENTS is 15, the number after 14
 unbroken : (broken : Bool) → cond broken CONTENTS TAKEN ≡ TAKEN → broken ≡ false
 unbroken broken h = skip broken 14 TAKEN .0 h .0
 
@@ -56,7 +56,7 @@ pub rules-written : (ws : List Wanted) (ns : List Node) → wantedFault ws ns �
 unfolding wantedFault
 rules-written ws ns good = rules (length ws) (contentsFor ws) (sizeFor ws ns) (unbroken _ good)
 
--- so the lists are few, and the counts of the lists, which are those of the contents, are small
+-- so there are few lists, and their counts, which are those of the contents, are small
 counts-laid : (at : ℕ) (ws : List Wanted) → All (λ e. e .count ≤ MOST-NODES) (laidOut at ws) → All (λ w. w .count ≤ MOST-NODES) ws
 unfolding laidOut
 counts-laid at [] h = tt
@@ -73,7 +73,7 @@ wanted-few entries ns good = omega (arith, length-wanted entries, rules-written 
 abbrev pub Small : ℕ → Type 0
 Small n = n < 4294967296
 
--- the numbers of contents, and those after them
+-- the numbers of contents, and those after them, are small
 pub small-laid : (at : ℕ) (ws : List Wanted) (rest : List ℕ) → at + 65536 * length ws < 4294967296 → All (λ w. Small (w .tag)) ws
     → All (λ w. w .count ≤ MOST-NODES) ws → All Small rest → All Small (wordsIn entryNumbers (laidOut at ws) ++ rest)
 unfolding wordsIn flatMap entryNumbers laidOut

@@ -1,5 +1,5 @@
--- Why it holds: Two words more are one entry more, so an index of the entries is twice that index
--- of the words.
+-- Why it holds: Two more words are one more entry, so an entry lies at twice its index in the
+-- words.
 -- What would break it: A tag or a count read one word off would be caught here.
 use mathlib.Core.Path.{_≡_, refl, ap, sym, subst, _∙_}
 use mathlib.Core.List.{List, [], _∷_, flatMap}
@@ -38,7 +38,7 @@ wanted-words (t ∷ c ∷ ws) (suc i) h =
     (sym (beyond t c ws {k = 2 * i} {m = 2 * suc i} (omega arith)) k)
     (sym (beyond t c ws {k = 2 * i + 1} {m = 2 * suc i + 1} (omega arith)) k)
 
--- the entry at an index: those from there on begin with it, and what holds of all holds of it
+-- the entry at an index: the entries from there on begin with it, and what holds of all holds of it
 module _ (ws : List ℕ) (i : ℕ) (h : i < length ws / WANTED-WORDS) (w : Wanted) (q : w ≡ getD (wanted ws) i (want 0 0)) where
   pub wanted-from : drop i (wanted ws) ≡ w ∷ drop (i + 1) (wanted ws)
   wanted-from = rw (add-one i, q) (drop-cons (wanted ws) i (want 0 0) (omega (arith, length-wanted ws)))
@@ -46,8 +46,8 @@ module _ (ws : List ℕ) (i : ℕ) (h : i < length ws / WANTED-WORDS) (w : Wante
   pub wanted-at : (P : Wanted → Type 0) → All P (wanted ws) → P w
   wanted-at P s = subst P (sym q) (all-at P (wanted ws) i (want 0 0) (omega (arith, length-wanted ws)) s)
 
--- entries written as words are read as the same entries, and whole words of entries are written as
--- they were
+-- entries written as words are read as the same entries, and the words of whole entries are written
+-- as they were
 pub wanted-of-words : (xs : List Wanted) → wanted (wordsIn wantedWords xs) ≡ xs
 unfolding wanted wordsIn flatMap wantedWords
 wanted-of-words [] = refl

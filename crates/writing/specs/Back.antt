@@ -14,13 +14,14 @@ use Rattle.writing.specs.Wanted.{want, wantedWords}
 unfoldable pub wantedIn : List ℕ → List Wanted
 wantedIn book = map (λ e. want (e .tag) (e .count)) (contentsOf book)
 
--- the nodes of each list, one list after the other
+-- the nodes of each list, list by list
 unfoldable pub bodiesIn : List ℕ → List (List Node)
 bodiesIn book = map (nodesOf book) (contentsOf book)
 
--- both as words
+-- the tags and counts as words
 unfoldable pub entriesFrom : List ℕ → List ℕ
 entriesFrom book = wordsIn wantedWords (wantedIn book)
 
+-- the nodes of all lists as words, one list after the other
 unfoldable pub nodesFrom : List ℕ → List ℕ
 nodesFrom book = wordsIn wordsOf (flatMap (nodesOf book) (contentsOf book))

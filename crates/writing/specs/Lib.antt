@@ -1,5 +1,5 @@
--- What the contract of `writing` cites, the scope's words in `Wanted` and `WriteCall`, and what a
--- book that was read gives for writing it again.
+-- What the contract of `writing` cites. `Wanted` and `WriteCall` have the scope's words, and `Back`
+-- says what a book that was read gives for writing it again.
 pub mod Back
 pub mod Wanted
 pub mod WriteCall

@@ -1,5 +1,5 @@
--- docs/SCOPE.md, "The field book": a book is written from (tag, count) entries and all nodes one
--- after the other.
+-- docs/SCOPE.md, "The field book": what a book is written from, which is (tag, count) entries and
+-- all nodes one after the other.
 use Prim.Native.Nat.{ℕ, _+_, _*_, _%_}
 use mathlib.Core.Bool.{Bool, cond, not}
 use mathlib.Core.List.{List, [], _∷_, _++_}
@@ -18,11 +18,11 @@ use Rattle.writing.specs.declared.wanted.Wanted.{Wanted}
 abbrev pub want : ℕ → ℕ → Wanted
 want tag count = record { tag = tag; count = count }
 
--- how many words such an entry takes
+-- how many words an entry takes
 abbrev pub WANTED-WORDS : ℕ
 WANTED-WORDS = 2
 
--- the whole entries of the words, one after the other
+-- the entries of the words, one after the other; a word left over makes none
 unfoldable pub wanted : List ℕ → List Wanted
 wanted [] = []
 wanted (t ∷ []) = []
@@ -32,19 +32,21 @@ wanted (t ∷ c ∷ words) = want t c ∷ wanted words
 unfoldable pub wantedWords : Wanted → List ℕ
 wantedWords w = w .tag ∷ w .count ∷ []
 
--- RAGGED: the words don't make whole entries, or the others whole nodes
+-- RAGGED: the words don't make whole entries
 unfoldable pub raggedEntries : List ℕ → Bool
 raggedEntries words = not (eqb (length words % WANTED-WORDS) 0)
 
--- the contents: the first body starts at a place, and each next one where the last ended
+-- the contents of lists whose first body starts at the byte `at`, each next one where the last
+-- ended
 unfoldable pub laidOut : ℕ → List Wanted → List Entry
 laidOut at [] = []
 laidOut at (w ∷ ws) = entry (w .tag) at (w .count) ∷ laidOut (at + NODE-BYTES * w .count) ws
 
+-- the contents of a book: its first body starts right after them
 unfoldable pub contentsFor : List Wanted → List Entry
 contentsFor ws = laidOut (contentsEnd (length ws)) ws
 
--- the bodies: each list takes its count of nodes from those that the earlier lists left
+-- the bodies of a book: each list takes its count of nodes from those that the earlier lists left
 unfoldable pub bodiesFor : List Wanted → List Node → List (List Node)
 bodiesFor [] ns = []
 bodiesFor (w ∷ ws) ns = take (w .count) ns ∷ bodiesFor ws (drop (w .count) ns)
@@ -53,14 +55,15 @@ bodiesFor (w ∷ ws) ns = take (w .count) ns ∷ bodiesFor ws (drop (w .count) n
 unfoldable pub sizeFor : List Wanted → List Node → ℕ
 sizeFor ws ns = contentsEnd (length ws) + NODE-BYTES * length ns
 
--- CONTENTS: the book's contents would break a rule; where the counts don't add up to the nodes, its
--- last body wouldn't end where the book does
+-- CONTENTS: the book's contents would break a rule. If the counts don't add up to the nodes, the
+-- last body wouldn't end where the book does.
 unfoldable pub wantedFault : List Wanted → List Node → ℕ
 wantedFault ws ns = cond (brokenb (length ws) (contentsFor ws) (sizeFor ws ns)) CONTENTS TAKEN
 
--- the numbers of the book: how many lists, the contents, and the nodes; and its bytes
+-- the numbers of the book: how many lists, the contents, and the nodes
 unfoldable pub bookNumbers : List Wanted → List Node → List ℕ
 bookNumbers ws ns = length ws ∷ wordsIn entryNumbers (contentsFor ws) ++ wordsIn wordsOf ns
 
+-- the bytes of the book
 unfoldable pub bookBytes : List Wanted → List Node → List ℕ
 bookBytes ws ns = wordsIn bytesOf (bookNumbers ws ns)

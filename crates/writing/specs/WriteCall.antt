@@ -1,5 +1,5 @@
--- docs/SCOPE.md, "The field book": what writing answers and writes: RAGGED, CONTENTS, the bodies,
--- ROOM.
+-- docs/SCOPE.md, "The field book": what writing answers and writes. Its checks are RAGGED,
+-- CONTENTS, the bodies and ROOM, in that order.
 use Prim.Native.Nat.{ℕ}
 use mathlib.Core.Bool.{cond, _||_}
 use mathlib.Core.List.{List}
@@ -14,9 +14,10 @@ use Rattle.books.specs.Book.{checkParts}
 use Rattle.answers.specs.declared.verdict.Counted.{Counted}
 use Rattle.writing.specs.Wanted.{wanted, raggedEntries, bodiesFor, wantedFault, bookBytes}
 
--- entries and nodes, as words
+-- a book to be written from entries and nodes, given as words
 module _ (entries list : List ℕ) where
-  -- the checks before ROOM: the entries and then the nodes, CONTENTS, and the bodies in order
+  -- the verdict of the checks before ROOM: whole entries, whole nodes, CONTENTS, and the bodies in
+  -- order
   unfoldable pub checkWanted : Verdict
   checkWanted =
       cond (raggedEntries entries || raggedb list) (verdict RAGGED ANCESTORS 0)
@@ -26,9 +27,9 @@ module _ (entries list : List ℕ) where
   unfoldable pub bytesFor : List ℕ
   bytesFor = bookBytes (wanted entries) (nodes list)
 
--- a call with them and an output
+-- a call with these entries, these nodes and an output
 module _ (entries list out : List ℕ) where
-  -- the answer, and how many bytes were written, none on refusal
+  -- the call's answer, and how many bytes it wrote, none on refusal
   unfoldable pub writtenOf : Counted
   writtenOf =
       let v = checkWanted entries list in
@@ -38,6 +39,6 @@ module _ (entries list out : List ℕ) where
         count = ifTaken (v .answer) book out (length book) 0;
       }
 
-  -- the output on return
+  -- the output on return: it begins with the book; on refusal it is as it was
   unfoldable pub writtenOutput : List ℕ
   writtenOutput = outputOf (checkWanted entries list .answer) (bytesFor entries list) out

@@ -1,4 +1,4 @@
-// The checks of a book that is to be written.
+// Checks what a book is to be written from.
 use crate::wanted::WANTED_WORDS;
 use crate::wanted::wanted_at;
 use crate::wanted::wanted_count;
@@ -30,6 +30,7 @@ ghost use Rattle.writing.specs.Wanted.{WANTED-WORDS, wanted, contentsFor
 ghost use Rattle.writing.specs.WriteCall.{checkWanted};
 
 // Walks along the contents that the book will have: each body starts where the last one ends.
+// Returns the place after them, or the first refusal.
 fn pass_wanted(entries: &[u32]) -> Step
     requires { ⌜ length (now entries) / WANTED-WORDS ≤ MOST-LISTS ⌝ }
     ensures { λ r. ⌜ Kept (startOf (length (now (entries .entry)) / WANTED-WORDS)) (contentsFor (wanted (now (entries .entry)))) r ⌝ }
@@ -37,6 +38,7 @@ fn pass_wanted(entries: &[u32]) -> Step
     let lists = wanted_count(entries);
     let mut place = start_of(lists as u32);
     let mut index = 0;
+    // Rests on contents: ContentLaws: kept-on, kept-stop, kept-end.
     while index < lists {
         let wanted = wanted_at(entries, index);
         let step = pass_entry(
@@ -56,8 +58,8 @@ fn pass_wanted(entries: &[u32]) -> Step
     Step::Reached(place)
 }
 
-// Returns whether the contents that the book will have keep the rules, the last body ending where
-// the nodes do: TAKEN, or CONTENTS.
+// Returns TAKEN if the contents that the book will have keep the rules and the last body ends where
+// the nodes do, or else CONTENTS.
 fn wanted_fault(entries: &[u32], list: &[u32]) -> u32
     requires { ⌜ length (now list) % NODE-WORDS ≡ 0 ⌝ }
     ensures { λ r. ⌜ r ≡ wantedFault (wanted (now (entries .entry))) (nodes (now (list .entry))) ⌝ }
@@ -70,14 +72,15 @@ fn wanted_fault(entries: &[u32], list: &[u32]) -> u32
     step_answer(pass_wanted(entries), size)
 }
 
-// Returns the verdict on the bodies, whose counts add up to the nodes: that on the first one that
-// isn't accepted.
+// Returns the verdict on the first body that isn't accepted, or TAKEN. The counts add up to the
+// nodes.
 fn check_bodies(entries: &[u32], list: &[u32]) -> Verdict
     requires { ⌜ (length (now list) % NODE-WORDS ≡ 0) × (wantedFault (wanted (now entries)) (nodes (now list)) ≡ TAKEN) ⌝ }
     ensures { λ r. ⌜ r ≡ checkBodies 0 (bodiesFor (wanted (now (entries .entry))) (nodes (now (list .entry)))) ⌝ }
 {
     let mut from = 0;
     let mut index = 0;
+    // Rests on books: BookLaws: bodies-on, bodies-stop, bodies-end.
     while index < wanted_count(entries) {
         let wanted = wanted_at(entries, index);
         let to = from + NODE_WORDS * wanted.count as usize;

@@ -1,4 +1,4 @@
-// Writing a field book from its lists.
+// Writes a field book from its lists.
 mod check;
 mod put;
 pub mod wanted;

@@ -1,4 +1,4 @@
-// Writing the numbers of a book.
+// Writes the numbers of a book.
 use crate::wanted::wanted_at;
 use crate::wanted::wanted_count;
 use contents::entry::ENTRY_NUMBERS;
@@ -18,19 +18,21 @@ ghost use Rattle.numbers.specs.Little.{NUMBER-BYTES, numberCount, bytesOf};
 ghost use Rattle.contents.specs.Contents.{MOST-LISTS, ENTRY-NUMBERS, entryNumbers};
 ghost use Rattle.writing.specs.Wanted.{WANTED-WORDS, wanted, contentsFor};
 
-// The words are written as numbers, one after the other, from the number at an index on.
+// Writes `words` into `out` as numbers, one after the other, from the number at the index `from`
+// on.
 pub(crate) fn put_numbers(words: &[u32], out: &mut [u8], from: usize)
     requires { ⌜ from + length (now words) ≤ numberCount (now out) ⌝ }
     ensures { λ r. ⌜ now (out .exit) ≡ sets (now (out .entry)) (NUMBER-BYTES * from) (wordsIn bytesOf (now (words .entry))) ⌝ }
 {
     let mut index = 0;
+    // Rests on Putting: put-on.
     while index < words.len() {
         put_number(out, from + index, words[index]);
         index += 1;
     }
 }
 
-// The three numbers of an entry are written.
+// Writes the three numbers of the entry at `index` of the contents.
 fn put_entry(out: &mut [u8], index: usize, entry: Entry)
     requires { ⌜ 1 + ENTRY-NUMBERS * index + ENTRY-NUMBERS ≤ numberCount (now out) ⌝ }
     ensures { λ r. ⌜ now (out .exit) ≡ sets (now (out .entry)) (NUMBER-BYTES * (1 + ENTRY-NUMBERS * index))
@@ -42,7 +44,7 @@ fn put_entry(out: &mut [u8], index: usize, entry: Entry)
     put_number(out, at + 2, entry.count);
 }
 
-// The number of lists and the contents are written: each body starts where the last one ends.
+// Writes the number of lists and the contents into `out`. Each body starts where the last one ends.
 pub(crate) fn put_contents(entries: &[u32], out: &mut [u8])
     requires { ⌜ (length (now entries) / WANTED-WORDS ≤ MOST-LISTS) × All (λ w. w .count ≤ MOST-NODES) (wanted (now entries))
         × (1 + ENTRY-NUMBERS * (length (now entries) / WANTED-WORDS) ≤ numberCount (now out)) ⌝ }
@@ -53,6 +55,7 @@ pub(crate) fn put_contents(entries: &[u32], out: &mut [u8])
     put_number(out, 0, lists as u32);
     let mut end = contents_end(lists as u32);
     let mut index = 0;
+    // Rests on Putting: laid-on.
     while index < lists {
         let wanted = wanted_at(entries, index);
         put_entry(

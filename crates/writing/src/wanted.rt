@@ -13,14 +13,14 @@ pub(crate) struct Wanted {
     pub count: u32,
 }
 
-// Returns the number of whole entries.
+// Returns the number of whole entries in `entries`.
 pub(crate) fn wanted_count(entries: &[u32]) -> usize
     ensures { λ r. ⌜ r ≡ length (now (entries .entry)) / WANTED-WORDS ⌝ }
 {
     entries.len() / WANTED_WORDS
 }
 
-// The entry at an index.
+// Returns the entry at `index`.
 pub(crate) fn wanted_at(entries: &[u32], index: usize) -> Wanted
     requires { ⌜ index < length (now entries) / WANTED-WORDS ⌝ }
     ensures { λ r. ⌜ r ≡ getD (wanted (now (entries .entry))) index (want 0 0) ⌝ }

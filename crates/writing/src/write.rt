@@ -1,4 +1,4 @@
-// Writing a book.
+// Writes a book.
 use crate::check::check_wanted;
 use crate::put::put_contents;
 use crate::put::put_numbers;
@@ -14,9 +14,9 @@ use numbers::little::NUMBER_BYTES;
 ghost use mathlib.Core.Path.{_≡_};
 ghost use Rattle.writing.specs.WriteCall.{writtenOf, writtenOutput};
 
-// Writes the book of the lists into the output and returns its length. The entries are (tag, count)
-// words, a pair for each list. `list` has all nodes one after the other, and each list takes as many
-// of them as its count says. On refusal the output is as it was.
+// Writes the book of the lists into `out` and returns its length. `entries` has a tag and a count
+// for each list. `list` has all nodes one after the other, and each list takes as many of them as
+// its count says. On refusal `out` stays as it was.
 pub fn write_book(entries: &[u32], list: &[u32], out: &mut [u8]) -> Counted
     ensures { λ r. ⌜ (r ≡ writtenOf (now (entries .entry)) (now (list .entry)) (now (out .entry)))
         × (now (out .exit) ≡ writtenOutput (now (entries .entry)) (now (list .entry)) (now (out .entry))) ⌝ }

@@ -15,7 +15,7 @@ unfoldable pub keepsb : ContentsPlace → List Entry → ℕ → Bool
 keepsb p [] size = eqb (p .end) size
 keepsb p (e ∷ es) size = passesb p e && keepsb (afterEntry p e) es size
 
--- a walk along lists from a place on: its last step answers for all of them, whatever the book's
--- size
+-- a walk along the lists `es` from a place on ended with the step `r`, whose answer holds for all
+-- of them, whatever the book's size
 abbrev pub Kept : ContentsPlace → List Entry → Step → Type 0
 Kept p es r = (size : ℕ) → cond (keepsb p es size) TAKEN CONTENTS ≡ stepAnswer r size

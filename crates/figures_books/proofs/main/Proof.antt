@@ -1,7 +1,7 @@
 -- Function: `main` (src/main.rt).
--- Why it holds: The loop goes through the arguments and ends with them.
--- Measure: `count - index`.
--- What would break it: An argument run twice would be caught at the measure.
+-- Why it holds: The loop goes through the arguments and ends after the last.
+-- Measure: `count - index`, the arguments still to come.
+-- What would break it: An index that doesn't move on would be caught at `loop-less`.
 use Prim.Native.Nat.{_-_}
 use borrow.Author.Needs.{needs}
 use Rattle.figures_books.proofs.main.Statement.{statement}

@@ -1,7 +1,7 @@
 -- Function: `say_lists` (src/main.rt).
--- Why it holds: The loop goes through the places of the lists and ends after the last.
--- Measure: `lists - position`.
--- What would break it: A place that was not moved on would be caught at the measure.
+-- Why it holds: The loop goes through the positions of the lists and ends after the last.
+-- Measure: `lists - position`, the lists still to come.
+-- What would break it: A position that doesn't move on would be caught at `loop-less`.
 use Prim.Native.Nat.{_-_}
 use borrow.Author.Needs.{needs}
 use Rattle.figures_books.proofs.say_lists.Statement.{statement}

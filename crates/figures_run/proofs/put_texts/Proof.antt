@@ -1,8 +1,9 @@
 -- Function: `put_texts` (src/main.rt).
--- Why it holds: The loop puts as many nodes as it counted, and a node put keeps the number of
--- words. With an index that stays as it is, the loop would not end.
--- Measure: `count - index`.
--- What would break it:
+-- Why it holds: The loop puts as many nodes as it counted, and putting a node keeps the number of
+-- words.
+-- Measure: `count - index`, the nodes still to put.
+-- What would break it: An index that stays as it is would be caught at `loop-less`, as the loop
+-- would not end.
 use Prim.Native.Nat.{_-_}
 use mathlib.Core.Path.{_≡_}
 use lib.ListN.{length}

@@ -11,25 +11,28 @@ use Rattle.answers.specs.Output.{wordsIn}
 use Rattle.forest.specs.declared.link.Link.{Link}
 use Rattle.forest.specs.Links.{LINK-WORDS, upTo, firstOf, nodeIn, parentOf, siblingb, linkWords}
 
+-- the links of a node, with its three indices
 abbrev pub link : ℕ → ℕ → ℕ → Link
 link parent child next = record { parent = parent; child = child; next = next }
 
 module _ (ns : List Node) (count : ℕ) where
-  -- a node's first child and next sibling, where only so many nodes are looked at
+  -- a node's first child, where only the first `count` nodes are looked at
   unfoldable pub childTo : ℕ → ℕ
   childTo i = firstOf (λ j. eqb (parentOf ns j) i) (upTo count)
 
+  -- its next sibling among them
   unfoldable pub nextTo : ℕ → ℕ
   nextTo i = firstOf (λ j. ltb i j && siblingb ns i j) (upTo count)
 
+  -- its links among them
   unfoldable pub linkTo : ℕ → Link
   linkTo i = link (parentOf ns i) (childTo i) (nextTo i)
 
-  -- the words of the first nodes' links
+  -- the words of the links of the first `count` nodes
   unfoldable pub linksTo : List ℕ
   linksTo = wordsIn linkWords (map linkTo (upTo count))
 
-  -- words that begin with these
+  -- the words begin with these
   abbrev pub Linking : List ℕ → Type 0
   Linking words = take (LINK-WORDS * count) words ≡ linksTo
 

@@ -1,5 +1,5 @@
--- Words of the contracts of private functions: what a walk along a list keeps. No public contract
--- cites this file.
+-- What a walk along a list keeps, for the contracts of private functions. No public contract cites
+-- this file.
 use Prim.Native.Nat.{ℕ, zero, suc, _+_, _*_, _/_, _%_, _≤_, _<_}
 use mathlib.Core.Path.{_≡_}
 use mathlib.Core.Bool.{Bool, true, cond, not}
@@ -17,10 +17,11 @@ use Rattle.lists.specs.declared.walk.Step.the-variants.{Reached, Refused
 use Rattle.lists.specs.Fault.{levelb, spanb, orderb}
 use Rattle.answers.specs.Verdict.{ANCESTORS, verdict}
 
+-- a place of the walk: how many nodes it has passed, and how many words of the stack are in use
 abbrev pub listPlace : ℕ → ℕ → ListPlace
 listPlace index used = record { index = index; used = used }
 
--- the node whose words start at a place
+-- the node whose four words start at word w
 unfoldable pub nodeFrom : List ℕ → ℕ → Node
 nodeFrom words w = node (getD words w 0) (getD words (w + 1) 0) (getD words (w + 2) 0) (getD words (w + 3) 0)
 
@@ -29,20 +30,20 @@ unfoldable pub firsts : ℕ → List Node → List Node
 firsts zero ns = []
 firsts (suc k) ns = getD ns k (node 0 0 0 0) ∷ firsts k ns
 
--- the nodes in the first words of a stack, the last one first
+-- the nodes in the first `used` words of a stack, the last one first
 abbrev pub opened : ℕ → List ℕ → List Node
 opened used words = firsts (used / NODE-WORDS) (nodes words)
 
--- so many words are whole nodes, no more than there are levels
+-- `used` words are whole nodes, at most one for each level
 abbrev pub Fits : ℕ → Type 0
 Fits used = (used % NODE-WORDS ≡ 0) × (used ≤ NODE-WORDS * MOST-LEVELS)
 
--- what is left of a chain of nodes once those at its head that aren't open at n are taken off
+-- what is left of a chain once the nodes at its head that aren't open at n are taken off
 unfoldable pub unended : Node → List Node → List Node
 unended n [] = []
 unended n (e ∷ es) = cond (openb n e) (e ∷ es) (unended n es)
 
--- e lies inside the head of a chain, and its level is higher
+-- e lies inside the head of the chain, if there is one, and its level is higher
 abbrev pub Upon : Node → List Node → Type 0
 Upon e [] = Unit {0}
 Upon e (f ∷ es) = (insideb e f ≡ true) × (f .level < e .level)
@@ -52,43 +53,43 @@ abbrev pub Chain : List Node → Type 0
 Chain [] = Unit {0}
 Chain (e ∷ es) = (1 ≤ e .level) × Upon e es × Chain es
 
--- a chain s stands for the nodes before at every node that P lets come next: a test that only open
--- nodes pass keeps the same of both
+-- A chain s stands for the nodes before, at every node n that P lets come next. That is: of both, a
+-- test that only nodes open at n pass keeps the same nodes.
 pub record Stands (P : Node → Type 0) (before s : List Node) : Type 0 where
   pub chain : Chain s
   pub keeps : (n : Node) → P n → (test : Node → Bool) → ((e : Node) → test e ≡ true → openb n e ≡ true) → keep test before ≡ keep test s
 
--- n is the first node of its document, as far as the head of a chain tells
+-- whether n is the first node of its document, as far as the head of a chain tells
 unfoldable pub firstb : List Node → Node → Bool
 firstb [] n = true
 firstb (e ∷ es) n = ltb (e .document) (n .document)
 
--- all nodes of a chain are of one document
+-- all nodes of a chain are of document d
 abbrev pub InDocument : ℕ → List Node → Type 0
 InDocument d es = All (λ e. e .document ≡ d) es
 
--- n stands in the document of a chain's head, after it
+-- n is of the same document as a chain's head, and starts after it
 abbrev pub AfterHead : Node → List Node → Type 0
 AfterHead n [] = Unit {0}
 AfterHead n (e ∷ es) = (n .document ≡ e .document) × (e .start < n .start)
 
--- what is wrong at n, as far as the head of the open nodes tells
+-- the fault at n, as far as the head of the open nodes tells, or TAKEN
 unfoldable pub headFault : List Node → Node → ℕ
 headFault [] n = TAKEN
 headFault (e ∷ es) n = cond (not (insideb n e)) CROSS (cond (not (ltb (e .level) (n .level))) DEPTH TAKEN)
 
--- what is wrong at n, as far as the chain of nodes that were open at the node before tells
+-- the fault at n, as far as the chain of nodes that were open at the node before tells, or TAKEN
 unfoldable pub topFault : List Node → Node → ℕ
 topFault opened n = cond (levelb n) LEVEL (cond (spanb n) SPAN (cond (orderb opened n) ORDER (headFault (unended n opened) n)))
 
--- a step past n, at an index: where nothing is wrong it lies at the head of those left, else it is
--- refused for what is wrong
+-- A step past n, at an index, where `wrong` is the fault at n. Where that is TAKEN, n lies on top
+-- of the nodes left. Otherwise the step is a refusal with that fault.
 abbrev pub Passed : ℕ → List Node → Node → ℕ → Step → List ℕ → Type 0
 Passed wrong left n index (Reached reached) words =
     (wrong ≡ TAKEN) × (reached .index ≡ index + 1) × Fits (reached .used) × (opened (reached .used) words ≡ n ∷ left)
 Passed wrong left n index (Refused refusal) words = (wrong ≡ TAKEN → ⊥) × (refusal ≡ verdict wrong ANCESTORS index)
 
--- a step past n from the chain that was open at the node before
+-- a step past n, from the chain that was open at the node before
 abbrev pub SteppedPast : List Node → Node → ℕ → Step → List ℕ → Type 0
 SteppedPast opened n index step words = Passed (topFault opened n) (unended n opened) n index step words
 

@@ -19,6 +19,7 @@ use Rattle.marks.specs.Back.{sameRowb}
 use Rattle.marks.specs.Mark.{CLOSE, closeb, textb, openAfter, markFault, unclosedb}
 use Rattle.marks.specs.Table.{ROW-WORDS, row, rowWords, closeAt, rowIn}
 
+-- a place with its two numbers: elements open, and rows begun before it
 abbrev pub markPlace : ℕ → ℕ → MarkPlace
 markPlace depth rows = record { depth = depth; rows = rows }
 
@@ -35,7 +36,8 @@ unfoldable pub passed : ℕ → MarkPlace → ℕ → Step
 passed position p mark =
     cond (eqb (markFault position (p .depth) mark) TAKEN) (Reached (afterMark p mark)) (Refused (markFault position (p .depth) mark))
 
--- a walk along the marks from a position on
+-- the answer of a walk along the marks from a position on: the place at their end, or the first
+-- refusal
 unfoldable pub walked : ℕ → MarkPlace → List ℕ → Step
 walked position p [] = cond (unclosedb position (p .depth)) (Refused UNCLOSED) (Reached p)
 walked position p (mark ∷ marks) =
@@ -51,16 +53,17 @@ answerIn (Refused answer) = answer
 unfoldable pub openBefore : ℕ → ℕ → ℕ
 openBefore depth mark = cond (closeb mark) (depth + 1) (cond (textb mark) depth (depth - 1))
 
--- the place before a mark: the rows are those that begin before it
+-- the place before a mark; its `rows` are those that begin before the mark
 unfoldable pub beforeMark : MarkPlace → ℕ → MarkPlace
 beforeMark p mark = markPlace (openBefore (p .depth) mark) (cond (closeb mark) (p .rows) (p .rows - 1))
 
--- the closes kept at a place: of the elements open there, the outermost's first
+-- the closes kept before a mark at a position: a close is added after those of the elements around
+-- it, and any other mark changes nothing
 unfoldable pub closesBefore : List ℕ → ℕ → ℕ → ℕ → List ℕ
 closesBefore closes position depth mark = cond (closeb mark) (set closes depth position) closes
 
--- what is kept are the closes of the elements that are open at a position, before the marks that
--- follow
+-- the closes kept are those of the elements that are open at a position, among the marks from there
+-- on; the innermost's is the last
 abbrev pub Kept : List ℕ → ℕ → ℕ → List ℕ → Type 0
 Kept closes position depth marks = (inner : ℕ) → inner < depth → getD closes (depth - 1 - inner) 0 ≡ closeAt inner position marks
 
@@ -74,13 +77,14 @@ unfoldable pub outputBefore : ℕ → ℕ → List ℕ → MarkPlace → ℕ →
 outputBefore document position closes p mark out =
     cond (closeb mark) out (sets out (ROW-WORDS * (p .rows - 1)) (rowWords (rowHere document position closes (p .depth) mark)))
 
--- the mark at a position, as the last of the rows left tells: its tag where it starts there, else a
+-- the mark at a position, as the last of the rows left tells: its tag if it starts there, else a
 -- close
 unfoldable pub markHere : List Row → ℕ → ℕ → ℕ
 markHere rs count position =
     cond (ltb 0 count && eqb (rowIn rs (count - 1) .node .start) position) (rowIn rs (count - 1) .tag) CLOSE
 
--- the last of the rows is the one that a mark at a position has, and the mark is no faulty one
+-- a mark fits: a close has room to be kept, and any other mark is in its place and has the last of
+-- the rows left as its row
 unfoldable pub fitsb : List Row → ℕ → ℕ → List ℕ → MarkPlace → ℕ → Bool
 fitsb rs document position closes p mark =
     cond (closeb mark) (ltb (p .depth) MOST-LEVELS)
@@ -88,14 +92,14 @@ fitsb rs document position closes p mark =
     && sameRowb (rowHere document position closes (p .depth) mark) (rowIn rs (p .rows - 1))))
 
 -- what a step back from a position says, with the closes kept on return: the mark there fits and
--- the place before it is reached, or it doesn't fit
+-- the place before it is reached, or the mark doesn't fit
 abbrev pub SteppedBack : List Row → ℕ → ℕ → List ℕ → MarkPlace → Step → List ℕ → Type 0
 SteppedBack rs document position closes p (Reached q) kept =
     let mark = markHere rs (p .rows) position in
     (fitsb rs document position closes p mark ≡ true) × (q ≡ beforeMark p mark) × (kept ≡ closesBefore closes position (p .depth) mark)
 SteppedBack rs document position closes p (Refused answer) kept = fitsb rs document position closes p (markHere rs (p .rows) position) ≡ false
 
--- the rows that are left are those of marks up to a position
+-- the rows left are those of marks from the first up to a position
 unfoldable pub readsBack : List Row → ℕ → ℕ → List ℕ → MarkPlace → Bool
 readsBack rs document zero closes p = eqb (p .depth) 0 && eqb (p .rows) 0
 readsBack rs document (suc before) closes p =
@@ -103,6 +107,6 @@ readsBack rs document (suc before) closes p =
     fitsb rs document (suc before) closes p mark
     && readsBack rs document before (closesBefore closes (suc before) (p .depth) mark) (beforeMark p mark)
 
--- all rows are
+-- all rows are those of marks up to a last position
 unfoldable pub allReadBack : List Row → ℕ → ℕ → Bool
 allReadBack rs document last = readsBack rs document last (replicate MOST-LEVELS 0) (markPlace 0 (length rs))

@@ -1,5 +1,5 @@
 -- Function: `name_of` (src/answer.rt).
--- Why it holds: The table's seventeen rows are those of `names`, which antt computes, and a number
+-- Why it holds: The table's seventeen rows are those of `names`, as antt computes them. A number
 -- above the last has the name of blanks.
 -- What would break it: A wrong letter, a name out of its place or a limit one off would be caught
 -- at its return.
@@ -14,6 +14,7 @@ use Rattle.answers.specs.Answer.{names, letterAt, padded, nameOf}
 use Rattle.answers.proofs.answer.name_of.Statement.{statement}
 use Rattle.answers.proofs.answer.name_of.Tie as tie
 
+-- a number above 16 has the blank name
 blank : (n : ℕ) → 16 < n → padded "" ≡ nameOf n
 unfolding names nameOf
 blank n h = sym (List·getD-eq-default (map padded names) (padded "") h)

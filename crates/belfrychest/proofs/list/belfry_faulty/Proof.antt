@@ -1,5 +1,5 @@
 -- Function: `belfry_faulty` (src/list.rt).
--- Why it holds: The part has as many words as `faulty_part` gives, and begins at the node that the
+-- Why it holds: The part has as many words as `faulty_part` returns. It begins at the node that the
 -- verdict names, or at 0 where it is empty.
 -- What would break it: A part of another length, or one that begins at another node, would be
 -- caught at its return.
@@ -26,7 +26,7 @@ part v from words = record { verdict = v; from = from; words = words }
 
 module _ (ancestors descendants : List ℕ) (v : Verdict) (q : v ≡ checkTwo ancestors descendants) (words : List ℕ)
     (e : words ≡ faultyPart ancestors descendants) where
-  -- the answer for a verdict and the words of a part is the definition's at those of the library
+  -- where the verdict and the words are those of the library, the answer is the definition's
   answered : part v (cond (eqb (length words) 0) 0 (NODE-WORDS * v .index)) (length words) ≡ shownPart ancestors descendants
   unfolding shownPart
   answered = λ k. part (q k) (cond (eqb (length (e k)) 0) 0 (NODE-WORDS * q k .index)) (length (e k))

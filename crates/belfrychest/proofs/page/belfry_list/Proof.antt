@@ -1,6 +1,6 @@
 -- Function: `belfry_list` (src/page.rt).
--- Why it holds: The page is that of `next_page` for the ticket that the words stand for, and it
--- wrote into the very output.
+-- Why it holds: The page is that of `next_page` for the ticket that the words stand for, and it is
+-- written into the same output.
 -- What would break it: A page for another ticket, or with the lists swapped, would be caught at the
 -- return.
 use borrow.Author.Needs.{needs}

@@ -1,7 +1,7 @@
 -- Function: `shown_page` (src/page.rt).
--- Why it holds: Done and the words are each what the function of that name makes of the page; the
--- verdict and the count are the page's own.
--- What would break it: A page that said done too early, or other words, would be caught at the
+-- Why it holds: `one_if` makes the number `done` of the page, and `ticket_back` makes the words.
+-- The verdict and the count are the page's own.
+-- What would break it: A page that says done too early, or other words, would be caught at the
 -- return.
 use borrow.Author.Needs.{needs}
 use mathlib.Core.Path.{_≡_}

@@ -1,8 +1,8 @@
 -- Function: `body_of` (src/book.rt).
 -- Why it holds: The body is the part of the book from the entry's offset on, with sixteen bytes for
--- each of its nodes, and lies where that part lies.
--- What would break it: A part one byte off, or of as many bytes as there are nodes, would be caught
--- at the return.
+-- each of its nodes. It lies where that part lies.
+-- What would break it: A part one byte off, or with one byte for each node, would be caught at the
+-- return.
 use borrow.Author.Needs.{needs}
 use mathlib.Core.Path.{_≡_}
 use mathlib.Core.List.{List}

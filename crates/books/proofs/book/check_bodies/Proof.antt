@@ -1,9 +1,9 @@
 -- Function: `check_bodies` (src/book.rt).
--- Why it holds: What is left to check from a list on is the whole, and each turn checks the body of
--- the list that comes next.
--- Measure: `lists - list`.
--- What would break it: A body passed over would be caught at the next turn, and one that is named
--- by another number would be caught at the first return.
+-- Why it holds: Before each turn, checking the bodies from `list` on gives the whole check's
+-- answer. Each turn checks the body of the next list.
+-- Measure: `lists - list`, the lists still to check.
+-- What would break it: A body passed over would be caught at the next turn, and a body named by
+-- another number at the first return.
 use borrow.Author.Needs.{needs}
 use mathlib.Core.Path.{_≡_, refl, ap, _∙_}
 use mathlib.Core.List.{List, _∷_, map}

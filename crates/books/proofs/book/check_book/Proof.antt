@@ -1,8 +1,8 @@
 -- Function: `check_book` (src/book.rt).
--- Why it holds: The verdict is the book's own, and the number of lists is that of the contents
--- where it is taken.
--- What would break it: Lists of a book that is refused would be caught at the first return, any
--- other number of them at the last.
+-- Why it holds: The verdict is the book's own. Where it is taken, the number of lists is that of
+-- the contents.
+-- What would break it: Lists of a refused book would be caught at the first return, and any other
+-- number of them at the last.
 use borrow.Author.Needs.{needs}
 use mathlib.Core.Path.{_≡_, ap}
 use mathlib.Core.List.{List}

@@ -1,6 +1,6 @@
 -- Function: `verdict_on` (src/book.rt).
--- Why it holds: Where the contents break a rule the answer is CONTENTS and names no node; where
--- they keep all, only the bodies are left.
+-- Why it holds: Where the contents break a rule, the answer is CONTENTS and names no node. Where
+-- they keep all rules, only the bodies are left.
 -- What would break it: Bodies checked before the contents, or a fault passed over, would be caught
 -- at its return.
 use borrow.Author.Needs.{needs}

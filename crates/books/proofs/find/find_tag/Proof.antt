@@ -1,6 +1,6 @@
 -- Function: `find_tag` (src/find.rt).
--- Why it holds: Of a book that is taken the tag is sought among all its entries; one that is
--- refused has no list at any place, so it doesn't matter where.
+-- Why it holds: In a book that is taken, the tag is sought among all its entries. A refused book
+-- has no list at any position, so where the tag is sought doesn't matter.
 -- What would break it: A tag sought among too few entries, or beyond the contents, would be caught
 -- at the return.
 use borrow.Author.Needs.{needs}

@@ -1,6 +1,6 @@
 -- Function: `found_at` (src/find.rt).
 -- Why it holds: The book's own refusal comes first, then ABSENT where it has fewer lists than
--- wanted, and else the entry at the place says where the body lies.
+-- wanted. Otherwise the entry at the position says where the body lies.
 -- What would break it: A list found in a refused book, an empty list called absent, or another
 -- entry's body would be caught at its return.
 use borrow.Author.Needs.{needs}

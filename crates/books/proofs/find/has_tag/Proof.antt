@@ -1,6 +1,6 @@
 -- Function: `has_tag` (src/find.rt).
--- Why it holds: A tag's place is below the number of entries where one of them has it, and is that
--- number where none has.
+-- Why it holds: A tag's position is below the number of entries where one of them has it, and is
+-- that number where none has it.
 -- What would break it: A tag said to be there that no list has, or the other way round, would be
 -- caught at its return.
 use borrow.Author.Needs.{needs}

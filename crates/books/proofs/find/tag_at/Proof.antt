@@ -1,9 +1,9 @@
 -- Function: `tag_at` (src/find.rt).
--- Why it holds: The entries before the index have other tags, so what is left to look for is the
--- whole; the loop ends where the lists or the entries end.
--- Measure: `lists - index`.
--- What would break it: A place one off would be caught at the first return, a list passed over at
--- the next turn.
+-- Why it holds: The entries before the index have other tags, so the answer is the index plus the
+-- tag's place among the rest. The loop ends where the lists or the entries end.
+-- Measure: `lists - index`, the lists still to look at.
+-- What would break it: A place one off would be caught at the first return, and a list passed over
+-- at the next turn.
 use borrow.Author.Needs.{needs}
 use mathlib.Core.Path.{_≡_}
 use mathlib.Core.Logic.{_⊎_, inl, inr}

@@ -1,8 +1,8 @@
 -- Function: `tag_body` (src/find.rt).
--- Why it holds: A tag that none of the lists has stands after the last of them, where the
--- definition has an entry of zeros, whose body is empty and lies at the book's beginning.
--- What would break it: The body of another list, or one for a tag that no list has, would be caught
--- at its return.
+-- Why it holds: For a tag that no list has, the search ends after the last list. There the
+-- definition gives an entry of zeros, whose body is empty and lies at the book's beginning.
+-- What would break it: The body of another list, or a body for a tag that no list has, would be
+-- caught at its return.
 use borrow.Author.Needs.{needs}
 use mathlib.Core.Path.{_≡_, refl, sym, ap, _∙_}
 use mathlib.Core.List.{List, []}

@@ -1,7 +1,8 @@
 -- Function: `contents_fault` (src/check.rt).
--- Why it holds: Too many lists and a book too short for its contents break a rule; of any other
--- book the rules are those of the walk along its entries, whose last step answers for all of them.
--- What would break it: A limit one off, or another answer than that step's, would be caught at its
+-- Why it holds: A book with too many lists, or too short for its contents, breaks a rule. For any
+-- other book the walk along its entries checks the rules, and its last step answers for all of
+-- them.
+-- What would break it: A limit one off, or an answer other than that step's, would be caught at its
 -- return.
 use borrow.Author.Needs.{needs}
 use mathlib.Core.Path.{_≡_, sym, ap, _∙_}

@@ -1,9 +1,9 @@
 -- Function: `pass_contents` (src/check.rt).
--- Why it holds: What is left from the place reached on is the whole, and each turn passes the entry
--- that comes next.
--- Measure: `lists - index`.
+-- Why it holds: The lists from the place reached on keep the rules exactly when all lists do. Each
+-- turn passes the next entry.
+-- Measure: `lists - index`, the lists still to pass.
 -- What would break it: An entry passed over, or a place that doesn't move on, would be caught at
--- the next turn, a walk that ends too early at its return.
+-- the next turn. A walk that ends too early would be caught at its return.
 use borrow.Author.Needs.{needs}
 use mathlib.Core.Path.{_≡_, refl}
 use mathlib.Core.List.{List, _∷_}

@@ -1,6 +1,6 @@
 -- Function: `contents_end` (src/entry.rt).
 -- Why it holds: The bytes of the first number and of three numbers for each list are the
--- definition's own, and no list's number makes them too many.
+-- definition's own. No number of lists makes them overflow.
 -- What would break it: A place one number off would be caught at the return.
 use borrow.Author.Needs.{needs}
 use mathlib.Core.Path.{_≡_, refl}

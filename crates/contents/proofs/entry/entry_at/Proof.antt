@@ -1,6 +1,6 @@
 -- Function: `entry_at` (src/entry.rt).
--- Why it holds: Below the number of entries the three numbers after the first one and three for
--- each entry before are the entry's, and from there on the definition has zeros.
+-- Why it holds: After the book's first number each entry takes three numbers, so those that start
+-- at `1 + 3 * index` are the entry's. From the number of entries on, the definition gives zeros.
 -- What would break it: A number one off, or two exchanged, would be caught at the last return.
 use borrow.Author.Needs.{needs}
 use mathlib.Core.Path.{_≡_, sym, _∙_}

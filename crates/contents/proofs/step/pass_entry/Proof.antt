@@ -1,8 +1,8 @@
 -- Function: `pass_entry` (src/step.rt).
--- Why it holds: Each test is a part of the definition's, and what passes all of them reaches the
--- place after the list.
--- What would break it: A limit one off, equal tags let through, or a next body that starts at
--- another place would be caught at its return.
+-- Why it holds: Each test is a part of the definition's, and an entry that passes all of them leads
+-- to the place after its list.
+-- What would break it: A limit one off, equal tags let through, or a next body at another place
+-- would be caught at its return.
 use borrow.Author.Needs.{needs}
 use mathlib.Core.Path.{_≡_}
 use mathlib.Core.Logic.{inl, inr}

@@ -1,7 +1,7 @@
 -- Function: `start_of` (src/step.rt).
 -- Why it holds: No list is passed yet, and the next body starts right after the contents.
--- What would break it: A walk that starts elsewhere, or as if a list were passed, would be caught
--- at the return.
+-- What would break it: A walk that starts elsewhere, or as if a list were already passed, would be
+-- caught at the return.
 use borrow.Author.Needs.{needs}
 use mathlib.Core.Path.{_≡_, ap}
 use mathlib.Core.Bool.{false}

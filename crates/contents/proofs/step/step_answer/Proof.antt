@@ -1,7 +1,7 @@
 -- Function: `step_answer` (src/step.rt).
--- Why it holds: Each case of the step is a case of `stepAnswer`, and of a place reached the test of
+-- Why it holds: Each case of the step is a case of `stepAnswer`. For a place reached the test of
 -- the sizes is the definition's own.
--- What would break it: Bytes after the last body let through, or a refusal of another number than
+-- What would break it: Bytes let through after the last body, or a refusal with another number than
 -- the step's, would be caught at its return.
 use borrow.Author.Needs.{needs}
 use mathlib.Core.Path.{_≡_, sym, ap, _∙_}

@@ -1,7 +1,8 @@
 -- Function: `copy_entries` (src/again.rt).
--- Why it holds: Each turn writes the two words of an entry, for which there is room.
--- Measure: `count - index`.
--- What would break it: A word written after the last would be caught at the index.
+-- Why it holds: Each turn writes the two words of an entry, and the entries keep their length. So
+-- there is room for each entry.
+-- Measure: `count - index`, the entries still to copy.
+-- What would break it: A word written past the end of `entries` would be caught at a write.
 use mathlib.Core.Path.{_≡_}
 use Prim.Native.Nat.{_-_}
 use native.Mathlib.Omega.{arith}

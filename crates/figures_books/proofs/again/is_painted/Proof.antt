@@ -1,7 +1,7 @@
 -- Function: `is_painted` (src/again.rt).
--- Why it holds: The loop reads within the bytes and ends with them.
--- Measure: `length bytes - index`.
--- What would break it: A byte read after the last would be caught at the index.
+-- Why it holds: The loop reads within the bytes and ends after the last.
+-- Measure: `length bytes - index`, the bytes still to read.
+-- What would break it: A byte read past the end would be caught at the read.
 use Prim.Native.Nat.{_-_}
 use lib.ListN.{length}
 use borrow.Author.Needs.{needs}

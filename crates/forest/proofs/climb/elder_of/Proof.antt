@@ -1,9 +1,8 @@
 -- Function: `elder_of` (src/climb.rt).
--- Why it holds: The invariant is the way up: the elder so far was passed, and what is tried next is
--- its parent.
--- Measure: `elder`.
--- What would break it: A way that starts too high, skips a parent or stops at a node that ended
--- before this one would be caught at the loop or at a return.
+-- Why it holds: At each turn `elder` was passed on the way up, and `parent` is its parent.
+-- Measure: `elder`, which is less at each turn because a parent comes before its child.
+-- What would break it: A way that starts too high or skips a parent would be caught at the loop.
+-- One that stops at a node that ended before this one would be caught at a return.
 use borrow.Author.Needs.{needs}
 use Prim.Native.Nat.{ℕ, _-_, _≤_, _<_}
 use mathlib.Core.Path.{_≡_, refl, sym, ap, subst, _∙_}

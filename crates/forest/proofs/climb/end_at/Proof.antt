@@ -1,7 +1,7 @@
 -- Function: `end_at` (src/climb.rt).
 -- Why it holds: The third word at four times the index is the node's end.
--- What would break it: A word one off would be caught at the return, an index too large at the
--- read.
+-- What would break it: A word one off would be caught at the return. An index too large would be
+-- caught at the read.
 use borrow.Author.Needs.{needs}
 use mathlib.Core.Path.{sym, ap}
 use native.Mathlib.Omega.{arith}

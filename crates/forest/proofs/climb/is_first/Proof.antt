@@ -1,6 +1,5 @@
 -- Function: `is_first` (src/climb.rt).
--- Why it holds: Each return is one case of the definition: no node before, or its document
--- compared.
+-- Why it holds: Each return is one case of `firstb`: no node before, or its document compared.
 -- What would break it: A node compared with itself would be caught at the last return.
 use borrow.Author.Needs.{needs}
 use mathlib.Core.Path.{_≡_}

@@ -1,7 +1,7 @@
 -- Function: `link_all` (src/forest.rt).
--- Why it holds: The invariant says that the output begins with the links as far as the nodes passed
--- tell them; each turn adds one node.
--- Measure: `count list - index`.
+-- Why it holds: At each turn the output begins with the links as far as the nodes passed tell them.
+-- Each turn adds one node.
+-- Measure: `count list - index`, the nodes still to link.
 -- What would break it: A node passed over, or a turn that touches words beyond the links, would be
 -- caught at the next turn.
 use borrow.Author.Needs.{needs}

@@ -1,8 +1,8 @@
 -- Function: `link_list` (src/forest.rt).
--- Why it holds: A faulty list and an output without room return before anything is written; else
--- all links are written, and the nodes counted.
--- What would break it: A count on refusal, or room compared by nodes, would be caught at its
--- return.
+-- Why it holds: The call returns before it writes where the list is faulty or the room too small.
+-- Otherwise all links are written and the nodes counted.
+-- What would break it: A count on refusal, or room counted in nodes and not in links, would be
+-- caught at its return.
 use borrow.Author.Needs.{needs}
 use mathlib.Core.Path.{sym, ap, _∙_}
 use native.Mathlib.Omega.{arith}

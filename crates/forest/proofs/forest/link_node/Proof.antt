@@ -1,6 +1,6 @@
 -- Function: `link_node` (src/forest.rt).
 -- Why it holds: Each return is one way in which a node joins the links: alone, as a first child or
--- as a next one.
+-- as a next sibling.
 -- What would break it: Another parent than the one found, or a link stored with the wrong node,
 -- would be caught at its return.
 use borrow.Author.Needs.{needs}
@@ -37,7 +37,7 @@ module _ (ws : List ℕ) (h : checkWords ws .answer ≡ TAKEN) (i : ℕ) (l : i 
   small : i < NONE
   small = omega (arith, here, ok .short)
 
-  -- the node before is of the same document unless this is the first one
+  -- the node before is of the same document unless this one is the first
   module _ (b : Bool) (q : b ≡ firstb (nodes ws) i) (t : b ≡ false) where
     later : 0 < i
     later = not-first (nodes ws) i (sym q ∙ t) .0

@@ -1,7 +1,7 @@
 -- Function: `put_link` (src/link.rt).
 -- Why it holds: The three stores are those of the node's links, at three times its index.
--- What would break it: A word stored one off would be caught at the return, an index too large at a
--- store.
+-- What would break it: A word stored one off would be caught at the return. An index too large
+-- would be caught at a store.
 use borrow.Author.Needs.{needs}
 use Prim.Native.Nat.{ℕ, _+_, _*_}
 use mathlib.Core.Path.{_≡_}

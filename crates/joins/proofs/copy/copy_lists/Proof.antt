@@ -1,6 +1,6 @@
 -- Function: `copy_lists` (src/copy.rt).
--- Why it holds: Each return answers by the first check that refuses, with the words as they were;
--- after all of them both lists are copied whole.
+-- Why it holds: Each return answers by the first check that refuses, with the words as they were.
+-- After all checks both lists are copied whole.
 -- What would break it: A check left out, or a list copied into the other one's words, would be
 -- caught at its return.
 use borrow.Author.Needs.{needs}

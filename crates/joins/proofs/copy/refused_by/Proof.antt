@@ -1,7 +1,6 @@
 -- Function: `refused_by` (src/copy.rt).
--- Why it holds: The verdict without a node is that of the number.
--- What would break it: Another number, or words where there are none, would be caught at the
--- return.
+-- Why it holds: The verdict has the number and names no node, and both lengths are 0.
+-- What would break it: Another number, or a length other than 0, would be caught at the return.
 use borrow.Author.Needs.{needs}
 use mathlib.Core.Path.{ap}
 use Rattle.answers.specs.declared.verdict.Verdict.{Verdict}

@@ -1,6 +1,6 @@
 -- Function: `put_line` (src/line.rt).
--- Why it holds: The three fields are put one after the other, and of eleven bytes each they have
--- room.
+-- Why it holds: The three fields are put one after the other. Each has at most eleven bytes, so
+-- there is room.
 -- What would break it: A field of another number, or one left out, would be caught at the return.
 use borrow.Author.Needs.{needs}
 use mathlib.Core.Path.{_≡_}

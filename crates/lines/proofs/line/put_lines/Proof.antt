@@ -1,9 +1,9 @@
 -- Function: `put_lines` (src/line.rt).
--- Why it holds: The text begins with the lines of the pairs passed, none longer than its room, and
--- each turn puts the next one right after them.
--- Measure: `count pairs / 2 - index`.
--- What would break it: A line of other nodes would be caught at the next turn, a loop that ends too
--- early at its return.
+-- Why it holds: The text begins with the lines of the pairs passed, none longer than its room. Each
+-- turn puts the next one right after them.
+-- Measure: `count pairs / 2 - index`, the pairs still to pass.
+-- What would break it: A line of other nodes would be caught at the next turn. A loop that ends too
+-- early would be caught at its return.
 use borrow.Author.Needs.{needs}
 use mathlib.Core.Path.{_≡_, refl, sym, ap, subst, _∙_}
 use mathlib.Core.List.{List, []}
@@ -24,7 +24,7 @@ use Rattle.lines.proofs.TwoDigits.{tabled}
 use Rattle.lines.proofs.line.put_lines.Statement.{statement}
 use Rattle.lines.proofs.line.put_lines.Tie as tie
 
--- the lines of the first pairs are put at the beginning
+-- the lines of the first `index` pairs are put at the beginning
 pub record Lined (pairs before : List ℕ) (index : ℕ) (after : List ℕ) (to : ℕ) : Type 0 where
   pub some : index ≤ count pairs / 2
   pub room : index ≤ length before / LINE-BYTES

@@ -1,6 +1,6 @@
 -- Function: `put_refusal` (src/line.rt).
 -- Why it holds: The word and its blank are eight bytes, the number's field at most eleven and the
--- name at most eight, so the line has room.
+-- name at most eight. So the line has room.
 -- What would break it: Another number, or a name with its blanks, would be caught at the return.
 use borrow.Author.Needs.{needs}
 use mathlib.Core.Path.{_≡_, refl, subst}

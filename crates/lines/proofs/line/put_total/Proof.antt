@@ -1,6 +1,6 @@
 -- Function: `put_total` (src/line.rt).
 -- Why it holds: The word and its blank are six bytes, and the number's field after them has at most
--- twenty-one, so the line has room.
+-- twenty-one. So the line has room.
 -- What would break it: Another word, or a line without its line feed, would be caught at the
 -- return.
 use borrow.Author.Needs.{needs}

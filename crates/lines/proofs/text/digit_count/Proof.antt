@@ -1,9 +1,9 @@
 -- Function: `digit_count` (src/text.rt).
--- Why it holds: The digits counted and those of what is left are together as many as the number's,
--- and a hundredth has two digits fewer.
--- Measure: `rest`.
--- What would break it: A digit counted twice would be caught at the next turn, one not counted at
--- the return.
+-- Why it holds: The digits counted and those of `rest` are together as many as the number's. A
+-- hundredth has two digits fewer.
+-- Measure: `rest`, the number whose digits are still to count.
+-- What would break it: A digit counted twice would be caught at the next turn. One not counted
+-- would be caught at the return.
 use borrow.Author.Needs.{needs}
 use mathlib.Core.Path.{_≡_}
 use Prim.Native.Nat.{_+_, _≤_}

@@ -1,9 +1,9 @@
 -- Function: `put_bytes` (src/text.rt).
--- Why it holds: The buffer shows the bytes passed, put at the place, and each store puts the next
--- one right after them.
--- Measure: `length bytes - index`.
--- What would break it: A byte stored one place off would be caught at the next turn, one left out
--- at the return.
+-- Why it holds: The buffer holds the bytes passed, put at the place. Each store puts the next one
+-- right after them.
+-- Measure: `length bytes - index`, the bytes still to put.
+-- What would break it: A byte stored one place off would be caught at the next turn. One left out
+-- would be caught at the return.
 use borrow.Author.Needs.{needs}
 use mathlib.Core.Path.{_≡_, refl, ap, _∙_}
 use mathlib.Core.List.{List, [], _∷_}

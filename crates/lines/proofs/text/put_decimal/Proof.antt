@@ -1,9 +1,9 @@
 -- Function: `put_decimal` (src/text.rt).
--- Why it holds: The digits of what is left, put before those that were put, make the whole number,
--- and each turn puts the last two of those that are left.
--- Measure: `rest`.
+-- Why it holds: The digits of `rest`, put before those that were put, make the whole number. Each
+-- turn puts the last two of those that are left.
+-- Measure: `rest`, the number whose digits are still to put.
 -- What would break it: Two digits put one place off, or those of another number, would be caught at
--- the next turn; a digit left out would be caught at the return.
+-- the next turn. A digit left out would be caught at the return.
 use borrow.Author.Needs.{needs}
 use mathlib.Core.Path.{_≡_, refl, sym, ap, _∙_}
 use mathlib.Core.List.{List, [], _∷_}
@@ -19,7 +19,7 @@ use Rattle.lines.proofs.Putting.{sets-last-first}
 use Rattle.lines.proofs.text.put_decimal.Statement.{statement}
 use Rattle.lines.proofs.text.put_decimal.Tie as tie
 
--- the digits from a place on are put, and those of the rest are left
+-- the digits from the place `to` on are put, and those of `rest` are left
 pub record Left (before : List ℕ) (at number : ℕ) (text : List ℕ) (rest to : ℕ) : Type 0 where
   pub less : rest ≤ number
   pub place : to ≡ at + length (decimal rest)

@@ -1,5 +1,5 @@
 -- Function: `put_two` (src/text.rt).
--- Why it holds: The table has both digits at the number's place, and they are stored one after the
+-- Why it holds: The table has both digits at twice the number, and they are stored one after the
 -- other.
 -- What would break it: A digit of another number, or one stored in the other's place, would be
 -- caught at the return.

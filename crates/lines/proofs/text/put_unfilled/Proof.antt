@@ -1,7 +1,7 @@
 -- Function: `put_unfilled` (src/text.rt).
--- Why it holds: The buffer shows the letters passed without their blanks, and a letter that is no
--- blank is put right after them.
--- Measure: `length letters - index`.
+-- Why it holds: The buffer holds the letters passed without their blanks. A letter that is no blank
+-- is put right after them.
+-- Measure: `length letters - index`, the letters still to pass.
 -- What would break it: A blank put, or a letter put one place off, would be caught at the loop.
 use borrow.Author.Needs.{needs}
 use mathlib.Core.Path.{_≡_, refl, sym, ap, subst, _∙_}

@@ -1,6 +1,6 @@
 -- Function: `check_bytes` (src/bytes.rt).
--- Why it holds: Bytes that make no whole nodes or too many are answered at once; else the walk
--- along the nodes gives the answer for their words.
+-- Why it holds: Bytes that make no whole nodes, or too many, are answered at once. Otherwise the
+-- walk along the nodes gives the answer for their words.
 -- What would break it: A limit one off, LONG before RAGGED, or a refusal given as TAKEN would be
 -- caught at its return.
 use borrow.Author.Needs.{needs}

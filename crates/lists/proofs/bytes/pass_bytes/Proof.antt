@@ -1,9 +1,9 @@
 -- Function: `pass_bytes` (src/bytes.rt).
--- Why it holds: The invariant is the walk along the nodes from the index on; each turn reads the
--- next one where it lies and passes it.
--- Measure: `length bytes / NODE-BYTES - index`.
--- What would break it: A node read twice or passed over would be caught at the next turn, one left
--- over at the last return.
+-- Why it holds: Before each turn, the check of the nodes from the index on gives the whole check's
+-- answer. Each turn reads the next node where it lies and passes it.
+-- Measure: `length bytes / NODE-BYTES - index`, the nodes still to pass.
+-- What would break it: A node read twice or passed over would be caught at the next turn, and a
+-- node left over at the last return.
 use borrow.Author.Needs.{needs}
 use mathlib.Core.Path.{_≡_, refl}
 use mathlib.Core.List.{List, _∷_}

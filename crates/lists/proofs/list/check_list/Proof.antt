@@ -1,5 +1,5 @@
 -- Function: `check_list` (src/list.rt).
--- Why it holds: Words at fault are answered at once; whole words are walked, and a list merged with
+-- Why it holds: Words at fault are answered at once, and whole words are walked. A list merged with
 -- an empty one is that list.
 -- What would break it: A fault of the words passed over, or a refusal given as TAKEN, would be
 -- caught at its return.

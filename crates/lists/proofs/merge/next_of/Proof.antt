@@ -1,6 +1,6 @@
 -- Function: `next_of` (src/merge.rt).
--- Why it holds: Where one list is at its end the next node is the other's head, and else the
--- documents tell, or the nodes of one document.
+-- Why it holds: Where one list is at its end, the next node is the other's head. Otherwise the
+-- documents decide, or within one document `next_within`.
 -- What would break it: A head left out, taken twice or taken from the wrong list would be caught at
 -- its return.
 use borrow.Author.Needs.{needs}

@@ -1,7 +1,7 @@
 -- Function: `pass_both` (src/merge.rt).
--- Why it holds: The invariant is the walk along what is left of the merge; each turn draws its next
--- node and passes it.
--- Measure: `length xs + length ys - (i + j)`.
+-- Why it holds: Before each turn, the check of what is left of the merge gives the whole check's
+-- answer. Each turn draws the next node and passes it.
+-- Measure: `length xs + length ys - (i + j)`, the words of both lists still to pass.
 -- What would break it: A node drawn and not passed, or a list that goes on at the wrong place,
 -- would be caught at the next turn.
 use borrow.Author.Needs.{needs}

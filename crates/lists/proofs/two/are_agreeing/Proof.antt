@@ -1,5 +1,5 @@
 -- Function: `are_agreeing` (src/two.rt).
--- Why it holds: Words at fault are refused, and of whole words the merge is taken exactly when both
+-- Why it holds: Words at fault are refused. For whole words, the merge is taken exactly when both
 -- lists are and none of their nodes are at odds.
 -- What would break it: A list that isn't tested, or another merge, would be caught at its return.
 use borrow.Author.Needs.{needs}

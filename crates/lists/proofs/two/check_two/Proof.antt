@@ -1,6 +1,6 @@
 -- Function: `check_two` (src/two.rt).
--- Why it holds: Where the lists agree the answer is TAKEN; else the first list's own refusal, then
--- the second's, and where both are taken only JOINT is left.
+-- Why it holds: Where the lists agree the answer is TAKEN. Otherwise the first list's own refusal
+-- comes first, then the second's. Where both are taken, only JOINT is left.
 -- What would break it: A list checked out of turn, or named wrongly, would be caught at its return.
 use borrow.Author.Needs.{needs}
 use mathlib.Core.Path.{_≡_, sym, ap, _∙_}

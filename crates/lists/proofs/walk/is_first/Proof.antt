@@ -1,7 +1,7 @@
 -- Function: `is_first` (src/walk.rt).
 -- Why it holds: The last node passed is the head of the chain, which lies on top of the stack.
--- What would break it: A node compared with another, or the wrong way round, would be caught at the
--- second return.
+-- What would break it: The node compared with another one, or the wrong way round, would be caught
+-- at the second return.
 use borrow.Author.Needs.{needs}
 use mathlib.Core.Path.{_≡_, refl}
 use mathlib.Core.Bool.{true}

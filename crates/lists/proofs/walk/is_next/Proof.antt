@@ -1,7 +1,7 @@
 -- Function: `is_next` (src/walk.rt).
 -- Why it holds: The node before is the head of the chain, which lies on top of the stack.
--- What would break it: A node compared with another, or the wrong way round, would be caught at the
--- return.
+-- What would break it: The node compared with another one, or the wrong way round, would be caught
+-- at the return.
 use borrow.Author.Needs.{needs}
 use mathlib.Core.Path.{_≡_, sym, _∙_}
 use mathlib.Core.Bool.{not, Bool·not-not}

@@ -1,9 +1,9 @@
 -- Function: `left_open` (src/walk.rt).
--- Why it holds: The invariant: taking the ended nodes off those that are left gives what taking
--- them off all gives.
--- Measure: `left`.
--- What would break it: An open head ends it, one that ended is passed; a test of another node than
--- the head, or a count one off, would be caught at the return or at the next turn.
+-- Why it holds: Before each turn, taking the ended nodes off those left gives what taking them off
+-- all gives. An open head ends the loop, and a head that has ended is taken off.
+-- Measure: `left`, the words of the stack still to look at.
+-- What would break it: A test of another node than the head, or a count one off, would be caught at
+-- the return or at the next turn.
 use mathlib.Core.Path.{_≡_, refl, _∙_}
 use native.Mathlib.Omega.{arith}
 use denote.Ref.{now}

@@ -1,6 +1,6 @@
 -- Function: `pass_node` (src/walk.rt).
--- Why it holds: Each return is one case of `topFault`, and the tests on the way are the facts that
--- the case asks for.
+-- Why it holds: Each return is one case of `topFault`, and the tests on the way to it give the
+-- facts that the case asks for.
 -- What would break it: A test left out, or tried in another order, would be caught at the return
 -- after it.
 use borrow.Author.Needs.{needs}
@@ -18,7 +18,7 @@ use Rattle.lists.proofs.Steps.{passed-low, passed-high, passed-span, pa
 use Rattle.lists.proofs.walk.pass_node.Statement.{statement}
 use Rattle.lists.proofs.walk.pass_node.Tie as tie
 
--- what `is_next` and the test of it tell
+-- what `is_next` answers, turned into the test of ORDER
 strays : {t o : Bool} → t ≡ not o → not t ≡ true → o ≡ true
 strays {t} {o} e h = not-false o (sym e ∙ not-true t h)
 

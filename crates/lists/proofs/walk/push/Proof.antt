@@ -1,5 +1,6 @@
 -- Function: `push` (src/walk.rt).
--- Why it holds: A node stored after the first ones comes to be the head of one more.
+-- Why it holds: A node stored right after the words that stay becomes the head of a chain one node
+-- longer.
 -- What would break it: A node stored one place off, or a count that doesn't grow with it, would be
 -- caught at the return.
 use borrow.Author.Needs.{needs}

@@ -1,5 +1,5 @@
 -- Function: `put_on_top` (src/walk.rt).
--- Why it holds: Each return is one case of `headFault`, told by the top of the stack.
+-- Why it holds: Each return is one case of `headFault`, decided by the top of the stack.
 -- What would break it: A test left out would be caught at the return after it, and a stack without
 -- room at the second push.
 use borrow.Author.Needs.{needs}

@@ -1,5 +1,5 @@
 -- Function: `top_of` (src/walk.rt).
--- Why it holds: The four words under the top of the words in use are the node's.
+-- Why it holds: The last four of the words in use are the node's.
 -- What would break it: A word one off would be caught at the return.
 use borrow.Author.Needs.{needs}
 use mathlib.Core.Path.{_∙_}

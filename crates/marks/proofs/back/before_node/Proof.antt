@@ -1,5 +1,5 @@
 -- Function: `before_node` (src/back.rt).
--- Why it holds: The rows before a node are one less, and as many elements are open as its mark
+-- Why it holds: One row less begins before a node, and as many elements are open there as its mark
 -- says.
 -- What would break it: A row counted twice would be caught at the return.
 use borrow.Author.Needs.{needs}

@@ -1,8 +1,8 @@
 -- Function: `keep_close` (src/back.rt).
 -- Why it holds: The close is stored after those of the elements around it, and one element more is
 -- open.
--- What would break it: A close stored at another place, or a depth that stays, would be caught at
--- the return.
+-- What would break it: A close stored at another place, or a depth left as it was, would be caught
+-- at the return.
 use borrow.Author.Needs.{needs}
 use mathlib.Core.Path.{refl}
 use Rattle.marks.specs.Private.Walk.{openBefore, beforeMark, closesBefore}

@@ -1,6 +1,6 @@
 -- Function: `row_here` (src/back.rt).
--- Why it holds: A text ends where it starts and an element at the innermost close, and the level is
--- one more than elements are open before.
+-- Why it holds: A text ends where it starts and an element at the innermost close. The level is one
+-- more than elements are open before.
 -- What would break it: The close of an element around it, or a level one off, would be caught at
 -- its return.
 use borrow.Author.Needs.{needs}

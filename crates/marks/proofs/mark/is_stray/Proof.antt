@@ -1,6 +1,7 @@
 -- Function: `is_stray` (src/mark.rt).
 -- Why it holds: The tests are those of `strayb`, one by one.
--- What would break it: A root's close passed over, or a second root, would be caught at its return.
+-- What would break it: The root's close passed over, or a second root, would be caught at its
+-- return.
 use mathlib.Core.Path.{_≡_}
 use mathlib.Core.Bool.{true, false}
 use Prim.Native.Nat.{ℕ}

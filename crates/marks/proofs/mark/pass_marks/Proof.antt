@@ -1,7 +1,7 @@
 -- Function: `pass_marks` (src/mark.rt).
--- Why it holds: What is left to walk is the whole walk, so the first refusal and the place at the
--- end are the whole walk's.
--- Measure: `length marks - passed`.
+-- Why it holds: What is left to walk leads to the answer of the whole walk. So the first refusal
+-- and the place at the end are the whole walk's.
+-- Measure: `length marks - passed`, the marks still to pass.
 -- What would break it: A walk that stopped one mark early, or took marks that end with an element
 -- open, would be caught at its return.
 use borrow.Author.Needs.{needs}

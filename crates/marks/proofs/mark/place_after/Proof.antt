@@ -1,6 +1,6 @@
 -- Function: `place_after` (src/mark.rt).
--- Why it holds: A close leaves one element less, a text one row more, and an opening one more of
--- both.
+-- Why it holds: A close leaves one element less open. A text begins one row more, and an opening
+-- adds one to both.
 -- What would break it: A text that opened something, or a close that began a row, would be caught
 -- at its return.
 use borrow.Author.Needs.{needs}

@@ -1,6 +1,6 @@
 -- Function: `number` (src/number.rt).
--- Why it holds: The checks come in `checkMarks`'s order, the room is that of the rows counted on
--- the way, and the rows are written last.
+-- Why it holds: The checks come in the order of `checkMarks`. The room needed is that of the rows
+-- counted on the way, and the rows are written last.
 -- What would break it: A refusal out of its turn, room for marks in place of rows, or another count
 -- would be caught at its return.
 use borrow.Author.Needs.{needs}

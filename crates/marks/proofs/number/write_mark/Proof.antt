@@ -1,7 +1,7 @@
 -- Function: `write_mark` (src/number.rt).
--- Why it holds: A close is kept and changes no word; any other mark's row is stored as the last one
+-- Why it holds: A close is kept and changes no word. Any other mark's row is stored as the last one
 -- still to be written.
--- What would break it: A row stored one place off, or one that a close writes, would be caught at
+-- What would break it: A row stored one place off, or a row written for a close, would be caught at
 -- its return.
 use borrow.Author.Needs.{needs}
 use mathlib.Core.Path.{_≡_, refl}

@@ -1,7 +1,7 @@
 -- Function: `write_rows` (src/number.rt).
--- Why it holds: The walk back keeps the closes and has written the rows that begin after it, so
--- that at the first mark the whole table is written.
--- Measure: `position`.
+-- Why it holds: The walk back keeps the closes and has written the rows that begin after it. So at
+-- the first mark the whole table is written.
+-- Measure: `position`, the marks still to go back over.
 -- What would break it: A walk that left out a mark, or began with too few rows, would be caught at
 -- the loop or at its start.
 use borrow.Author.Needs.{needs}

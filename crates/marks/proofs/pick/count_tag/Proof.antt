@@ -1,7 +1,6 @@
 -- Function: `count_tag` (src/pick.rt).
--- Why it holds: The count is that of the rows passed, and each row adds its node where it has the
--- tag.
--- Measure: `length table / ROW-WORDS - index`.
+-- Why it holds: The count is that of the rows passed, and each row with the tag adds one.
+-- Measure: `length table / ROW-WORDS - index`, the rows still to pass.
 -- What would break it: A row of another tag counted, or the last row passed over, would be caught
 -- at the loop or at the return.
 use borrow.Author.Needs.{needs}

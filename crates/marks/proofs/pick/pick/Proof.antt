@@ -1,6 +1,6 @@
 -- Function: `pick` (src/pick.rt).
--- Why it holds: The rows may be any, so only the words are checked; the room is that of the nodes
--- counted, and they are written last.
+-- Why it holds: The rows may be any, so only the words are checked. The room needed is that of the
+-- nodes counted, and they are written last.
 -- What would break it: Room for rows in place of nodes, or the count of all rows, would be caught
 -- at its return.
 use borrow.Author.Needs.{needs}

@@ -1,7 +1,7 @@
 -- Function: `put_tag` (src/pick.rt).
--- Why it holds: What is written are the words of the nodes picked of the rows passed, and each row
--- with the tag adds its own.
--- Measure: `length table / ROW-WORDS - index`.
+-- Why it holds: The words written are those of the nodes picked from the rows passed. Each row with
+-- the tag adds its own.
+-- Measure: `length table / ROW-WORDS - index`, the rows still to pass.
 -- What would break it: A node of another tag copied, or one written over another, would be caught
 -- at the loop.
 use borrow.Author.Needs.{needs}

@@ -1,6 +1,6 @@
 -- Function: `is_fitting` (src/unnumber.rt).
 -- Why it holds: The tests are those of `fitsb` for a mark that is no close, one by one.
--- What would break it: A row compared with another than the last one left, or a faulty mark let
+-- What would break it: A comparison with a row that isn't the last one left, or a faulty mark let
 -- through, would be caught at its return.
 use borrow.Author.Needs.{needs}
 use mathlib.Core.Path.{_≡_, sym, _∙_}

@@ -1,5 +1,6 @@
 -- Function: `is_numbered` (src/unnumber.rt).
--- Why it holds: A table has a row and at most 4,096 marks, and then reads back.
+-- Why it holds: A table has a row and at most 4,096 marks. Rows like these are a table exactly
+-- where they read back.
 -- What would break it: An empty table taken, or a root's end beyond the limit, would be caught at
 -- its return.
 use borrow.Author.Needs.{needs}

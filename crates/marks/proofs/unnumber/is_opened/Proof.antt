@@ -1,7 +1,7 @@
 -- Function: `is_opened` (src/unnumber.rt).
--- Why it holds: A text needs nothing open after it, and an opening needs itself.
--- What would break it: A depth of 0 let through for an opening, or asked of a text, would be caught
--- at its return.
+-- Why it holds: After a text nothing need be open. After an opening its own element is.
+-- What would break it: A depth of 0 let through for an opening, or refused for a text, would be
+-- caught at its return.
 use mathlib.Core.Path.{_≡_}
 use mathlib.Core.Bool.{true, _||_}
 use Prim.Native.Nat.{ℕ}

@@ -1,5 +1,5 @@
 -- Function: `is_same_row` (src/unnumber.rt).
--- Why it holds: The nodes are compared first and the tags last, as `sameRowb` does.
+-- Why it holds: The nodes are compared first and the tags last, as in `sameRowb`.
 -- What would break it: A word of the five left out would be caught at its return.
 use borrow.Author.Needs.{needs}
 use mathlib.Core.Path.{_≡_}

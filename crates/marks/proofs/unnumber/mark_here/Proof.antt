@@ -1,6 +1,6 @@
 -- Function: `mark_here` (src/unnumber.rt).
--- Why it holds: The last of the rows tells its tag where it starts at the position; every other
--- position is a close's.
+-- Why it holds: The last of the rows tells its tag if it starts at the position. Any other position
+-- is a close's.
 -- What would break it: A tag told at another row's start, or with no row left, would be caught at
 -- its return.
 use borrow.Author.Needs.{needs}

@@ -1,6 +1,6 @@
 -- Function: `put_closes` (src/unnumber.rt).
--- Why it holds: The invariant is the output with as many closes at its beginning as were put.
--- Measure: `count - put`.
+-- Why it holds: At each turn the output begins with `put` closes and is otherwise as it was.
+-- Measure: `count - put`, the closes still to put.
 -- What would break it: A close put elsewhere, or one too few, would be caught at the next turn or
 -- at the return.
 use borrow.Author.Needs.{needs}

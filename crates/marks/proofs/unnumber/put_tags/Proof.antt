@@ -1,7 +1,7 @@
 -- Function: `put_tags` (src/unnumber.rt).
--- Why it holds: The invariant: the tags of the rows from the index on, put into the output, are all
--- tags put into the output as it was.
--- Measure: `length table / ROW-WORDS - index`.
+-- Why it holds: The tags from the index on, put into the output, give the same as all tags put into
+-- the output as it was.
+-- Measure: `length table / ROW-WORDS - index`, the rows still to pass.
 -- What would break it: A tag put one mark off, or a row passed over, would be caught at the next
 -- turn.
 use borrow.Author.Needs.{needs}
@@ -24,7 +24,7 @@ starts-in : (count : ℕ) (ws : List ℕ) (i : ℕ) (r : Row) → r ≡ rowIn (r
     → i < length ws / ROW-WORDS → Within count r
 starts-in count ws i r e a h = rw e (within-at count (rows ws) i a (omega (arith, length-rows ws)))
 
--- one tag more
+-- one tag more is put
 put-on : (ws out : List ℕ) (i : ℕ) (r : Row) → r ≡ rowIn (rows ws) i → i < length ws / ROW-WORDS
     → tagged (drop (i + 1) (rows ws)) (set out (r .node .start - 1) (r .tag)) ≡ tagged (drop i (rows ws)) out
 unfolding tagged

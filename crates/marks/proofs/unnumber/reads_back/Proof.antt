@@ -1,6 +1,6 @@
 -- Function: `reads_back` (src/unnumber.rt).
--- Why it holds: The invariant: the rows left read back from the position just where all rows do.
--- Measure: `position`.
+-- Why it holds: At each turn the rows left read back from the position exactly if all rows do.
+-- Measure: `position`, the marks still to step back over.
 -- What would break it: A mark passed that doesn't fit, or a walk that ends with a row or an element
 -- left, would be caught at its return.
 use borrow.Author.Needs.{needs}
@@ -70,7 +70,7 @@ module _ (rs : List Row) (document : ℕ) (kept : List ℕ) (q : MarkPlace) wher
   read-all zero h d = rw (eq-eqb (q .depth) 0 d) refl
   read-all (suc before) h d = absurd (not-suc-le-zero h)
 
--- a walk back that has reached a place, with so many rows in all
+-- a walk back that has reached a place, where the table is that of `rs`
 record Reads (rs : List Row) (document last : ℕ) (kept : List ℕ) (q : MarkPlace) (position : ℕ) : Type 0 where
   low : q .depth ≤ MOST-LEVELS
   few : q .rows ≤ length rs

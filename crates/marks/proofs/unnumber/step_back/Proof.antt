@@ -1,6 +1,6 @@
 -- Function: `step_back` (src/unnumber.rt).
--- Why it holds: The mark told by the rows is a close, for which there is room or not, or another,
--- which fits or doesn't.
+-- Why it holds: The mark that the rows tell is a close, which has room or not, or another, which
+-- fits or doesn't.
 -- What would break it: A close kept with 64 elements open, or a mark passed whose row differs,
 -- would be caught at its return.
 use borrow.Author.Needs.{needs}

@@ -1,7 +1,7 @@
 -- Function: `unnumber` (src/unnumber.rt).
--- Why it holds: Each fault is answered in its turn, with the output as it was; closes with a tag
--- put at each row's start are the marks of a table.
--- What would break it: A refusal that writes, a count that isn't the marks', or an output too short
+-- Why it holds: Each fault is answered in its turn, with the output as it was. Closes with each
+-- row's tag put at its start are the marks of a table.
+-- What would break it: A refusal that writes, a count that isn't the marks', or too short an output
 -- taken, would be caught at its return.
 use borrow.Author.Needs.{needs}
 use mathlib.Core.Path.{_≡_, refl, sym, ap, _∙_}
@@ -44,7 +44,7 @@ unfolding tableMarks marksOf
 count-marks table = length-tagged (rows table) _ ∙ length-replicate (rowIn (rows table) 0 .node .end) CLOSE
 
 module _ (table out : List ℕ) where
-  -- what a call says that is refused, and one that is taken
+  -- what a refused call answers and leaves, and what a taken one does
   refuses : (k : ℕ) → answerOf (checkTable table) (tableMarks table) out ≡ k → (k ≡ TAKEN → ⊥) → (r : Unnumbered) → r ≡ unnumbered k 0 0
       → (r ≡ unnumberOutcome table out) × (out ≡ unnumberOutput table out)
   unfolding unnumberOutcome unnumberOutput outputOf ifTaken

@@ -1,8 +1,8 @@
 -- Function: `is_after` (src/node.rt).
--- Why it holds: Two documents are compared first, and the starts only within one document, as
+-- Why it holds: The documents are compared first, and the starts only within one document, as
 -- `afterb` does.
--- What would break it: A comparison the wrong way round, or one that takes equal starts, would be
--- caught at its return.
+-- What would break it: A comparison the wrong way round, or one that also takes equal starts, would
+-- be caught at its return.
 use mathlib.Core.Path.{_≡_}
 use mathlib.Core.Bool.{true, false}
 use Prim.Native.Nat.{_≤_, _<_}

@@ -1,8 +1,8 @@
 -- Function: `is_inside` (src/node.rt).
--- Why it holds: The documents and the starts are compared one after the other, and then only the
--- end is left, as `insideb` says.
--- What would break it: A start that may be equal, or a document left out, would be caught at its
--- return.
+-- Why it holds: The documents are compared first, then the starts, and then only the ends are left,
+-- as `insideb` says.
+-- What would break it: A comparison that also takes equal starts, or a document left out, would be
+-- caught at its return.
 use borrow.Author.Needs.{needs}
 use mathlib.Core.Path.{_≡_, _∙_}
 use mathlib.Core.Bool.{false}

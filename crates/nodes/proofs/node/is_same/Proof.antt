@@ -1,6 +1,6 @@
 -- Function: `is_same` (src/node.rt).
 -- Why it holds: The words are compared one after the other, so each return knows all earlier words
--- to be equal, and `sameb` is what the last test says.
+-- to be equal. The last test then decides `sameb`.
 -- What would break it: A word left out, or compared with another, would be caught at the return
 -- that it changes.
 use mathlib.Core.Path.{_≡_}

@@ -1,8 +1,8 @@
 -- Function: `node_at` (src/node.rt).
--- Why it holds: Below the number of nodes the four words at four times the index are the node's,
--- and from there on the definition has zeros.
--- What would break it: A word one off would be caught at the last return, an index too large at a
--- read.
+-- Why it holds: For an index below the number of nodes, the four words from `NODE_WORDS * index` on
+-- are the node's. For any other index the definition gives zeros.
+-- What would break it: A word one off would be caught at the last return, and an index too large at
+-- a read.
 use Prim.Native.Nat.{_≤_}
 use native.Mathlib.Omega.{arith}
 use lib.ListN.{List·getD-eq-default}

@@ -1,8 +1,8 @@
 -- Function: `put_node` (src/node.rt).
--- Why it holds: Below the number of nodes the four stores are `putNode`'s, and from there on
--- neither writes anything.
--- What would break it: A word stored one off would be caught at the last return, an index too large
--- at a store.
+-- Why it holds: For an index below the number of nodes, the four stores are `putNode`'s. For any
+-- other index neither writes anything.
+-- What would break it: A word stored one off would be caught at the last return, and an index too
+-- large at a store.
 use Prim.Native.Nat.{ℕ, _≤_}
 use native.Mathlib.Omega.{arith}
 use lib.ListN.{length-set}

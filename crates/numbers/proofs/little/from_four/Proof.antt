@@ -1,6 +1,6 @@
 -- Function: `from_four` (src/little.rt).
--- Why it holds: The sum of the four bytes, each at its place, is the definition's own, and 255 at
--- every place is the greatest number.
+-- Why it holds: The sum of the four bytes, each at its place, is the definition's own. With 255 at
+-- every place it still fits in 32 bits.
 -- What would break it: A byte at another place would be caught at the return.
 use borrow.Author.Needs.{needs}
 use mathlib.Core.Path.{_≡_, refl}

@@ -1,8 +1,8 @@
 -- Function: `node_in` (src/little.rt).
--- Why it holds: Below the number of nodes the sixteen bytes at sixteen times the index are the
--- node's four numbers, and from there on the definition has zeros.
--- What would break it: A number one off, or two exchanged, would be caught at the last return, an
--- index too large at a call's requirement.
+-- Why it holds: For an index below the number of nodes, the sixteen bytes from `NODE_BYTES * index`
+-- on are the node's four numbers. For any other index the definition gives zeros.
+-- What would break it: A number one off, or two exchanged, would be caught at the last return. An
+-- index too large would be caught at a call's requirement.
 use borrow.Author.Needs.{needs}
 use mathlib.Core.Path.{_≡_, sym}
 use mathlib.Core.List.{List}

@@ -1,8 +1,8 @@
 -- Function: `number_at` (src/little.rt).
--- Why it holds: Below the number of numbers the four bytes at four times the index are the
--- number's, and from there on the definition has 0.
--- What would break it: A byte one off would be caught at the last return, an index too large at a
--- read.
+-- Why it holds: For an index below the number of numbers, the four bytes that start at
+-- `NUMBER_BYTES * index` are the number's. For any other index the definition gives 0.
+-- What would break it: A byte one off would be caught at the last return, and an index too large at
+-- a call's requirement.
 use borrow.Author.Needs.{needs}
 use mathlib.Core.Path.{sym, _∙_}
 use native.Mathlib.Omega.{arith}

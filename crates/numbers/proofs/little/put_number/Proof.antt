@@ -1,8 +1,8 @@
 -- Function: `put_number` (src/little.rt).
--- Why it holds: Below the number of numbers the four stores are `putNumber`'s, and from there on
--- neither writes anything.
--- What would break it: A byte stored one off would be caught at the last return, an index too large
--- at a store.
+-- Why it holds: For an index below the number of numbers, the four stores are `putNumber`'s. For
+-- any other index neither writes anything.
+-- What would break it: A byte stored one off would be caught at the last return, and an index too
+-- large at a store.
 use borrow.Author.Needs.{needs}
 use mathlib.Core.Path.{_≡_}
 use mathlib.Core.List.{List}

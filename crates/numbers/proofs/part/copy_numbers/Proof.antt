@@ -1,9 +1,9 @@
 -- Function: `copy_numbers` (src/part.rt).
--- Why it holds: The words begin with the numbers read so far, and each store lengthens them by the
--- next one; the loop ends where the numbers or the room end.
--- Measure: `length words₀ - index`.
--- What would break it: A number stored one place off would be caught at the next turn, a loop that
--- ends too early at its return.
+-- Why it holds: The words begin with the numbers read so far, and each store adds the next number
+-- to them. The loop ends where the numbers or the words end.
+-- Measure: `length words₀ - index`, the words still to fill.
+-- What would break it: A number stored one place off would be caught at the next turn, and a loop
+-- that ends too early at its return.
 use borrow.Author.Needs.{needs}
 use mathlib.Core.Path.{_≡_, refl, sym, ap, _∙_}
 use mathlib.Core.List.{List, [], _∷_}

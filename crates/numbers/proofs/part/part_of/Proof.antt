@@ -1,8 +1,8 @@
 -- Function: `part_of` (src/part.rt).
--- Why it holds: A start after the end leaves nothing, a count that reaches beyond it leaves all
--- from the start on, and else the part is the definition's own; each is cut from the bytes at the
--- place that its bound names.
--- What would break it: A part one byte off, or one byte short, or an empty one at another place
+-- Why it holds: A start after the end leaves nothing, and a count that reaches beyond the end
+-- leaves all from the start on. Otherwise the part is the definition's own. Each part is cut from
+-- the bytes at the place that its bounds name.
+-- What would break it: A part one byte off or one byte short, or an empty one at another place,
 -- would be caught at its return.
 use borrow.Author.Needs.{needs}
 use mathlib.Core.Path.{_≡_, sym, ap, _∙_}

@@ -1,7 +1,7 @@
 -- Function: `first_after` (src/ancestors.rt).
--- Why it holds: The invariant: the search through what is left finds what the search from the first
+-- Why it holds: At each turn, the search through what is left finds what the search from the first
 -- place on finds.
--- Measure: `length descendants - k`.
+-- Measure: `length descendants - k`, the words of the descendants still to search.
 -- What would break it: A descendant passed that stands after the ancestor, or a place one off,
 -- would be caught at the next turn.
 use borrow.Author.Needs.{needs}

@@ -1,8 +1,8 @@
 -- Function: `hand_ancestor` (src/ancestors.rt).
--- Why it holds: Where the ancestor isn't open at the first descendant after it, it has no run; else
--- what is left of its run from a start on is handed out.
--- What would break it: A run taken to be empty that isn't, or a start passed, would be caught at a
--- return.
+-- Why it holds: An ancestor that isn't open at the first descendant after it has no run. Any other
+-- hands out what is left of its run from a start on.
+-- What would break it: A run that is wrongly taken to be empty, or a start that is passed, would be
+-- caught at a return.
 use borrow.Author.Needs.{needs}
 use Prim.Native.Nat.{_/_}
 use mathlib.Core.Path.{sym, subst, _∙_}

@@ -1,9 +1,9 @@
 -- Function: `hand_children` (src/ancestors.rt).
--- Why it holds: The invariant: handing out the children from here on gives what handing out all of
+-- Why it holds: At each turn, handing out the children from here on gives what handing out all of
 -- them gives. A descendant one level deeper is handed out, and any other is passed, with what an
 -- inner zone holds.
--- Measure: `to - k`.
--- What would break it: A child lost, or handed out twice, would be caught at the next turn.
+-- Measure: `to - k`, the words of the run still to come.
+-- What would break it: A child that is lost or handed out twice would be caught at the next turn.
 use borrow.Author.Needs.{needs}
 use Prim.Native.Nat.{_+_, _-_, _/_, _%_, _≤_, _<_}
 use mathlib.Core.Path.{_≡_, refl, sym, ap, _∙_}
@@ -27,7 +27,7 @@ use Rattle.pairs.proofs.Running.{none-match}
 use Rattle.pairs.proofs.ancestors.hand_children.Statement.{statement}
 use Rattle.pairs.proofs.ancestors.hand_children.Tie as tie
 
--- nothing makes no group
+-- no followers make no group
 group-none : (a : Node) {ns : List Node} → ns ≡ [] → group Ancestor a ns ≡ []
 unfolding group
 group-none a q = rw q refl

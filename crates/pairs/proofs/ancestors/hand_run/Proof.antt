@@ -1,7 +1,7 @@
 -- Function: `hand_run` (src/ancestors.rt).
--- Why it holds: All of the run lies inside, so inside it is handed out as it lies; directly inside
--- are the children in it.
--- What would break it: The relations exchanged, or a run cut short, would be caught at a return.
+-- Why it holds: All of the run lies inside the ancestor, so for `Inside` the run is handed out as
+-- it lies. For `Directly` its children are.
+-- What would break it: Swapped relations, or a run cut short, would be caught at a return.
 use borrow.Author.Needs.{needs}
 use Prim.Native.Nat.{_/_}
 use denote.Ref.{now}

@@ -1,7 +1,7 @@
 -- Function: `is_running` (src/ancestors.rt).
--- Why it holds: Past the last descendant there is none, and before that the node at the place
--- tells.
--- What would break it: A place one off, or another node tested, would be caught at its return.
+-- Why it holds: Past the last descendant there is none. Before that, the node at the word `k`
+-- decides.
+-- What would break it: A word one off, or a test of another node, would be caught at its return.
 use borrow.Author.Needs.{needs}
 use native.Mathlib.Omega.{arith}
 use Rattle.pairs.proofs.Running.{running-none, running-node}

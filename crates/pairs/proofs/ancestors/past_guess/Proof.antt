@@ -1,7 +1,7 @@
 -- Function: `past_guess` (src/ancestors.rt).
--- Why it holds: A descendant at which the ancestor is open, next to the guess, settles all before
--- it; without one the place stays.
--- What would break it: A guess taken untested would be caught at its return.
+-- Why it holds: If the ancestor is open at a descendant next to the guess, it is open at all before
+-- it. Without such a descendant the place stays.
+-- What would break it: A guess that is taken without a test would be caught at its return.
 use borrow.Author.Needs.{needs}
 use Prim.Native.Nat.{_-_}
 use mathlib.Core.Path.{sym, _∙_}

@@ -1,8 +1,8 @@
 -- Function: `past_inner` (src/ancestors.rt).
--- Why it holds: Only where the zone is open at the next descendant, and this one stands after the
--- zone, is more than this one passed: what the zone holds.
--- What would break it: A descendant passed that the zone doesn't hold would be caught at its
--- return; a zone left early would cost time alone.
+-- Why it holds: More than one descendant is passed only where this one stands after the zone and
+-- the zone is open at the next. Then what the zone holds is passed.
+-- What would break it: A descendant that is passed although the zone doesn't hold it would be
+-- caught at its return. A zone left early would only cost time.
 use borrow.Author.Needs.{needs}
 use Prim.Native.Nat.{_+_}
 use mathlib.Core.Path.{_≡_, sym, _∙_}

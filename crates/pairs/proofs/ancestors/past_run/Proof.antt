@@ -1,7 +1,8 @@
 -- Function: `past_run` (src/ancestors.rt).
--- Why it holds: The invariant: up to here the run goes on. The first place at which it doesn't is
+-- Why it holds: At each turn, the run goes on up to here. The first place at which it doesn't is
 -- its end.
--- Measure: `length descendants + 4 - k`.
+-- Measure: `length descendants + 4 - k`, the words of the descendants still to come and one node
+-- more.
 -- What would break it: A descendant passed at which the ancestor isn't open would be caught at the
 -- next turn.
 use borrow.Author.Needs.{needs}

@@ -1,9 +1,10 @@
 -- Function: `past_strides` (src/ancestors.rt).
--- Why it holds: The invariant: up to here the run goes on. Where the ancestor is open at the last
--- descendant of a stride, it is open at all of it.
--- Measure: `length descendants + 32 - k`.
--- What would break it: A stride taken untested, or one that tests a descendant before its last,
--- would be caught at the next turn.
+-- Why it holds: At each turn, the run goes on up to here. An ancestor that is open at the last
+-- descendant of a stride is open at all of it.
+-- Measure: `length descendants + 32 - k`, the words of the descendants still to come and one stride
+-- more.
+-- What would break it: A stride taken without a test, or one that tests a descendant before its
+-- last, would be caught at the next turn.
 use borrow.Author.Needs.{needs}
 use Prim.Native.Nat.{_+_, _-_}
 use mathlib.Core.Path.{sym, _∙_}

@@ -1,6 +1,6 @@
 -- Function: `run_end` (src/ancestors.rt).
--- Why it holds: The first descendant is in the run, and each step goes on from a place up to which
--- the run goes; where it doesn't go on, it ends.
+-- Why it holds: The first descendant is in the run, and each step continues from a place up to
+-- which the run goes. The run ends at the first place where it doesn't go on.
 -- What would break it: A place returned that was not tested, or one after which the run goes on,
 -- would be caught at its return.
 use borrow.Author.Needs.{needs}

@@ -1,10 +1,11 @@
 -- Function: `sweep_ancestors` (src/ancestors.rt).
--- Why it holds: The invariant: handing out the groups of the ancestors from i on gives what handing
--- out all that remains gives, for each place for which the sweep starts as it did, as the loop
--- doesn't read the place, and no descendant before the run's beginning stands after the ancestor.
--- Measure: `length ancestors - i`.
--- What would break it: A group lost, served twice or served after the room has run out would be
--- caught at a return or at the next turn.
+-- Why it holds: At each turn, handing out the groups of the ancestors from `i` on gives what
+-- handing out all that remains gives. This holds for each place at which the sweep starts as it
+-- did, since the loop doesn't read the place. No descendant before the word `from` stands after the
+-- ancestor at `i`.
+-- Measure: `length ancestors - i`, the words of the ancestors still to come.
+-- What would break it: A group that is lost, served twice or served after the room has run out
+-- would be caught at a return or at the next turn.
 use borrow.Author.Needs.{needs}
 use mathlib.Core.Path.{_≡_, refl, ap, _∙_}
 use mathlib.Core.Bool.{true}

@@ -1,8 +1,8 @@
 -- Function: `first_match` (src/descendants.rt).
 -- Why it holds: Every ancestor on the stack contains the descendant, and only the innermost can be
 -- one level above it.
--- What would break it: Testing another one than the innermost, or taking it without its level,
--- would be caught at its return.
+-- What would break it: A test of another ancestor than the innermost, or one that ignores its
+-- level, would be caught at its return.
 use borrow.Author.Needs.{needs}
 use mathlib.Core.Path.{sym, _∙_}
 use native.Mathlib.Omega.{arith}

@@ -1,6 +1,6 @@
 -- Function: `hand_descendant` (src/descendants.rt).
--- Why it holds: What matches the descendant is a stretch of the stack that ends at its top, and so
--- is what is left of it from a start on.
+-- Why it holds: What matches the descendant is a stretch of the stack that ends at its top. What is
+-- left of it from a start on is such a stretch as well.
 -- What would break it: A stretch that leaves out the innermost ancestor, or takes in one that
 -- doesn't match, would be caught at the return.
 use borrow.Author.Needs.{needs}

@@ -1,10 +1,10 @@
 -- Function: `sweep_descendants` (src/descendants.rt).
--- Why it holds: The invariant: handing out the groups of the descendants from j on gives what
--- handing out all that remains gives, for each place for which the sweep starts as it did, as the
--- loop doesn't read the place, and the stack stands for the ancestors passed.
--- Measure: `length descendants - j`.
--- What would break it: A group lost, served twice or served after the room has run out would be
--- caught at a return or at the next turn.
+-- Why it holds: At each turn, handing out the groups of the descendants from `j` on gives what
+-- handing out all that remains gives. This holds for each place at which the sweep starts as it
+-- did, since the loop doesn't read the place. The stack stands for the ancestors passed.
+-- Measure: `length descendants - j`, the words of the descendants still to come.
+-- What would break it: A group that is lost, served twice or served after the room has run out
+-- would be caught at a return or at the next turn.
 use borrow.Author.Needs.{needs}
 use mathlib.Core.Path.{_≡_, refl, ap, _∙_}
 use mathlib.Core.Bool.{true}

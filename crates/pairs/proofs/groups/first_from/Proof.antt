@@ -1,9 +1,9 @@
 -- Function: `first_from` (src/groups.rt).
--- Why it holds: The invariant: the search along what is left of the stretch finds what the search
+-- Why it holds: At each turn, the search along what is left of the stretch finds what the search
 -- along all of it finds.
--- Measure: `to - k`.
--- What would break it: A follower passed that starts late enough, or a place one off, would be
--- caught at the next turn.
+-- Measure: `to - k`, the words of the stretch still to search.
+-- What would break it: A follower that is passed although it starts late enough, or a word one off,
+-- would be caught at the next turn.
 use borrow.Author.Needs.{needs}
 use Prim.Native.Nat.{_+_, _-_, _/_, _≤_}
 use mathlib.Core.Path.{_≡_, refl}

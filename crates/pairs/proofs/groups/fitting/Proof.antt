@@ -1,5 +1,5 @@
 -- Function: `fitting` (src/groups.rt).
--- Why it holds: Either all that is left is taken, or all that is wanted.
+-- Why it holds: Either all the room left is taken, or all that is wanted.
 -- What would break it: A number above either would be caught at its return.
 use mathlib.Core.Logic.{inl, inr}
 use native.Mathlib.Omega.{arith}

@@ -1,6 +1,6 @@
 -- Function: `hand_stretch` (src/groups.rt).
--- Why it holds: As many are put as fit, counted first; so all of the stretch is served, or the room
--- is full.
+-- Why it holds: The pairs that fit are counted first, and that many are written. So all of the
+-- stretch is served, or the room is full.
 -- What would break it: A count one off either way, or a slice that begins or ends one node off,
 -- would be caught at the return.
 use borrow.Author.Needs.{needs}

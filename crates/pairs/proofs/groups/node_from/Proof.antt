@@ -1,5 +1,5 @@
 -- Function: `node_from` (src/groups.rt).
--- Why it holds: The four words from a place on are those of the node there.
+-- Why it holds: The four words from the word `at` on are those of the node there.
 -- What would break it: A word read one off would be caught at the return.
 use borrow.Author.Needs.{needs}
 use native.Mathlib.Omega.{arith}

@@ -1,6 +1,6 @@
 -- Function: `pair_with_descendants` (src/groups.rt).
--- Why it holds: An empty group, one without room, one of a single pair and one that goes on are the
--- four returns.
+-- Why it holds: Four returns cover every group: an empty one, one without room, one of a single
+-- pair, and one that goes on.
 -- What would break it: A pair of the wrong nodes, or one that is counted and not written, would be
 -- caught at its return.
 use borrow.Author.Needs.{needs}

@@ -1,8 +1,7 @@
 -- Function: `put_group` (src/groups.rt).
--- Why it holds: The invariant: serving what is left of the group gives what serving all of it
--- gives.
--- Measure: `count followers - k`.
--- What would break it: A pair stored one off, or a follower skipped, would be caught at the next
+-- Why it holds: At each turn, serving what is left of the group gives what serving all of it gives.
+-- Measure: `count followers - k`, the followers still to come.
+-- What would break it: A pair stored one off, or a skipped follower, would be caught at the next
 -- turn.
 use borrow.Author.Needs.{needs}
 use Prim.Native.Nat.{_+_, _-_, _≤_, zero-le}

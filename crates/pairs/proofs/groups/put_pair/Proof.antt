@@ -1,7 +1,8 @@
 -- Function: `put_pair` (src/groups.rt).
--- Why it holds: Which node is the ancestor is the order's matter alone, and `pairOf` takes the
--- leader as the store does.
--- What would break it: The two nodes in the wrong turn would be caught at the return of that order.
+-- Why it holds: The order alone decides which of the two nodes is the ancestor, and `pairOf`
+-- decides as the code does.
+-- What would break it: Two nodes written in the wrong order would be caught at the return for that
+-- order.
 use mathlib.Core.Path.{_≡_, refl, ap, _∙_}
 use borrow.Author.Needs.{needs}
 use Rattle.nodes.specs.declared.node.Node.{Node}

@@ -1,5 +1,5 @@
 -- Function: `put_words` (src/groups.rt).
--- Why it holds: The four stores are those of the words one after the other.
+-- Why it holds: The four words are stored one after the other.
 -- What would break it: A word stored one off would be caught at the return.
 use borrow.Author.Needs.{needs}
 use native.Mathlib.Omega.{arith}

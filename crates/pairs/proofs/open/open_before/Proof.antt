@@ -1,9 +1,10 @@
 -- Function: `open_before` (src/open.rt).
--- Why it holds: The invariant: the ancestors on the stack stand for all that were passed, and all
--- of them are open at the descendant.
--- Measure: `length ancestors - i`.
--- What would break it: One more that stands before it goes on top or has ended, and the first that
--- doesn't ends the loop; an open one passed over would be caught at the next turn or at the return.
+-- Why it holds: At each turn, the ancestors on the stack stand for all that were passed, and all of
+-- them are open at the descendant. The next that stands before it is put on top or has ended; the
+-- first that doesn't ends the loop.
+-- Measure: `length ancestors - i`, the words of the ancestors still to come.
+-- What would break it: An open ancestor that is passed over would be caught at the next turn or at
+-- the return.
 use borrow.Author.Needs.{needs}
 use mathlib.Core.Path.{_≡_, sym, ap, _∙_}
 use mathlib.Core.Bool.{true}

@@ -1,6 +1,6 @@
 -- Function: `open_next` (src/open.rt).
--- Why it holds: What comes to lie on the stack is a chain no longer than its head is deep, so there
--- is a place for the head on the stack.
+-- Why it holds: The ancestors on the stack and the new one make a chain, and a chain has no more
+-- nodes than the level of its head. So there is a place for the head on the stack.
 -- What would break it: An ancestor stored one place off, or one put on the stack although it has
 -- ended, would be caught at the return.
 use borrow.Author.Needs.{needs}

@@ -1,9 +1,9 @@
 -- Function: `still_open` (src/open.rt).
--- Why it holds: The invariant: taking the ended ancestors off those that are left gives what taking
--- them off all gives.
--- Measure: `left`.
--- What would break it: An open head ends it, one that ended is passed; a test of another one than
--- the head, or a count one off, would be caught at the return or at the next turn.
+-- Why it holds: At each turn, taking the ended ancestors off those that are left gives what taking
+-- them off all gives. An open head ends the loop; one that ended is passed.
+-- Measure: `left`, the words of the stack still to look at.
+-- What would break it: A test of another node than the head, or a count one off, would be caught at
+-- the return or at the next turn.
 use Prim.Native.Nat.{ℕ, _-_, _/_, _%_, _≤_, _<_}
 use mathlib.Core.Path.{_≡_, refl, sym, ap, _∙_}
 use mathlib.Core.Bool.{true, false}

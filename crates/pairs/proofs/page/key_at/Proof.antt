@@ -1,8 +1,7 @@
 -- Function: `key_at` (src/page.rt).
--- Why it holds: The pair at an index stands in the two nodes at twice that index, the ancestor
--- first.
--- What would break it: A key with its starts turned, or one of another pair, would be caught at its
--- order's return.
+-- Why it holds: The nodes of the pair at an index are at twice that index, the ancestor first.
+-- What would break it: A key with its two starts swapped, or the key of another pair, would be
+-- caught at the return for its order.
 use borrow.Author.Needs.{needs}
 use mathlib.Core.Path.{_≡_, refl}
 use mathlib.Core.List.{List}

@@ -1,8 +1,8 @@
 -- Function: `next_page` (src/page.rt).
--- Why it holds: A refused call returns before anything is written; an accepted one serves what
+-- Why it holds: A refused call returns before anything is written. An accepted one serves what
 -- remains, and what was served is the page.
--- What would break it: A call that is done when its room is full, moves no place, or touches a
--- refused output would be caught at a return.
+-- What would break it: A call that is done although its room ran out, or that moves no place, would
+-- be caught at a return. So would one that touches a refused output.
 use borrow.Author.Needs.{needs}
 use mathlib.Core.Path.{_≡_, ap, sym, _∙_}
 use native.Mathlib.Omega.{arith}

@@ -1,7 +1,7 @@
 -- Function: `sweep` (src/page.rt).
--- Why it holds: The ticket's order says which sweep it is, and each serves what remains in its
+-- Why it holds: The ticket's order decides which sweep runs, and each serves what remains in its
 -- order.
--- What would break it: A sweep taken for the other order would be caught at its return.
+-- What would break it: A sweep in the other order would be caught at its return.
 use borrow.Author.Needs.{needs}
 use mathlib.Core.Path.{_≡_, ap, sym, _∙_}
 use mathlib.Core.Bool.{Bool}

@@ -1,6 +1,6 @@
 -- Function: `ticket_after` (src/page.rt).
--- Why it holds: The place is the old one where nothing was written, and else the key of the last
--- pair.
+-- Why it holds: Where nothing was written the place is the old one; otherwise it is the key of the
+-- last pair.
 -- What would break it: A place that stays although pairs were written, or one of another pair,
 -- would be caught at a return.
 use borrow.Author.Needs.{needs}

@@ -1,6 +1,6 @@
 -- Function: `make_lines` (src/pages.rt).
--- Why it holds: The page hands out no more pairs than there is room for, so the part of the output
--- is there, and the lines made of it are those of its pairs.
+-- Why it holds: The page hands out no more pairs than there is room for, so the output has all
+-- their words. The lines made of these are those of the pairs.
 -- What would break it: A part other than what the page wrote, or lines of other words, would be
 -- caught at the return.
 use borrow.Author.Needs.{needs}

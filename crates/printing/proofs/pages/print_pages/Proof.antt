@@ -1,6 +1,6 @@
 -- Function: `print_pages` (src/pages.rt).
--- Why it holds: The output has room for the pairs of a page, and the text for as many of the
--- longest lines.
+-- Why it holds: The output has room for the pairs of a page, and the text has room for the longest
+-- line of each.
 -- What would break it: A text too short for its page, or a page without room, would be caught at
 -- the call.
 use borrow.Author.Needs.{needs}

@@ -1,9 +1,9 @@
 -- Function: `print_pairs` (src/pages.rt).
--- Why it holds: The pairs counted and those that remain are always all, and a page that isn't done
--- leaves fewer, so the loop ends, and once it is done all are counted.
--- Measure: `left ancestors descendants ticket`.
--- What would break it: A refusal returned as TAKEN, a page without room, or a count that could
--- overflow would be caught at its return, at the loop's measure or at its sum.
+-- Why it holds: The pairs counted and those that remain are always all. A page that isn't done
+-- leaves fewer, so the loop ends. Once a page is done all pairs are counted.
+-- Measure: `left ancestors descendants ticket`, the pairs that remain for the ticket.
+-- What would break it: A refusal returned as TAKEN would be caught at its return. A page without
+-- room would be caught at the loop's measure, and a count that could overflow at its sum.
 use borrow.Author.Needs.{needs}
 use mathlib.Core.Path.{_≡_, refl, sym, _∙_}
 use native.Mathlib.Omega.{arith}

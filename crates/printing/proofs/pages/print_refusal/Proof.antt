@@ -1,6 +1,6 @@
 -- Function: `print_refusal` (src/pages.rt).
--- Why it holds: The line was made in the buffer, which is no shorter for it, and as many of its
--- bytes are written as the line has.
+-- Why it holds: The line is made in the buffer, whose length stays. As many of its bytes are
+-- written as the line has.
 -- What would break it: An answer other than the one given would be caught at the return.
 use borrow.Author.Needs.{needs}
 use mathlib.Core.Path.{sym, subst}

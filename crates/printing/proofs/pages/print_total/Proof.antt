@@ -1,7 +1,8 @@
 -- Function: `print_total` (src/pages.rt).
--- Why it holds: The line was made in the buffer, which is no shorter for it, and as many of its
--- bytes are written as the line has.
--- What would break it: A part that reached beyond the buffer would fall.
+-- Why it holds: The line is made in the buffer, whose length stays. As many of its bytes are
+-- written as the line has.
+-- What would break it: A part that reached beyond the buffer would be caught where the part is
+-- taken.
 use borrow.Author.Needs.{needs}
 use mathlib.Core.Path.{sym, subst}
 use mathlib.Core.List.{List}

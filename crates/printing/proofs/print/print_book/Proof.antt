@@ -1,6 +1,6 @@
 -- Function: `print_book` (src/print.rt).
--- Why it holds: Each return answers by the first check that refuses, and the two lists that are
--- joined are the book's first and second.
+-- Why it holds: Each return answers by the first check that refuses. The two lists that are joined
+-- are the book's first and second.
 -- What would break it: ABSENT or the book's refusal passed over, or a longer input taken, would be
 -- caught at its return.
 use borrow.Author.Needs.{needs}

@@ -1,5 +1,5 @@
 -- Function: `print_lists` (src/print.rt).
--- Why it holds: The two lists are copied whole, since the words lent have room for the longest; so
+-- Why it holds: The two lists are copied whole, since the words lent have room for the longest. So
 -- the pages are those of the book's first list and second.
 -- What would break it: A list whose end was left out of the words, or one joined with itself, would
 -- be caught at the return.

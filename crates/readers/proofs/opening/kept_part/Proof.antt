@@ -1,8 +1,8 @@
 -- Function: `kept_part` (src/opening.rt).
--- Why it holds: The verdict that `check_book` answers is the book's own, so an empty part is
--- returned of a refused book and all of an accepted one.
--- What would break it: Bytes that are kept although refused, or dropped although accepted, would be
--- caught at a return.
+-- Why it holds: The verdict that `check_book` answers is the book's own. So a refused book gives an
+-- empty part, and an accepted one gives all of it.
+-- What would break it: Bytes kept although refused, or dropped although accepted, would be caught
+-- at a return.
 use borrow.Author.Needs.{needs}
 use mathlib.Core.Path.{_≡_, refl, sym, ap, _∙_}
 use mathlib.Core.List.{List, []}
@@ -17,7 +17,7 @@ use Rattle.readers.proofs.opening.kept_part.Statement.{statement}
 use Rattle.readers.proofs.opening.kept_part.Tie as tie
 
 module _ (book : List ℕ) (o : Opened) (e : o ≡ checkBook book) where
-  -- the verdict is the book's
+  -- the verdict is the book's own
   own : o .verdict .answer ≡ bookVerdict book .answer
   unfolding checkBook
   own = ap (λ p. p .verdict .answer) e

@@ -1,6 +1,6 @@
 -- Function: `list_count` (src/opening.rt).
--- Why it holds: The number of the lists is the first number of the bytes, which is what `number_at`
--- reads there, 0 where they have none.
+-- Why it holds: The number of lists is the first number in the bytes. `number_at` reads it there,
+-- or 0 where there is none.
 -- What would break it: A number read at another place would be caught at the return.
 use borrow.Author.Needs.{needs}
 use mathlib.Core.Path.{_≡_}

@@ -1,8 +1,8 @@
 -- Function: `body` (src/reader.rt).
--- Why it holds: The body that `tag_body` finds in the reader's book, with the reader's number of
--- lists, is handed back; only the contract of `tag_body` is used.
--- What would break it: Another slice, another number or another tag than the reader's and the
--- caller's would be caught at the fact that the exit says.
+-- Why it holds: The function returns the body that `tag_body` finds in the reader's book, with the
+-- reader's number of lists. Only the contract of `tag_body` is used.
+-- What would break it: Another slice, number or tag than the reader's and the caller's would be
+-- caught at `exits`, which states the contract.
 use mathlib.Core.Path.{_≡_, refl}
 use Prim.Native.Nat.{ℕ, _<_, _^_}
 use mathlib.Core.List.{List, [], _∷_}
@@ -77,7 +77,7 @@ module _ {M : Type 1} (𝓤 : URA M) (H : Heap 𝓤) (A : Atoms 𝓤) (W : Given
   abbrev at : Vals body.signature (κ, tt)
   at = (mach ∷ [], (vint w32 n ∷ [], tt))
 
-  -- what is said of the part handed back: its bytes, and where they lie
+  -- what the contract says of the part returned: its bytes, and where they lie
   abbrev Wanted : RefT (List ℕ) → Type 0
   Wanted s = (now s ≡ tagBody (now (d .book)) (d .lists) n) × (ptr s ≡ tagPlace (ptr (d .book)) (now (d .book)) (d .lists) n)
 
@@ -106,7 +106,7 @@ module _ {M : Type 1} (𝓤 : URA M) (H : Heap 𝓤) (A : Atoms 𝓤) (W : Given
       qed W ((‵ (flft κ q) ⊛ ‵ ftrue) ∷ ‵ (owns (Slice ∷ u32 ∷ u32 ∷ []) (d .book, (d .lists, (n, tt))) passed) ∷ []) ∵
       join ! $ frame ! $ done !
 
-  -- what the struct owns gives what the callee asks, and is kept
+  -- what the reader owns gives what the callee asks for, and is kept as well
   apart : d .lists < 2 ^ 32
       → ent 𝓤 (onEntry 𝓤 H A body.signature (κ, tt) (q, tt) (d, (n, tt)) at) (sep 𝓤 (TagBody 𝓤 H A mem run .pre to) (sem 𝓤 H A Own))
   apart fits =
@@ -122,8 +122,8 @@ module _ {M : Type 1} (𝓤 : URA M) (H : Heap 𝓤) (A : Atoms 𝓤) (W : Given
       owned ! u32 (Is u32) (uint-makes 𝓤 H A W w32) (d .lists) _ (refl, fits) $ fjoin ! $ move ! (1 ∷ 0 ∷ []) $ fjoin ! $
       move ! (2 ∷ 0 ∷ []) $ use2 W (raw (TagBody 𝓤 H A mem run .pre to)) asked $ frame ! $ done !)
 
-  -- of the callee's `ensured`, the clause alone: it has no `&mut`, so what is said of last values
-  -- is dropped
+  -- of what the callee promises only its contract's fact is kept: it lends nothing mutably, so
+  -- there are no last values
   said : (s : RefT (List ℕ))
       → ent 𝓤 (ensured 𝓤 H A callee.ended (callee.clauses 𝓤 H A mem run) (κ, tt) (d .book, (d .lists, (n, tt))) tt s) (fact 𝓤 (Wanted s))
   said s = exE 𝓤 _ (λ ws. snd∗ 𝓤 (sem 𝓤 H A (lasts callee.ended (κ, tt) (d .book, (d .lists, (n, tt))) ws)) (fact 𝓤 (Wanted s)))

@@ -1,8 +1,8 @@
 -- Function: `body_in` (src/reader.rt).
--- Why it holds: `open` gives a reader over what is kept of the bytes, and `body` the tag's body of
--- that reader; only the contracts of the two are used.
+-- Why it holds: `open` gives a reader over what is kept of the bytes, and `body` gives the tag's
+-- body from that reader. Only the contracts of these two are used.
 -- What would break it: Another reader than the one that `open` returns, or another tag than the
--- caller's, would be caught at the fact that the exit says.
+-- caller's, would be caught at `exits`, which states the contract.
 use mathlib.Core.Path.{_≡_, refl, _∙_}
 use Prim.Native.Nat.{ℕ, _<_, _^_}
 use mathlib.Core.List.{List, [], _∷_}
@@ -62,7 +62,7 @@ use Rattle.readers.proofs.reader.body_in.Code as code
 abbrev stayed : Stays (body-in.ended .signature .params) (body-in.ended .kept)
 stayed = (stay-none-slice (0 ∷ []) tt (plain (λ _. u8)) yes, (stay-none (λ _. u32) yes, tt))
 
--- the body in what is kept is the body that is kept, and lies where that lies
+-- the tag's body in the part that is kept is `keptBody`, and lies where that lies
 module _ (part bytes : List ℕ) (lists tag : ℕ) (p : part ≡ keptOf bytes) (l : lists ≡ keptLists bytes) where
   body-kept : tagBody part lists tag ≡ keptBody bytes tag
   unfolding keptBody
@@ -92,7 +92,7 @@ module _ {M : Type 1} (𝓤 : URA M) (H : Heap 𝓤) (A : Atoms 𝓤) (W : Given
   abbrev Own : Fml
   Own = Slice .own bytes (v ∷ [])
 
-  -- the struct's type as a local of a body has it
+  -- the reader's type, as a local variable has it
   abbrev αᵉ : NamedLft
   αᵉ = record { mir = erased; lft = κ }
 
@@ -102,7 +102,7 @@ module _ {M : Type 1} (𝓤 : URA M) (H : Heap 𝓤) (A : Atoms 𝓤) (W : Given
   abbrev Post : Val → SProp 𝓤
   Post = walkOf 𝓤 H A body-in.ended stayed (body-in.clauses 𝓤 H A mem run) .post (((κ, tt), (q, tt), tt, (bytes, (n, tt)), at), tt)
 
-  -- the call of `open`: what it is passed, what it asks, and what is known of its result
+  -- the call of `open`: what it is passed, what it asks for, and what is known of its result
   abbrev to-open : Opening 𝓤 H A mem run .Ghost
   to-open = (((κ, tt), (q, tt), tt, (bytes, tt), (v ∷ [], tt)), tt)
 

@@ -1,8 +1,8 @@
 -- Function: `book` (src/reader.rt).
--- Why it holds: The slice that the reader holds is handed back: a reader is Copy, so one copy of
--- what it owns stays for the exit and gives the result its part.
--- What would break it: A part of the book, or another slice, would be caught at the fact that the
--- exit says.
+-- Why it holds: The function returns the slice that the reader holds. A reader is Copy, so one copy
+-- of what it owns stays for the exit and the other gives the result its part.
+-- What would break it: A part of the book, or another slice, would be caught at `exits`, which
+-- states the contract.
 use mathlib.Core.Path.{_≡_, refl}
 use mathlib.Core.List.{[], _∷_}
 use lib.Dec.{T as Holds}

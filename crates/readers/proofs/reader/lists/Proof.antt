@@ -1,8 +1,8 @@
 -- Function: `lists` (src/reader.rt).
--- Why it holds: The number is read from its field, and the reader's own typing says that it fits a
--- `u32`; the reader is seen at exit as it was passed.
--- What would break it: An answer that is any other number than the field's would be caught at the
--- fact that the exit says.
+-- Why it holds: The number is read from its field, and the reader's type says that it fits in a
+-- `u32`. At the exit the reader is as it was passed.
+-- What would break it: Any other number than the field's would be caught at `exits`, which states
+-- the contract.
 use mathlib.Core.Path.{refl}
 use Prim.Native.Nat.{_<_, _^_}
 use mathlib.Core.List.{[], _∷_}

@@ -1,8 +1,8 @@
 -- Function: `over` (src/reader.rt).
--- Why it holds: The slice and the number passed become the reader's fields: a `&[u8]` is Copy, so
--- what the book owns is had for the exit and inside the reader.
--- What would break it: A reader over a part of the book or another slice, or with another number
--- than the one passed, would be caught at the fact that the exit says.
+-- Why it holds: The slice and the number passed become the reader's fields. A `&[u8]` is Copy, so
+-- what the book owns is there at the exit and also inside the reader.
+-- What would break it: A reader over a part of the book or over another slice, or with another
+-- number, would be caught at `exits`, which states the contract.
 use mathlib.Core.Path.{refl}
 use Prim.Native.Nat.{ℕ, _<_, _^_}
 use mathlib.Core.List.{List, [], _∷_}

@@ -1,8 +1,8 @@
 -- Function: `faulty_part` (src/part.rt).
 -- Why it holds: The verdict is `checkTwo`'s, so the tests of its number and list pick the case of
 -- `partAt` and of `placeAt`.
--- What would break it: A part of the other list, an empty one too, or one shown for another answer,
--- would be caught at its return.
+-- What would break it: A part of the other list, even an empty one, or a part shown for another
+-- answer would be caught at its return.
 use borrow.Author.Needs.{needs}
 use mathlib.Core.Path.{_≡_, refl, ap, _∙_}
 use mathlib.Core.Logic.{_⊎_, inl, inr}
@@ -26,7 +26,7 @@ module _ (xs ys : List ℕ) (v : Verdict) (q : v ≡ checkTwo xs ys) (a d : ℕ 
   unfolding faultyPart faultyPlace
   shown = (ap (λ (w : Verdict). partAt w xs ys) q, ap (λ (w : Verdict). placeAt w a d xs ys) q)
 
-  -- what is returned is the part at fault, and lies where that lies
+  -- what is returned is the faulty part, and lies where that lies
   abbrev Right : List ℕ → ℕ × ℕ → Type 0
   Right words place = (words ≡ faultyPart xs ys) × (place ≡ faultyPlace a d xs ys)
 

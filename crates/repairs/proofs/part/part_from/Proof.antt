@@ -1,6 +1,7 @@
 -- Function: `part_from` (src/part.rt).
--- Why it holds: Up to the number of nodes the part is what is left after the index's words, and
--- from there on nothing is left; it lies as many bytes further on as these words take.
+-- Why it holds: Up to the number of nodes, the part is what is left after the words before the
+-- index. It lies as many bytes further on as those words take. For any greater index nothing is
+-- left.
 -- What would break it: A part that starts one word off would be caught at the second return.
 use borrow.Author.Needs.{needs}
 use mathlib.Core.Path.{_≡_, sym}

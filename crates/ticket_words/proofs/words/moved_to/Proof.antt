@@ -1,7 +1,7 @@
 -- Function: `moved_to` (src/words.rt).
 -- Why it holds: A place after a pair has the three numbers of its key.
--- What would break it: Two of them swapped, or words that are not marked as placed, would be caught
--- at the return.
+-- What would break it: Two swapped numbers of the key, or words that are not marked as placed,
+-- would be caught at the return.
 use borrow.Author.Needs.{needs}
 use mathlib.Core.Path.{_≡_, sym, ap}
 use Rattle.tickets.specs.declared.ticket.Key.{Key}

@@ -1,5 +1,5 @@
 -- Function: `place_of` (src/words.rt).
--- Why it holds: The test of the number is the definition's own, and the key has the three words
+-- Why it holds: The code tests the number as the definition does, and the key has the three words
 -- that follow.
 -- What would break it: A fresh ticket read as placed, or two numbers of the key swapped, would be
 -- caught at the returns.

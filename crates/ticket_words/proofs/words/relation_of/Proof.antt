@@ -1,6 +1,6 @@
 -- Function: `relation_of` (src/words.rt).
--- Why it holds: The test of the number is the definition's own.
--- What would break it: The two relations swapped would be caught at the returns.
+-- Why it holds: The code tests the number as the definition does.
+-- What would break it: Swapped relations would be caught at the returns.
 use borrow.Author.Tests.{eq-eqb, ne-eqb}
 use Rattle.ticket_words.specs.Words.{relationOf}
 use Rattle.ticket_words.proofs.words.relation_of.Statement.{statement}

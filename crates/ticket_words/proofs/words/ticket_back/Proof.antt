@@ -1,5 +1,5 @@
 -- Function: `ticket_back` (src/words.rt).
--- Why it holds: The test of the count is the definition's own.
+-- Why it holds: The code tests the count as the definition does.
 -- What would break it: Words that moved though nothing was written, or stayed though something was,
 -- would be caught at the returns.
 use borrow.Author.Needs.{needs}

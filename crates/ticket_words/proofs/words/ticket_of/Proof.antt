@@ -1,5 +1,5 @@
 -- Function: `ticket_of` (src/words.rt).
--- Why it holds: Each of the three parts is what the function of that name makes of the words.
+-- Why it holds: Each of the three parts is what the function for that part makes of the words.
 -- What would break it: A part made of another word would be caught at the return.
 use borrow.Author.Needs.{needs}
 use Rattle.tickets.specs.Ticket.{asked, ticketAt}

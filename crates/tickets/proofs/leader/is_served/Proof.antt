@@ -1,6 +1,6 @@
 -- Function: `is_served` (src/leader.rt).
--- Why it holds: The documents are compared first and the starts only within one document, as
--- `aboveb` does; before a fresh place stands no leader.
+-- Why it holds: The documents are compared first, and the starts only within one document, as
+-- `aboveb` does. No leader stands before a fresh place.
 -- What would break it: A comparison the wrong way round, or one that takes equal starts, would be
 -- caught at its return.
 use Prim.Native.Nat.{_≤_, _<_}

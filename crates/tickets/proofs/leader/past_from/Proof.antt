@@ -1,6 +1,6 @@
 -- Function: `past_from` (src/leader.rt).
--- Why it holds: Of another leader all followers lie past the place, of the place's own those after
--- its follower; each return is one case of the definition.
+-- Why it holds: For the place's own leader, the followers after the place's follower lie past the
+-- place. For another leader the number is 0. Each return is one case of the definition.
 -- What would break it: A number one off, or a leader of another document taken for the place's own,
 -- would be caught at its return.
 use mathlib.Core.Path.{_≡_}

@@ -1,7 +1,7 @@
 -- Function: `served_count` (src/leader.rt).
--- Why it holds: The invariant: the search has passed k leaders, each of which stands before the
+-- Why it holds: At each turn, the search has passed k leaders, each of which stands before the
 -- leader of the place.
--- Measure: `count leaders - k`.
+-- Measure: `count leaders - k`, the leaders still to search.
 -- What would break it: A leader passed over, or an index one off, would be caught at a return or at
 -- the next turn.
 use Prim.Native.Nat.{_-_}

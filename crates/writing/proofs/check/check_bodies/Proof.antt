@@ -1,9 +1,9 @@
 -- Function: `check_bodies` (src/check.rt).
--- Why it holds: The bodies still to be checked, out of the nodes that are left, make the whole, and
--- each turn checks the first of them, which the contents keep short and within the nodes.
--- Measure: `length entries / WANTED-WORDS - index`.
+-- Why it holds: The verdict on the bodies still to be checked is the verdict on all. Each turn
+-- checks the first of them, which the contents keep short and within the nodes.
+-- Measure: `length entries / WANTED-WORDS - index`, the lists still to check.
 -- What would break it: A body cut one node off, or one checked out of turn, would be caught at the
--- next turn, a wrong list named at its return.
+-- next turn. A wrong list named would be caught at its return.
 use borrow.Author.Needs.{needs}
 use mathlib.Core.Path.{_≡_, refl, sym, ap, subst, _∙_}
 use mathlib.Core.Bool.{true}
@@ -37,8 +37,8 @@ use Rattle.writing.proofs.check.check_bodies.Tie as tie
 abbrev start : List ℕ → ℕ
 start entries = contentsEnd (length (wanted entries))
 
--- the bodies from an index on, out of the words from a place on, are all that is left, and they end
--- where the words do
+-- the verdict on the bodies from an index on, out of the words from a place on, is the verdict on
+-- all; the bodies end where the words do
 pub record Checks (entries list : List ℕ) (from index : ℕ) : Type 0 where
   pub fit : laidb (start entries + 4 * from) (laidOut (start entries + 4 * from) (drop index (wanted entries))) (start entries + 4 * length list)
       ≡ true
@@ -81,7 +81,7 @@ module _ (entries list : List ℕ) (whole : length list % NODE-WORDS ≡ 0) (goo
         let e = laid-end (at + NODE-BYTES * w .count) (laidOut (at + NODE-BYTES * w .count) (drop (index + 1) (wanted entries))) _ on in
         omega arith
 
-    -- the part's verdict is that on its nodes
+    -- the words of the next body; the verdict on them is that on its nodes
     abbrev part : List ℕ
     part = take (from + 4 * w .count - from) (drop from list)
 
@@ -99,7 +99,7 @@ module _ (entries list : List ℕ) (whole : length list % NODE-WORDS ≡ 0) (goo
         let l = length-take-le (from + 4 * w .count - from) (drop from list) (omega arith) in
         rw (eq-eqb _ _ (whole-words part .1 (omega arith, omega arith))) (ap checkNodes part-nodes)
 
-    -- the bodies left are the part's nodes and those after it
+    -- the bodies left are the next one's nodes and those after it
     split : bodiesFor (drop index (wanted entries)) (nodes (drop from list))
         ≡ take (w .count) (nodes (drop from list)) ∷ bodiesFor (drop (index + 1) (wanted entries)) (nodes (drop (from + 4 * w .count) list))
     unfolding bodiesFor

@@ -1,6 +1,6 @@
 -- Function: `check_wanted` (src/check.rt).
--- Why it holds: Each test decides on the answer as the definition asks it: ragged entries, ragged
--- nodes, a fault of the contents, and then the bodies alone.
+-- Why it holds: The tests come as in `checkWanted`: ragged entries, ragged nodes, a fault of the
+-- contents, and then the bodies.
 -- What would break it: A test out of its turn, or a fault passed over, would be caught at its
 -- return.
 use borrow.Author.Needs.{needs}

@@ -1,9 +1,9 @@
 -- Function: `pass_wanted` (src/check.rt).
--- Why it holds: What is left from the place reached on is the whole, the next body starting there,
--- and each turn passes the list that comes next.
--- Measure: `lists - index`.
+-- Why it holds: The walk from the place reached answers as the whole walk does, and the next body
+-- starts there. Each turn passes the list that comes next.
+-- Measure: `lists - index`, the lists still to pass.
 -- What would break it: A list passed over, or a body that starts elsewhere, would be caught at the
--- next turn, a walk that ends too early at its return.
+-- next turn. A walk that ends too early would be caught at its return.
 use borrow.Author.Needs.{needs}
 use mathlib.Core.Path.{_≡_, refl, sym, subst, ap, _∙_}
 use mathlib.Core.Logic.{inl, inr}
@@ -31,7 +31,7 @@ use Rattle.writing.proofs.WantedLaws.{length-wanted, wanted-from}
 use Rattle.writing.proofs.check.pass_wanted.Statement.{statement}
 use Rattle.writing.proofs.check.pass_wanted.Tie as tie
 
--- where a list is passed, its body ends at the next place, and it isn't too long
+-- if a list is passed, its body ends at the next place, and it isn't too long
 Ends : ContentsPlace → Entry → Step → Type 0
 Ends p e (Reached q) = (q .end ≡ p .end + NODE-BYTES * e .count) × (e .count ≤ MOST-NODES)
 Ends p e (Refused answer) = Unit {0}
@@ -49,7 +49,7 @@ passed-ends : (p : ContentsPlace) (e : Entry) (r : Step) → r ≡ stepOf p e �
 unfolding Ends
 passed-ends p e r s q h = subst (Ends p e) (sym s ∙ h) (ends p e)
 
--- so many lists of the entries are passed
+-- the first `index` lists of the entries are passed
 pub record Passed (entries : List ℕ) (lists index : ℕ) (p : ContentsPlace) : Type 0 where
   pub most : p .end ≤ contentsEnd lists + 65536 * index
   pub left : Left p (laidOut (p .end) (drop index (wanted entries))) (startOf lists) (contentsFor (wanted entries))

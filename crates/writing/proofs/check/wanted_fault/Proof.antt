@@ -1,8 +1,7 @@
 -- Function: `wanted_fault` (src/check.rt).
--- Why it holds: Too many lists break a rule; of any other lists the rules are those of the walk
--- along the contents laid out for them, whose last step answers for the size that the book will
--- have.
--- What would break it: A limit one off, or another size than where the nodes end, would be caught
+-- Why it holds: Too many lists break a rule. For any other lists the rules are those of the walk
+-- along the contents laid out for them. Its last step answers for the size that the book will have.
+-- What would break it: A limit one off, or a size that isn't where the nodes end, would be caught
 -- at its return.
 use borrow.Author.Needs.{needs}
 use mathlib.Core.Path.{_≡_, sym, ap, _∙_}

@@ -1,7 +1,7 @@
 -- Function: `put_contents` (src/put.rt).
--- Why it holds: The entries still to be stored, the next body starting where the last ended, make
--- the whole, and each turn stores the first of them.
--- Measure: `lists - index`.
+-- Why it holds: At each turn the entries still to be stored complete the whole. Each turn stores
+-- the first of them, and the next body starts where the last ended.
+-- Measure: `lists - index`, the entries still to store.
 -- What would break it: An offset that doesn't move on with the bodies, or an entry stored one place
 -- off, would be caught at the next turn.
 use borrow.Author.Needs.{needs}
@@ -24,7 +24,8 @@ use Rattle.writing.proofs.WantedLaws.{length-wanted, wanted-from, wante
 use Rattle.writing.proofs.put.put_contents.Statement.{statement}
 use Rattle.writing.proofs.put.put_contents.Tie as tie
 
--- the entries from an index on, stored from there on, are all of them stored from the start on
+-- the entries from an index on, stored from there on, give what all entries give, stored from the
+-- start on
 pub record Puts (entries out₀ : List ℕ) (end₀ index end : ℕ) (out : List ℕ) : Type 0 where
   pub same : length out ≡ length out₀
   pub most : end ≤ end₀ + 65536 * index
@@ -57,7 +58,7 @@ module _ (entries out₀ : List ℕ) (end₀ index end : ℕ) (out : List ℕ) (
       let l = length-wanted entries in
       ap (λ ws. sets out (4 * (1 + 3 * index)) (laidBytes end ws)) (sym (drop-of-length-le (wanted entries) {i = index} (omega arith))) ∙ p .whole
 
--- with the number of lists before them they are all that is to be written
+-- with the number of lists before them the entries are all that is to be written
 ends : (entries out₀ out : List ℕ) (lists end₀ : ℕ) (start : List ℕ) → lists ≡ length entries / WANTED-WORDS → end₀ ≡ contentsEnd lists
     → 1 + 3 * (length entries / WANTED-WORDS) ≤ numberCount out₀ → start ≡ putNumber out₀ 0 lists
     → out ≡ sets start 4 (laidBytes end₀ (wanted entries))

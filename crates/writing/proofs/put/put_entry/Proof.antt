@@ -1,5 +1,5 @@
 -- Function: `put_entry` (src/put.rt).
--- Why it holds: Each of the three stores is the number that comes next of those to be stored.
+-- Why it holds: Each of the three stores puts the number that comes next.
 -- What would break it: A number stored one place off, or two of them exchanged, would be caught at
 -- the return.
 use borrow.Author.Needs.{needs}

@@ -1,9 +1,9 @@
 -- Function: `put_numbers` (src/put.rt).
--- Why it holds: The words still to be stored, from where the next one goes, make the whole, and
--- each store takes the first of them.
--- Measure: `length words - index`.
--- What would break it: A word stored one place off would be caught at the next turn, a loop that
--- ends too early at its return.
+-- Why it holds: At each turn the words still to be stored complete the whole, and each store takes
+-- the first of them.
+-- Measure: `length words - index`, the words still to store.
+-- What would break it: A word stored one place off would be caught at the next turn. A loop that
+-- ends too early would be caught at its return.
 use borrow.Author.Needs.{needs}
 use mathlib.Core.Path.{_≡_, refl, sym, ap, _∙_}
 use mathlib.Core.List.{List, _∷_, flatMap}
@@ -19,7 +19,8 @@ use Rattle.writing.proofs.Putting.{put-on, length-put}
 use Rattle.writing.proofs.put.put_numbers.Statement.{statement}
 use Rattle.writing.proofs.put.put_numbers.Tie as tie
 
--- the words from an index on, stored from there on, are all of them stored from the start on
+-- the words from an index on, stored from there on, give what all words give, stored from the start
+-- on
 pub record Puts (words : List ℕ) (out₀ : List ℕ) (from index : ℕ) (out : List ℕ) : Type 0 where
   pub same : length out ≡ length out₀
   pub whole : sets out (4 * (from + index)) (wordsIn bytesOf (drop index words)) ≡ sets out₀ (4 * from) (wordsIn bytesOf words)

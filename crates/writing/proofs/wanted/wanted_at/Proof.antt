@@ -1,6 +1,7 @@
 -- Function: `wanted_at` (src/wanted.rt).
 -- Why it holds: Below the number of entries the two words at twice the index are the entry's.
--- What would break it: A word one off would be caught at the return, an index too large at a read.
+-- What would break it: A word one off would be caught at the return. An index too large would be
+-- caught at a read.
 use borrow.Author.Needs.{needs}
 use mathlib.Core.Path.{sym}
 use native.Mathlib.Omega.{arith}

@@ -1,8 +1,8 @@
 -- Function: `write_book` (src/write.rt).
--- Why it holds: The check's own verdict refuses; what is taken has a book of just the size that is
--- tested for, and the contents and the nodes after them are its bytes.
--- What would break it: A test of the room one byte off would be caught at its return, nodes written
--- elsewhere at the last one.
+-- Why it holds: The check's own verdict refuses. What is taken has a book of exactly the size that
+-- is tested for. The contents and the nodes after them are its bytes.
+-- What would break it: A test of the room one byte off would be caught at its return. Nodes written
+-- elsewhere would be caught at the last one.
 use borrow.Author.Needs.{needs}
 use mathlib.Core.Path.{_≡_, refl, sym, ap, _∙_}
 use mathlib.Core.List.{List, _∷_, _++_}
@@ -49,7 +49,7 @@ module _ (entries list : List ℕ) (v : Verdict) (q : v ≡ checkWanted entries 
     few : length entries / WANTED-WORDS ≤ MOST-LISTS
     few = wanted-few entries (nodes list) faultless
 
-    -- the size is the book's
+    -- the size tested for is the book's
     sized : (lists end size : ℕ) → lists ≡ length entries / WANTED-WORDS → end ≡ contentsEnd lists → size ≡ end + 4 * length list
         → length (bytesFor entries list) ≡ size
     unfolding bytesFor sizeFor
