@@ -275,8 +275,8 @@ static inline const struct node *end_of_run(const struct node *a, const struct n
 
 /* Returns the descendant of a run to look at after one that isn't one level deeper. Where more than
  * a stride is left, and the next zone holds this one and the one after it, all that the zone holds
- * are passed: the rest of the run, the rest but one, or what strides reach. A zone that has ended,
- * or holds no more than this one, makes way for the zone after it. */
+ * are passed. That is the rest of the run, the rest but one, or what strides reach. A zone that has
+ * ended, or holds no more than this one, makes way for the zone after it. */
 static inline const struct node *past_inner(const struct node **next_zone,
                                             const struct node *zones_end, const struct node *d,
                                             const struct node *run_end) {

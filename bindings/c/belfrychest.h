@@ -67,7 +67,7 @@ extern "C" {
 #define BELFRY_PRINTED_BYTES 61440
 
 /* A good size for a page, in pairs. Every page checks both lists anew, so a small page costs nearly
- * as much as a large one, and a listing in pages of 4 pairs hundreds of times as much as one in
+ * as much as a large one. A listing in pages of 4 pairs costs hundreds of times as much as one in
  * pages of this size. */
 #define BELFRY_PAGE_PAIRS 4096
 
@@ -114,7 +114,7 @@ extern "C" {
 /* A ticket's relation, its order, and whether it is placed. Any number other than 0 is taken as
  * BELFRY_DIRECTLY, as BELFRY_ANCESTOR_ORDER and as BELFRY_PLACED.
  * The relation and the order are two types, so that a compiler sees where one is given for the
- * other: C++ refuses it; in C, clang and gcc (from 10 on, with -Wextra) warn of it. */
+ * other. C++ refuses it. In C, clang and gcc (from 10 on, with -Wextra) warn of it. */
 typedef enum belfry_relation {
     BELFRY_INSIDE = 0,
     BELFRY_DIRECTLY = 1,
@@ -217,7 +217,7 @@ typedef struct {
     uint32_t relation, order, placed, document, first, second;
 } belfry_ticket;
 
-/* Returns the ticket that starts a listing. Use it rather than filling in the fields: a later
+/* Returns the ticket that starts a listing. Use it rather than filling in the fields. A later
  * version of the library may have more of them, and here they get the values with which every pair
  * is listed. It is a function, since clang doesn't warn of the arguments of an installed header's
  * macro. */
@@ -366,7 +366,7 @@ BELFRY_NONNULL
 belfry_body belfry_book_body(const uint8_t *book, size_t bytes, uint32_t tag);
 
 /* Writes a book. It reads the entries, a tag and a number of nodes for each list, and the nodes of
- * all lists one after the other; it writes the book, which takes BELFRY_BOOK_BYTES. Tags must
+ * all lists one after the other. It writes the book, which takes BELFRY_BOOK_BYTES. Tags must
  * ascend, and the numbers must add up to the nodes.
  * Answers: RAGGED, CONTENTS, then LEVEL to DEPTH for the first list at fault, with its place and
  * the node's index in that list, then ROOM. */

@@ -1,4 +1,4 @@
-/* Calls each function of the archive on the farm of docs/SCOPE.md and holds every field of the
+/* Calls each function of the archive on the farm of docs/SCOPE.md. Holds every field of the
  * answers, and every byte of the outputs, against what has to be there. */
 #include "expect.h"
 

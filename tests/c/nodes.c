@@ -1,4 +1,4 @@
-/* Holds each call of nodes against the call of words that it stands on: with n nodes it answers and
+/* Holds each call of nodes against the call of words that it stands on. With n nodes it answers and
  * writes what the other does with 4 * n words, and so with rows, links, entries and pairs. Every
  * number of nodes is tried, from none up to lists that are refused. */
 #include "expect.h"

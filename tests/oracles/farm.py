@@ -75,10 +75,10 @@ def farm_csv():
 
 
 HEAD = """\
-farm.book: a farm of four fields, each a document, with its zones (tag 2), the samples taken in them
-(tag 3) and the samples' lab numbers, which are texts (tag 65536). River Meadow has a sample outside
-every zone (R3). Chalk Hill has one too (H1), a zone without a sample, and a zone that holds only a
-zone.
+farm.book: a farm of four fields, each a document. It has their zones (tag 2), the samples taken in
+them (tag 3) and the samples' lab numbers, which are texts (tag 65536). River Meadow has a sample
+outside every zone (R3). Chalk Hill has one too (H1), a zone without a sample, and a zone that holds
+only a zone.
 
   document start  end level
 

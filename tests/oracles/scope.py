@@ -6,8 +6,10 @@ is looked at. The one shortcut is `walk`, which leaves out the nodes that ended 
 """
 import struct
 
-NAMES = ("TAKEN RAGGED LONG LEVEL SPAN ORDER CROSS DEPTH JOINT ROOM MARK STRAY DEEP UNCLOSED TABLE "
-         "CONTENTS ABSENT").split()
+NAMES = """
+    TAKEN RAGGED LONG LEVEL SPAN ORDER CROSS DEPTH JOINT ROOM MARK STRAY DEEP UNCLOSED TABLE
+    CONTENTS ABSENT
+""".split()
 ANSWER = {name: number for number, name in enumerate(NAMES)}
 MOST = 4096
 MOST_LEVEL = 64

@@ -130,9 +130,9 @@ def naive_byte(book):
 
 
 def stored_answers():
-    """Returns for each of the figures' books the numbers that it must draw: the answer of reading
-    it, its list and its index, and the answer of joining its first two lists. The program prints
-    the latter, unless the book is too long for it.
+    """Returns for each of the figures' books the numbers that it must draw. They are the answer of
+    reading it, its list and its index, and the answer of joining its first two lists. The program
+    prints the latter, unless the book is too long for it.
     """
     found, name = {}, None
     for line in (FIGURES / "stdout").read_text().splitlines():

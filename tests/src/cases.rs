@@ -1,4 +1,5 @@
-//! Each function of the C interface with a random case of it: what it is asked is made, lent where the ground says, and held against the model.
+//! Each function of the C interface with a random case of it: what it is asked is made, lent where
+//! the ground says, and held against the model.
 
 use crate::asking;
 use crate::ground::Ground;

@@ -1,4 +1,5 @@
-//! Where the buffers of a call lie: anywhere, or right beside memory that nobody may touch, so that a word too far ends the process.
+//! Where the buffers of a call lie: anywhere, or right beside memory that nobody may touch, so that
+//! a word too far ends the process.
 
 use crate::paint::Word;
 use std::mem::size_of;
@@ -11,7 +12,7 @@ pub enum Ground {
     Heap,
     /// The buffer's last word is the last before the guard.
     BeforeGuard,
-    /// The buffer's first word is the first behind the guard.
+    /// The buffer's first word is the first after the guard.
     AfterGuard,
 }
 

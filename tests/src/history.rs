@@ -1,12 +1,12 @@
-//! A listing that is followed from page to page, and held against demand 3 alone: when an accepted
-//! call says done, every pair that stood unaltered in every accepted call has been handed out, once;
-//! no document and two starts come twice; each pair stood in the lists of the call that handed it
-//! out; a call that isn't done fills its room; and a refused call counts for nothing. Besides, the
-//! pairs come in the order that was asked for.
+//! A listing that is followed from page to page, and held against demand 3 alone. When an accepted
+//! call says done, every pair that stood unaltered in every accepted call has been handed out,
+//! once. No document and two starts come twice. Each pair stood in the lists of the call that
+//! handed it out. A call that isn't done fills its room, and a refused call counts for nothing. The
+//! pairs also come in the order that was asked for.
 //!
-//! There is no model of paging here: what a call handed out, and whether it was accepted and done, is
-//! taken from the call. A listing from a made-up ticket is held against the same words, of the pairs
-//! past that ticket's place.
+//! There is no model of paging here: what a call handed out, and whether it was accepted and done,
+//! is taken from the call. A listing from a made-up ticket is held against the same words, of the
+//! pairs past that ticket's place.
 
 use crate::asking::meaning;
 use crate::model::nodes::{nodes, Node};
@@ -105,8 +105,8 @@ impl History {
         pair.has(asked.relation) && asked.place.map_or(true, |place| pair.key(asked.order) > place)
     }
 
-    /// Takes what a call handed out: pairs that stood in its own lists and were asked for, in order,
-    /// and no document and two starts again.
+    /// Takes what a call handed out: pairs that stood in its own lists and were asked for, in
+    /// order, and no document and two starts again.
     fn take(&mut self, lists: &Lists, words: &[u32]) {
         let order = meaning(&self.first_ticket).order;
         let starts =

@@ -1,4 +1,5 @@
-//! Makers of random questions: small ones, so that every answer comes often, sound ones and damaged ones.
+//! Makers of random questions: small ones, so that every answer comes often, sound ones and damaged
+//! ones.
 
 pub mod books;
 pub mod lists;

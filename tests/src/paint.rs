@@ -4,7 +4,8 @@ use std::fmt::Debug;
 
 /// What an output is made of.
 pub trait Word: Copy + Debug + Default + PartialEq {
-    /// Two coats of paint that differ in every bit, so that a word that has its paint under both was not written.
+    /// Two coats of paint that differ in every bit, so that a word that has its paint under both
+    /// was not written.
     const COATS: [Self; 2];
 }
 

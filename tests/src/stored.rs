@@ -1,5 +1,5 @@
-//! The cases of `tests/cases`, each with what it must answer stored below it: how they are read, and
-//! how an answer is written there.
+//! The cases of `tests/cases`, each with what it must answer stored below it: how they are read,
+//! and how an answer is written there.
 
 use crate::telling::Telling;
 use belfrychest::raw;

@@ -1,5 +1,6 @@
-//! Every function with each of its buffers right before memory that can't be touched, and then right behind it; inputs can't be written besides.
-//! A word too far would end the process. The answers are held against the model as everywhere.
+//! Every function with each of its buffers right before memory that can't be touched, and then
+//! right after it. Inputs can't be written either. A word too far would end the process. The
+//! answers are held against the model as everywhere.
 
 use outside::cases::{self, Function};
 use outside::ground::{Ground, Lent};

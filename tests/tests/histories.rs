@@ -1,5 +1,6 @@
-//! Listings that are followed from page to page while both lists are edited, some calls are refused,
-//! and other tickets are used in between. Each is held against demand 3 (`outside::history`).
+//! Listings that are followed from page to page while both lists are edited, some calls are
+//! refused, and other tickets are used in between. Each is held against demand 3
+//! (`outside::history`).
 
 use belfrychest::raw::{Page, Ticket};
 use outside::history::{History, Lists};
@@ -98,8 +99,8 @@ fn follow(random: &mut Random, first_ticket: impl Fn(Ticket) -> Ticket) -> Histo
     history
 }
 
-/// Follows listings of one relation and one order from fresh tickets, and then from made-up ones. Fails unless many had more than five pages, a
-/// refused call, a pair that was altered.
+/// Follows listings of one relation and one order from fresh tickets, and then from made-up ones.
+/// Fails unless many had more than five pages, a refused call, a pair that was altered.
 fn hold(relation: u32, order: u32) {
     let fresh_seeds = SEEDS + u64::from(2 * relation + order) * (FRESH + MADE_UP);
     let mut seen = [0; 3];

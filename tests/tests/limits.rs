@@ -1,4 +1,5 @@
-//! Both sides of every limit. What is too large for the model, which tries all pairs, is known from how the case is put together.
+//! Both sides of every limit. What is too large for the model, which tries all pairs, is known from
+//! how the case is put together.
 
 use belfrychest::raw::{self, Ticket};
 use outside::asking::{self, raw_verdict, TAKEN};

@@ -1,5 +1,5 @@
-//! `Pieces` against the model, which knows nothing of pieces: the lists are cut so small that most
-//! have many pieces, and what is refused and where, each page and each listing must be those of the
+//! `Pieces` against the model, which knows nothing of pieces. The lists are cut so small that most
+//! have many pieces. What is refused and where, each page and each listing must be those of the
 //! whole lists.
 
 use belfrychest::{nodes, words, Node, Page, Pair, Pieces, Place, Refusal, Ticket};

@@ -1,4 +1,5 @@
-//! The printing program as a process, on a thousand books: its whole standard output and its exit status against the model's text.
+//! The printing program as a process, on a thousand books: its whole standard output and its exit
+//! status against the model's text.
 
 use outside::making::books::book;
 use outside::making::lists::{nest, texts};
@@ -27,7 +28,8 @@ fn program() -> Command {
     command
 }
 
-/// Fails unless the program prints of these bytes what the model prints. They are handed over in pieces of this length.
+/// Fails unless the program prints of these bytes what the model prints. They are handed over in
+/// pieces of this length.
 fn hold_in_pieces(book: &[u8], piece: usize) {
     let mut child = program()
         .stdin(Stdio::piped())
@@ -49,7 +51,7 @@ fn hold(book: &[u8]) {
     hold_in_pieces(book, book.len().max(1));
 }
 
-/// Runs the program on so many random books of which this is true.
+/// Runs the program on `books` random books of which this is true.
 fn hold_random(first_seed: u64, books: u64, wanted: impl Fn(Result<Vec<Pair>, Answer>) -> bool) {
     each_case(SEEDS + first_seed, books, |random| {
         let mut drawn = book(random);

@@ -1,4 +1,5 @@
-//! Every refusal, at every place where it can be drawn. What must be answered is known from how each case is put together.
+//! Every refusal, at every place where it can be drawn. What must be answered is known from how
+//! each case is put together.
 
 use belfrychest::raw::{self, Ticket};
 use outside::asking::{self, raw_verdict};
@@ -28,7 +29,8 @@ fn sound(count: usize) -> Vec<Node> {
     [zone].into_iter().chain((1..count as u32).map(inner)).collect()
 }
 
-/// An answer, and an edit of the node at an index of the list above that draws it there and nowhere before.
+/// An answer, and an edit of the node at an index of the list above that draws it there and nowhere
+/// before.
 type Fault = (Answer, fn(&mut [Node], usize));
 
 /// The faults that any node can have.
@@ -76,7 +78,8 @@ fn each_fault_anywhere(test: impl Fn(&[Node], Answer, usize)) {
     }
 }
 
-/// Fails unless all calls of two lists refuse these with this verdict, show the part at the faulty node, give the ticket back and write nothing.
+/// Fails unless all calls of two lists refuse these with this verdict, show the part at the faulty
+/// node, give the ticket back and write nothing.
 fn refuses_two(ancestors: &[Node], descendants: &[Node], verdict: Verdict, part: [usize; 2]) {
     let (ancestors, descendants) = (words(ancestors), words(descendants));
     let expected = raw_verdict(verdict);

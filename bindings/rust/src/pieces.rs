@@ -1,11 +1,11 @@
 //! Lists of more nodes than a call takes, cut into pieces.
 //!
 //! The rule is a theorem (`crates/demands/proofs/Pieces.antt`). A whole list draws none of LEVEL to
-//! DEPTH exactly when each piece draws none, the first node of each piece stands after the last one
-//! of the piece before, and the check of two takes every earlier piece with every later one. The
-//! pairs of two whole lists are those of every ancestor piece with every descendant piece. Two
-//! pieces without a common document need no call. The library is asked for all of this, and nothing
-//! is judged anew.
+//! DEPTH exactly when three things hold. Each piece draws none. The first node of each piece stands
+//! after the last one of the piece before. The check of two takes every earlier piece with every
+//! later one. The pairs of two whole lists are those of every ancestor piece with every descendant
+//! piece. Two pieces without a common document need no call. The library is asked for all of this,
+//! and nothing is judged anew.
 
 use crate::answer::Refusal;
 use crate::limits::{ANCESTORS, DESCENDANTS, MOST_NODES, PAGE_PAIRS};
@@ -17,9 +17,9 @@ use std::iter::from_fn;
 
 /// Two lists of any number of nodes, cut into pieces of [`MOST_NODES`].
 ///
-/// It does what the calls on two lists do, as they would without that limit: the same refusals,
-/// with the index of the faulty node in the whole list, the same pages for the same tickets, the
-/// same listing. LONG is never given. The pieces are parts of the lent lists; only results are
+/// It does what the calls on two lists would do without that limit. It gives the same refusals,
+/// with the index of the faulty node in the whole list, the same pages for the same tickets, and
+/// the same listing. LONG is never given. The pieces are parts of the lent lists; only results are
 /// copied.
 ///
 /// The work grows with the number of pieces of one list times that of the other, as far as the
@@ -158,7 +158,7 @@ impl<'a> Pieces<'a> {
     }
 
     /// Returns the refusal of a node after nodes that draw nothing. The check of one is asked with
-    /// the node alone and with each part of those before it; of its answers the lowest counts, as
+    /// the node alone and with each part of those before it. Of its answers the lowest counts, as
     /// it does at a node of one list.
     fn refusal_at(&self, before: &[Node], node: Node) -> Refusal {
         let parts = before.chunks(self.size.max(2) - 1).chain([&[][..]]);

@@ -3,9 +3,9 @@
 //! answers.
 //!
 //! All unsafe code of this crate is here, and it is sound for one reason throughout. A slice is
-//! passed as its address and its length: the address is never null and is aligned, even for an
-//! empty slice; the archive reads and writes no more than the length says and keeps no address; and
-//! an output that is lent mutably overlaps nothing else that is lent. A slice of items that are
+//! passed as its address and its length. The address is never null and is aligned, even for an
+//! empty slice. The archive reads and writes no more than the length says and keeps no address. An
+//! output that is lent mutably overlaps nothing else that is lent. A slice of items that are
 //! [`OfWords`] is the slice of their words.
 //!
 //! Every call first holds the archive's version against [`VERSION`], and panics where they differ,

@@ -72,7 +72,8 @@ pub fn check_two(ancestors: &[u32], descendants: &[u32]) -> Verdict {
     Verdict::of(if joint { Answer::Joint } else { Answer::Taken })
 }
 
-/// A verdict on two lists, and the part at the faulty node: the place of its first word in the list that the verdict names, and its length in words.
+/// A verdict on two lists, and the part at the faulty node: the place of its first word in the list
+/// that the verdict names, and its length in words.
 #[derive(Clone, Copy, Debug, PartialEq, Eq)]
 pub struct Part {
     pub verdict: Verdict,
