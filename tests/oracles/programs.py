@@ -28,6 +28,15 @@ def farm():
     return pair_lines(listing(Z, S, "inside", "descendant")) + refusal
 
 
+# bindings/python/first.py, the first program that README shows.
+
+def first():
+    """Returns the pairs of the scope's figure in words."""
+    pairs = listing(Z, S, "inside", "descendant")
+    lines = [f"zone {x[1]}-{x[2]} holds sample {y[1]}-{y[2]}\n" for x, y in pairs]
+    return "".join(lines)
+
+
 # examples/cab.c, a terminal that fetches pages while the lists are edited.
 
 FIELD, STRIPS, STRIP, STRIP_SAMPLES = 101, 50, 1000, 80
@@ -151,6 +160,7 @@ def files():
     """Returns the files by their paths, as they have to be."""
     return stored.as_bytes({
         "bindings/c/farm.out": farm(),
+        "bindings/python/first.out": first(),
         "examples/cab.out": cab(),
         "examples/model.out": rates(),
         "crates/figures_run/stdout": lengths(),
