@@ -29,8 +29,7 @@ static struct notes expected, found;
 static uint32_t out[MOST_PAIRS * BELFRY_PAIR_WORDS];
 static unsigned long seen[ANSWERS];
 
-static void note(struct notes *notes, uint64_t number)
-{
+static void note(struct notes *notes, uint64_t number) {
     if (notes->count == MOST_NOTES) {
         fprintf(stderr, "agree: a case with too many answers\n");
         exit(2);
@@ -38,8 +37,7 @@ static void note(struct notes *notes, uint64_t number)
     notes->note[notes->count++] = number;
 }
 
-static void note_verdict(struct notes *notes, belfry_verdict v)
-{
+static void note_verdict(struct notes *notes, belfry_verdict v) {
     if (notes == &expected && v.answer < ANSWERS)
         seen[v.answer]++;
     note(notes, v.answer);
@@ -47,23 +45,20 @@ static void note_verdict(struct notes *notes, belfry_verdict v)
     note(notes, v.index);
 }
 
-/* The output before a call; some words after its end are part of it, which no call may alter. */
-static void clear_out(size_t words)
-{
+/* Paints the output before a call, and some words after its end, which no call may alter. */
+static void clear_out(size_t words) {
     for (size_t i = 0; i < words + BELFRY_PAIR_WORDS; i++)
         out[i] = 0xa5a5a5a5 + i;
 }
 
-static void note_out(struct notes *notes, size_t words)
-{
+static void note_out(struct notes *notes, size_t words) {
     uint64_t sum = 14695981039346656037u;
     for (size_t i = 0; i < words + BELFRY_PAIR_WORDS; i++)
         sum = (sum ^ out[i]) * 1099511628211u;
     note(notes, sum);
 }
 
-static void note_ticket(struct notes *notes, belfry_ticket t)
-{
+static void note_ticket(struct notes *notes, belfry_ticket t) {
     note(notes, t.relation);
     note(notes, t.order);
     note(notes, t.placed);
@@ -72,8 +67,7 @@ static void note_ticket(struct notes *notes, belfry_ticket t)
     note(notes, t.second);
 }
 
-static void note_checks(struct notes *notes, const struct code *code, const struct input *in)
-{
+static void note_checks(struct notes *notes, const struct code *code, const struct input *in) {
     belfry_verdict one = code->check(in->ancestors, in->ancestor_words);
     belfry_verdict other = code->check(in->descendants, in->descendant_words);
     belfry_verdict two =
@@ -83,10 +77,10 @@ static void note_checks(struct notes *notes, const struct code *code, const stru
     note_verdict(notes, two);
 }
 
-/* Page after page with one room, from a ticket on, until one is done or nothing is written. */
+/* Notes page after page with one room, from a ticket on, until one is done or nothing is written.
+ * */
 static void note_pages(struct notes *notes, const struct code *code, const struct input *in,
-                       belfry_ticket ticket, size_t room_words)
-{
+                       belfry_ticket ticket, size_t room_words) {
     belfry_page page;
     do {
         clear_out(room_words);
@@ -101,8 +95,7 @@ static void note_pages(struct notes *notes, const struct code *code, const struc
     } while (!page.done && page.count > 0);
 }
 
-static void note_listings(struct notes *notes, const struct code *code, const struct input *in)
-{
+static void note_listings(struct notes *notes, const struct code *code, const struct input *in) {
     for (uint32_t kind = 0; kind < 4; kind++) {
         belfry_ticket fresh = BELFRY_TICKET(kind & 1, kind >> 1);
         belfry_ticket made_up = in->ticket;
@@ -114,15 +107,13 @@ static void note_listings(struct notes *notes, const struct code *code, const st
     }
 }
 
-static void note_written(struct notes *notes, belfry_result result, size_t room_words)
-{
+static void note_written(struct notes *notes, belfry_result result, size_t room_words) {
     note_verdict(notes, result.verdict);
     note(notes, result.count);
     note_out(notes, room_words);
 }
 
-static void note_others(struct notes *notes, const struct code *code, const struct input *in)
-{
+static void note_others(struct notes *notes, const struct code *code, const struct input *in) {
     for (size_t i = 0; i < 2; i++) {
         clear_out(in->rooms[i]);
         note_written(notes, code->links(in->ancestors, in->ancestor_words, out, in->rooms[i]),
@@ -140,8 +131,7 @@ static void note_others(struct notes *notes, const struct code *code, const stru
     note(notes, body.bytes);
 }
 
-static void note_all(struct notes *notes, const struct code *code, const struct input *in)
-{
+static void note_all(struct notes *notes, const struct code *code, const struct input *in) {
     notes->count = 0;
     note_checks(notes, code, in);
     note_listings(notes, code, in);
@@ -149,8 +139,7 @@ static void note_all(struct notes *notes, const struct code *code, const struct 
 }
 
 /* Runs a case on all codes, and ends where one differs from the archive. */
-static void compare(const struct input *in, const char *name, unsigned long number)
-{
+static void compare(const struct input *in, const char *name, unsigned long number) {
     note_all(&expected, &codes[0], in);
     for (size_t i = 1; i < CODES; i++) {
         note_all(&found, &codes[i], in);
@@ -166,9 +155,8 @@ static void compare(const struct input *in, const char *name, unsigned long numb
     }
 }
 
-/* A random number below a limit. */
-static uint32_t below(uint32_t limit)
-{
+/* Returns a random number below a limit. */
+static uint32_t below(uint32_t limit) {
     static uint64_t state = 2026;
     return random_number(&state) % limit;
 }
@@ -177,6 +165,7 @@ enum {
     MOST_SMALL = 24,
     SMALL_MARKS = 200,
     SMALL_LISTS = 2,
+    SMALL_NODES = SMALL_LISTS * MOST_SMALL,
     CONTENTS_BYTES = BELFRY_BOOK_BYTES(SMALL_LISTS, 0)
 };
 
@@ -184,12 +173,11 @@ enum {
 struct small {
     size_t words[SMALL_LISTS], marks, bytes;
     uint32_t list[SMALL_LISTS][BELFRY_NODE_WORDS * MOST_SMALL], mark[SMALL_MARKS];
-    uint8_t book[BELFRY_BOOK_BYTES(SMALL_LISTS, SMALL_LISTS * MOST_SMALL) + 1];
+    uint8_t book[BELFRY_BOOK_BYTES(SMALL_LISTS, SMALL_NODES) + 1];
 };
 
 static void put_node(struct small *s, size_t list, uint32_t document, uint32_t start, uint32_t end,
-                     uint32_t level)
-{
+                     uint32_t level) {
     uint32_t node[BELFRY_NODE_WORDS] = {document, start, end, level};
     if (s->words[list] == BELFRY_NODE_WORDS * MOST_SMALL)
         return;
@@ -197,10 +185,9 @@ static void put_node(struct small *s, size_t list, uint32_t document, uint32_t s
     s->words[list] += BELFRY_NODE_WORDS;
 }
 
-/* A random forest between two positions: each of its nodes goes to one list, to both or to none,
-   and levels may jump. */
-static void grow(struct small *s, uint32_t document, uint32_t from, uint32_t to, uint32_t level)
-{
+/* Grows a random forest between two positions. Each of its nodes goes to one list, to both or to
+ * none, and levels may jump. */
+static void grow(struct small *s, uint32_t document, uint32_t from, uint32_t to, uint32_t level) {
     while (from <= to && to - from < UINT32_MAX / 2 && level <= BELFRY_MOST_LEVELS) {
         uint32_t start = from + below(to - from + 1) / 2, end = start + below(to - start + 1);
         uint32_t lists = below(4);
@@ -215,8 +202,7 @@ static void grow(struct small *s, uint32_t document, uint32_t from, uint32_t to,
     }
 }
 
-static void fill_lists(struct small *s)
-{
+static void fill_lists(struct small *s) {
     uint32_t width = 1 + below(24), from = below(4) ? below(3) : UINT32_MAX - width;
     uint32_t document = below(4) ? below(3) : UINT32_MAX - 2;
     s->words[0] = s->words[1] = 0;
@@ -224,9 +210,8 @@ static void fill_lists(struct small *s)
         grow(s, document + i, from, from + width, below(4) ? 1 : 58 + below(6));
 }
 
-/* Most damage is a word that is off by a little, so that the nodes nearly fit. */
-static void damage_list(uint32_t *list, size_t *words)
-{
+/* Damages a list. Most damage is a word that is off by a little, so that the nodes nearly fit. */
+static void damage_list(uint32_t *list, size_t *words) {
     static const uint32_t others[] = {0, 1, BELFRY_MOST_LEVELS, BELFRY_MOST_LEVELS + 1, UINT32_MAX};
     if (*words < BELFRY_NODE_WORDS)
         return;
@@ -239,10 +224,9 @@ static void damage_list(uint32_t *list, size_t *words)
         list[at] += below(5) - 2;
 }
 
-/* Marks that open, close and stand for texts at random, most often all closed at the end; some have
-   one mark changed. */
-static void fill_marks(struct small *s)
-{
+/* Fills in marks that open, close and stand for texts at random, most often all closed at the end.
+ * Some have one mark changed. */
+static void fill_marks(struct small *s) {
     static const uint32_t others[] = {BELFRY_CLOSE,    1,         BELFRY_TEXT - 1, BELFRY_TEXT,
                                       BELFRY_TEXT + 1, UINT32_MAX};
     size_t depth = 0, wanted = below(24);
@@ -264,16 +248,14 @@ static void fill_marks(struct small *s)
         s->marks = below(s->marks + 1);
 }
 
-static void put_number(uint8_t *at, uint32_t number)
-{
+static void put_number(uint8_t *at, uint32_t number) {
     for (size_t i = 0; i < BELFRY_NUMBER_BYTES; i++)
         at[i] = number >> 8 * i;
 }
 
-/* The book of both lists under the tags of zones and samples; some have a byte changed, are cut
-   short or go on. */
-static void fill_book(struct small *s)
-{
+/* Fills in the book of both lists under the tags of zones and samples. Some have a byte changed,
+ * are cut short or go on. */
+static void fill_book(struct small *s) {
     size_t end = CONTENTS_BYTES;
     put_number(s->book, SMALL_LISTS);
     for (size_t list = 0; list < SMALL_LISTS; list++) {
@@ -292,8 +274,7 @@ static void fill_book(struct small *s)
         s->bytes = below(2) ? below(end) : end + 1;
 }
 
-static void compare_random(unsigned long number)
-{
+static void compare_random(unsigned long number) {
     static struct small s;
     fill_lists(&s);
     for (size_t damages = below(3); damages > 0; damages--) {
@@ -321,8 +302,7 @@ static void compare_random(unsigned long number)
     compare(&in, "random case", number);
 }
 
-static void compare_shape(const char *name)
-{
+static void compare_shape(const char *name) {
     static struct shape lists, document;
     static uint8_t book[4];
     build_shape(&lists, name, BELFRY_MOST_NODES);
@@ -345,10 +325,9 @@ static void compare_shape(const char *name)
     compare(&in, name, BELFRY_MOST_NODES);
 }
 
-/* Lists and marks of as many words as are given, whose nodes are siblings, or a nest as deep as
-   levels go. */
-static void compare_limit(size_t words, size_t mark_words, int nested)
-{
+/* Compares lists and marks of as many words as are given. Their nodes are siblings, or a nest as
+ * deep as levels go. */
+static void compare_limit(size_t words, size_t mark_words, int nested) {
     static uint32_t list[BELFRY_NODE_WORDS * (BELFRY_MOST_NODES + 1)], mark[BELFRY_MOST_NODES + 1];
     static uint8_t book[CONTENTS_BYTES];
     for (uint32_t i = 0; i < words / BELFRY_NODE_WORDS; i++) {
@@ -372,9 +351,9 @@ static void compare_limit(size_t words, size_t mark_words, int nested)
     compare(&in, "the limits", words);
 }
 
-/* The answers that no case drew, of those that the calls compared here can give. */
-static int are_seen(void)
-{
+/* Tells whether some case drew each answer that the calls compared here can give, and prints those
+ * that none drew. */
+static int are_seen(void) {
     int all = 1;
     for (uint32_t answer = 0; answer < ANSWERS; answer++)
         if (seen[answer] == 0 && answer != BELFRY_TABLE) {
@@ -384,8 +363,7 @@ static int are_seen(void)
     return all;
 }
 
-int main(int argc, char **argv)
-{
+int main(int argc, char **argv) {
     unsigned long cases = argc == 2 ? strtoul(argv[1], NULL, 10) : 0;
     if (cases == 0) {
         fprintf(stderr, "usage: agree CASES\n");

@@ -24,8 +24,7 @@ struct stand {
 
 /* Puts the next node onto those that are open at it. It says whether it may lie there. A level of 0
    is above none. */
-static inline int push_node(struct open **top, const struct stand *s)
-{
+static inline int push_node(struct open **top, const struct stand *s) {
     struct open *t = *top;
     uint64_t end = s->next->end;
     uint32_t level = s->next->level;
@@ -43,8 +42,7 @@ static inline int push_node(struct open **top, const struct stand *s)
 }
 
 /* Goes on by a node. It says whether the one that follows comes after it. */
-static inline int step(struct stand *s, uint32_t document)
-{
+static inline int step(struct stand *s, uint32_t document) {
     const struct node *n = ++s->next;
     if (n < s->end && n->document == document) {
         uint64_t last = s->start;
@@ -56,25 +54,22 @@ static inline int step(struct stand *s, uint32_t document)
 }
 
 /* Passes the nodes of a list that start before the other's next. It says whether they are right. */
-static inline int pass_run(struct open **top, struct stand *s, uint32_t document, uint64_t limit)
-{
+static inline int pass_run(struct open **top, struct stand *s, uint32_t document, uint64_t limit) {
     while (s->start < limit)
         if (!push_node(top, s) || !step(s, document))
             return 0;
     return 1;
 }
 
-/* Whether the nodes at which both lists stand, and which start together, are identical. */
-static inline int are_identical(const struct node *x, const struct node *y)
-{
+/* Tells whether the nodes at which both lists stand, and which start together, are identical. */
+static inline int are_identical(const struct node *x, const struct node *y) {
     return x->end == y->end && x->level == y->level;
 }
 
 /* Passes the nodes of a document. One that stands in both lists is passed over in the second, and
    then passed in the first. It says whether all are right. */
 static inline int pass_document(struct open *stack, struct stand *x, struct stand *y,
-                                uint32_t document)
-{
+                                uint32_t document) {
     struct open *top = stack;
     for (;;) {
         if (!pass_run(&top, x, document, y->start))
@@ -90,15 +85,13 @@ static inline int pass_document(struct open *stack, struct stand *x, struct stan
     }
 }
 
-/* The document of a list's next node, or PAST. */
-static inline uint64_t document_of(const struct stand *s)
-{
+/* Returns the document of a list's next node, or PAST. */
+static inline uint64_t document_of(const struct stand *s) {
     return s->next < s->end ? s->next->document : PAST;
 }
 
-/* Whether nothing is wrong with two lists, alone and together. */
-static int are_right(struct lists l)
-{
+/* Tells whether nothing is wrong with two lists, alone and together. */
+static int are_right(struct lists l) {
     struct open stack[STACK_NODES];
     struct stand x = {l.ancestor, l.ancestors_end, PAST};
     struct stand y = {l.descendant, l.descendants_end, PAST};
@@ -115,17 +108,15 @@ static int are_right(struct lists l)
     }
 }
 
-/* One list is two of which the second is empty. What is wrong is left to the first pass. */
-static belfry_verdict check_one(const uint32_t *list, size_t words)
-{
+/* Checks one list as two of which the second is empty. What is wrong is left to the first pass. */
+static belfry_verdict check_one(const uint32_t *list, size_t words) {
     if (word_fault(words) == BELFRY_TAKEN && are_right(lists_of(list, words, list, 0)))
         return verdict_of(BELFRY_TAKEN);
     return check_list(list, words);
 }
 
 static belfry_verdict check_both(const uint32_t *ancestors, size_t ancestor_words,
-                                 const uint32_t *descendants, size_t descendant_words)
-{
+                                 const uint32_t *descendants, size_t descendant_words) {
     if (word_fault(ancestor_words) == BELFRY_TAKEN &&
         word_fault(descendant_words) == BELFRY_TAKEN &&
         are_right(lists_of(ancestors, ancestor_words, descendants, descendant_words)))
@@ -135,10 +126,9 @@ static belfry_verdict check_both(const uint32_t *ancestors, size_t ancestor_word
 
 /* The listings. A pair has a leader, by which the order goes first, and a follower. */
 
-/* The first leader at the ticket's place or past it, by halving. */
+/* Returns the first leader at the ticket's place or past it, by halving. */
 static const struct node *first_leader(const belfry_ticket *t, const struct node *n,
-                                       const struct node *end)
-{
+                                       const struct node *end) {
     const struct node place = {t->document, t->first, 0, 0};
     if (!t->placed)
         return n;
@@ -152,20 +142,18 @@ static const struct node *first_leader(const belfry_ticket *t, const struct node
     return n;
 }
 
-/* From which start on the followers of the first leader lie past the ticket's place: 0, which is
-   all of them, unless that leader is the place's own. */
+/* Returns the start from which on the followers of the first leader lie past the ticket's place. It
+ * is 0, which takes all of them, unless that leader is the place's own. */
 static uint64_t first_start(const belfry_ticket *t, const struct node *leader,
-                            const struct node *end)
-{
+                            const struct node *end) {
     if (!t->placed || leader == end || leader->document != t->document || leader->start != t->first)
         return 0;
     return (uint64_t)t->second + 1;
 }
 
-/* The first node of a row that starts there or later. */
+/* Returns the first node of a row that starts there or later. */
 static inline const struct node *from_start(const struct node *n, const struct node *end,
-                                            uint64_t start)
-{
+                                            uint64_t start) {
     if (start > 0)
         while (n < end && n->start < start)
             n++;
@@ -174,8 +162,7 @@ static inline const struct node *from_start(const struct node *n, const struct n
 
 /* Writes one pair. */
 static inline void put_pair(struct pair *out, uint32_t order, const struct node *leader,
-                            const struct node *follower)
-{
+                            const struct node *follower) {
     out->ancestor = order == BELFRY_ANCESTOR_ORDER ? *leader : *follower;
     out->descendant = order == BELFRY_ANCESTOR_ORDER ? *follower : *leader;
 }
@@ -183,8 +170,7 @@ static inline void put_pair(struct pair *out, uint32_t order, const struct node 
 /* Writes the pairs of a leader with `count` followers. The leader is held in a copy, which C can
    keep in a register: the output might overlap the list for all it knows. */
 static inline void put_pairs(struct pair *out, uint32_t order, const struct node *leader,
-                             const struct node *row, size_t count)
-{
+                             const struct node *row, size_t count) {
     const struct node held = *leader;
     for (size_t i = 0; i < count; i++)
         if (order == BELFRY_ANCESTOR_ORDER) {
@@ -200,8 +186,7 @@ static inline void put_pairs(struct pair *out, uint32_t order, const struct node
    Many rows are of one pair, so the first is written by itself; the others are counted, and then
    copied with no test between them. */
 static inline int put_row(struct writing *w, uint32_t order, const struct node *leader,
-                          const struct node *row, const struct node *row_end)
-{
+                          const struct node *row, const struct node *row_end) {
     struct pair *out = w->out;
     if (row == row_end)
         return 1;
@@ -219,8 +204,7 @@ static inline int put_row(struct writing *w, uint32_t order, const struct node *
 
 /* Puts the ancestors onto the stack that start before the descendant and are open at it. All that
    lie there are open at it too, so none is taken off. */
-static inline struct node *open_before(struct node *top, struct lists *l, const struct node *d)
-{
+static inline struct node *open_before(struct node *top, struct lists *l, const struct node *d) {
     for (; l->ancestor < l->ancestors_end; l->ancestor++) {
         const struct node *a = l->ancestor;
         if (a->document == d->document) {
@@ -236,8 +220,7 @@ static inline struct node *open_before(struct node *top, struct lists *l, const 
 
 /* Pairs each descendant with the ancestors open at it. Those that have ended are taken off first.
    Directly inside it can only lie in the innermost. */
-static int sweep_descendants(struct lists l, const belfry_ticket *ticket, struct writing *w)
-{
+static int sweep_descendants(struct lists l, const belfry_ticket *ticket, struct writing *w) {
     struct node stack[STACK_NODES], *top = stack;
     const struct node *d = first_leader(ticket, l.descendant, l.descendants_end);
     uint64_t start = first_start(ticket, d, l.descendants_end);
@@ -258,24 +241,21 @@ static int sweep_descendants(struct lists l, const belfry_ticket *ticket, struct
 /* How many descendants further on the search for the end of a run looks. */
 enum { STRIDE = 8 };
 
-/* Whether an ancestor that starts before a node is open at it. */
-static inline int is_open(const struct node *a, const struct node *n)
-{
+/* Tells whether an ancestor that starts before a node is open at it. */
+static inline int is_open(const struct node *a, const struct node *n) {
     return n->document == a->document && n->start <= a->end;
 }
 
-/* The same of a node that may be the list's end. */
-static inline int is_open_at(const struct node *a, const struct node *n, const struct node *end)
-{
+/* Tells the same of a node that may be the list's end. */
+static inline int is_open_at(const struct node *a, const struct node *n, const struct node *end) {
     return n < end && is_open(a, n);
 }
 
-/* Where the run of descendants ends that begins with one at which the ancestor is open. Most runs
-   are of one, so the next is tried first, then a guess and the descendant before it. After that the
-   run is followed by strides. */
+/* Returns where the run of descendants ends that begins with one at which the ancestor is open.
+ * Most runs are of one, so the next is tried first, then a guess and the descendant before it.
+ * After that the run is followed by strides. */
 static inline const struct node *end_of_run(const struct node *a, const struct node *d,
-                                            const struct node *d_end, const struct node *guess)
-{
+                                            const struct node *d_end, const struct node *guess) {
     if (!is_open_at(a, ++d, d_end))
         return d;
     if (guess - d > 1) {
@@ -293,14 +273,13 @@ static inline const struct node *end_of_run(const struct node *a, const struct n
     return d;
 }
 
-/* The descendant of a run to look at after one that isn't one level deeper. Where more than a
-   stride is left, and the next zone holds this one and the one after it, all that the zone holds
-   are passed: the rest of the run, the rest but one, or what strides reach. A zone that has ended,
-   or holds no more than this one, makes way for the zone after it. */
+/* Returns the descendant of a run to look at after one that isn't one level deeper. Where more than
+ * a stride is left, and the next zone holds this one and the one after it, all that the zone holds
+ * are passed. That is the rest of the run, the rest but one, or what strides reach. A zone that has
+ * ended, or holds no more than this one, makes way for the zone after it. */
 static inline const struct node *past_inner(const struct node **next_zone,
                                             const struct node *zones_end, const struct node *d,
-                                            const struct node *run_end)
-{
+                                            const struct node *run_end) {
     const struct node *zone = *next_zone;
     if (run_end - d <= STRIDE || zone == zones_end || !is_before(zone, d))
         return d + 1;
@@ -319,8 +298,7 @@ static inline const struct node *past_inner(const struct node **next_zone,
 /* Writes the pairs of an ancestor with those of its run that are one level deeper, as many as fit.
    It says whether all did. */
 static inline int put_children(struct writing *w, const struct node *a, const struct node *a_end,
-                               const struct node *d, const struct node *run_end)
-{
+                               const struct node *d, const struct node *run_end) {
     const struct node *next_zone = a + 1;
     uint32_t level = a->level + 1;
     while (d < run_end) {
@@ -337,8 +315,7 @@ static inline int put_children(struct writing *w, const struct node *a, const st
 
 /* Pairs each ancestor with the run of descendants that start in it. Where a run begins only moves
    on; where it ends is the guess for the next. */
-static int sweep_ancestors(struct lists l, const belfry_ticket *ticket, struct writing *w)
-{
+static int sweep_ancestors(struct lists l, const belfry_ticket *ticket, struct writing *w) {
     const struct node *a = first_leader(ticket, l.ancestor, l.ancestors_end), *d = l.descendant;
     const struct node *d_end = l.descendants_end, *guess = d;
     uint64_t start = first_start(ticket, a, l.ancestors_end);
@@ -367,11 +344,11 @@ struct kin {
     uint32_t parent, elder;
 };
 
-/* The kin of a node. The way up from the node before, along the parents already written, leads to
-   the parent; the last node passed on it is the elder sibling. The document is tested once. */
+/* Returns the kin of a node. The way up from the node before, along the parents already written,
+ * leads to the parent; the last node passed on it is the elder sibling. The document is tested
+ * once. */
 static inline struct kin kin_of(const struct node *nodes, uint32_t i,
-                                uint32_t (*links)[BELFRY_LINK_WORDS])
-{
+                                uint32_t (*links)[BELFRY_LINK_WORDS]) {
     uint32_t parent = i - 1, elder = BELFRY_NONE;
     if (i == 0 || nodes[parent].document != nodes[i].document)
         return (struct kin){BELFRY_NONE, BELFRY_NONE};
@@ -384,8 +361,8 @@ static inline struct kin kin_of(const struct node *nodes, uint32_t i,
     return (struct kin){BELFRY_NONE, elder};
 }
 
-static void link_nodes(const struct node *nodes, size_t count, uint32_t (*links)[BELFRY_LINK_WORDS])
-{
+static void link_nodes(const struct node *nodes, size_t count,
+                       uint32_t (*links)[BELFRY_LINK_WORDS]) {
     for (uint32_t i = 0; i < count; i++) {
         struct kin kin = kin_of(nodes, i, links);
         links[i][0] = kin.parent;

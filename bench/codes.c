@@ -9,8 +9,10 @@ TWIN_CALLS(twin_gcc_fused)
 TWIN_CALLS(twin_gcc_best)
 
 #define CODE(name, prefix) \
-    {name,            prefix##_check,  prefix##_check_two,  prefix##_list, \
-     prefix##_links,  prefix##_number, prefix##_book_check, prefix##_book_body}
+    { \
+        name, prefix##_check, prefix##_check_two, prefix##_list, prefix##_links, prefix##_number, \
+            prefix##_book_check, prefix##_book_body \
+    }
 
 const struct code codes[CODES] = {
 #ifndef WITHOUT_ARCHIVE
@@ -24,8 +26,7 @@ const struct code codes[CODES] = {
     CODE("gcc-best", twin_gcc_best),
 };
 
-const struct code *code_named(const char *name)
-{
+const struct code *code_named(const char *name) {
     for (size_t i = 0; i < CODES; i++)
         if (strcmp(codes[i].name, name) == 0)
             return &codes[i];

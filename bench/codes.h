@@ -29,7 +29,7 @@ struct code {
 
 extern const struct code codes[CODES];
 
-/* The code of a name, or NULL. */
+/* Returns the code of a name, or NULL. */
 const struct code *code_named(const char *name);
 
 #endif

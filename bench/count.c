@@ -25,26 +25,23 @@ int qemu_plugin_version = 1;
 
 static uint64_t executed;
 
-/* Each instruction adds one whenever it is executed. Counting whole blocks would be faster and
-   wrong: QEMU puts an instruction that crosses a page off to the next block, and tells the plugin
-   of it in both. */
-static void count_block(plugin_id id, struct qemu_plugin_tb *block)
-{
+/* Lets each instruction add one whenever it is executed. Counting whole blocks would be faster and
+ * wrong: QEMU puts an instruction that crosses a page off to the next block, and tells the plugin
+ * of it in both. */
+static void count_block(plugin_id id, struct qemu_plugin_tb *block) {
     (void)id;
     for (size_t i = 0; i < qemu_plugin_tb_n_insns(block); i++)
         qemu_plugin_register_vcpu_insn_exec_inline(qemu_plugin_tb_get_insn(block, i), ADD_NUMBER,
                                                    &executed, 1);
 }
 
-static void write_count(plugin_id id, void *data)
-{
+static void write_count(plugin_id id, void *data) {
     (void)id;
     (void)data;
     fprintf(stderr, "%llu\n", (unsigned long long)executed);
 }
 
-int qemu_plugin_install(plugin_id id, const void *info, int argc, char **argv)
-{
+int qemu_plugin_install(plugin_id id, const void *info, int argc, char **argv) {
     (void)info;
     (void)argc;
     (void)argv;

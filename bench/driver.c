@@ -20,16 +20,14 @@
 
 static struct measure measure;
 
-static void prepare(const char *name, const char *shape_name, const char *nodes)
-{
+static void prepare(const char *name, const char *shape_name, const char *nodes) {
     size_t count = strtoul(nodes, NULL, 10);
     if (count < 2 || count > BELFRY_MOST_NODES ||
         !prepare_measure(&measure, name, shape_name, count))
         fail("no such measure, shape or number of nodes");
 }
 
-static void count(const char *code_name, const char *times)
-{
+static void count(const char *code_name, const char *times) {
     const struct code *code = code_named(code_name);
     if (!code)
         fail("no such code");
@@ -37,8 +35,7 @@ static void count(const char *code_name, const char *times)
         run_measure(&measure, code);
 }
 
-static void time_codes(void)
-{
+static void time_codes(void) {
     static double times[CODES][MOST_ROUNDS];
     size_t rounds = 0;
     for (double begun = now(); is_round_due(rounds, begun); rounds++)
@@ -51,14 +48,12 @@ static void time_codes(void)
         printf("%s %.0f\n", codes[i].name, median(times[i], rounds));
 }
 
-static size_t pairs_of(const char *listing, const char *shape_name, const char *nodes)
-{
+static size_t pairs_of(const char *listing, const char *shape_name, const char *nodes) {
     prepare(listing, shape_name, nodes);
     return run_measure(&measure, &codes[0]);
 }
 
-static void print_sizes(const char *shape_name, const char *nodes)
-{
+static void print_sizes(const char *shape_name, const char *nodes) {
     prepare("number", shape_name, nodes);
     size_t marks = shape.marks;
     size_t inside = pairs_of("inside-descendant-all", shape_name, nodes),
@@ -66,29 +61,25 @@ static void print_sizes(const char *shape_name, const char *nodes)
     printf("%zu %zu %zu %zu %zu\n", shape.zones, shape.samples, inside, directly, marks);
 }
 
-static void print_list(const uint32_t *list, size_t nodes)
-{
+static void print_list(const uint32_t *list, size_t nodes) {
     for (size_t i = 0; i < nodes; i++, list += BELFRY_NODE_WORDS)
         printf("%u %u %u %u\n", list[0], list[1], list[2], list[3]);
 }
 
-static void print_lists(const char *shape_name, const char *nodes)
-{
+static void print_lists(const char *shape_name, const char *nodes) {
     prepare("check", shape_name, nodes);
     print_list(shape.zone, shape.zones);
     printf("\n");
     print_list(shape.sample, shape.samples);
 }
 
-static void write_book(const char *shape_name, const char *nodes)
-{
+static void write_book(const char *shape_name, const char *nodes) {
     prepare("book", shape_name, nodes);
     if (fwrite(book, 1, book_bytes, stdout) != book_bytes)
         fail("the book can't be written");
 }
 
-int main(int argc, char **argv)
-{
+int main(int argc, char **argv) {
     if (argc == 7 && strcmp(argv[1], "count") == 0) {
         prepare(argv[3], argv[4], argv[5]);
         count(argv[2], argv[6]);

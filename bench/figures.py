@@ -22,22 +22,24 @@ EMPTY_BOOK = struct.pack("<7I", 2, 2, CONTENTS_BYTES, 0, 3, CONTENTS_BYTES, 0)
 
 
 def emulated(program, *words, options=()):
-    """The command that runs a built program for x86-64 from its folder, under the emulator where
-    that is needed, with options of it."""
+    """Returns the command that runs a built program for x86-64 from its folder, under the emulator
+    where that is needed, with options of it.
+    """
     return ([EMULATOR, *options] if EMULATOR else []) + [f"./{program}", *map(str, words)]
 
 
 def run(program, *words, text=True):
-    """What a program for x86-64 prints."""
+    """Returns what a program for x86-64 prints."""
     return subprocess.run(emulated(program, *words), cwd=MADE, check=True, stdout=subprocess.PIPE,
                           text=text).stdout
 
 
 def run_counted(program, *words, given=b""):
-    """How many instructions a program for x86-64 executes from its start to its end, and what it
-    prints: as callgrind counts them where the machine is one, else as bench/count.c does under the
-    emulator. Its environment is empty and its path always the same, since both lie on its stack and
-    move what comes after them."""
+    """Returns how many instructions a program for x86-64 executes from its start to its end, and
+    what it prints. Callgrind counts them where the machine is one, and else bench/count.c under the
+    emulator. The environment is empty and the path always the same, since both lie on the stack and
+    move what comes after them.
+    """
     if EMULATOR:
         command, line = emulated(program, *words, options=("-plugin", "./count.so")), rb"^(\d+)$"
     else:
@@ -57,13 +59,16 @@ def counted(program, *words):
 
 @lru_cache(maxsize=None)
 def printing_nothing():
-    """The instructions of the printing program on a book of two empty lists: those of starting and
-    ending a process and of clearing the program's buffers."""
+    """Returns the instructions of the printing program on a book of two empty lists: those of
+    starting and ending a process and of clearing the program's buffers.
+    """
     return run_counted("belfry", given=EMPTY_BOOK)[0]
 
 
 def printing(shape, nodes):
-    """The instructions of the printing program, from its start to its end, on a shape's book."""
+    """Returns the instructions of the printing program, from its start to its end, on a shape's
+    book.
+    """
     taken, printed = run_counted("belfry", given=run("driver", "book", shape, nodes, text=False))
     if not printed.endswith(b"\npairs %d\n" % sizes(shape, nodes)["inside"]):
         raise SystemExit(f"the program printed something else of {shape}: {printed[-40:]}")
@@ -72,8 +77,9 @@ def printing(shape, nodes):
 
 @lru_cache(maxsize=None)
 def instructions(code, measure, shape, nodes=MOST_NODES):
-    """The instructions of a measure: of a run that makes it once, less those of a run that makes it
-    not at all."""
+    """Returns the instructions of a measure: those of a run that makes it once, less those of a run
+    that doesn't make it.
+    """
     if measure == "print":
         return printing(shape, min(int(nodes), PRINTED_NODES))
     once, never = (counted("driver", "count", code, measure, shape, nodes, made) for made in (1, 0))
@@ -82,7 +88,7 @@ def instructions(code, measure, shape, nodes=MOST_NODES):
 
 @lru_cache(maxsize=None)
 def sizes(shape, nodes=MOST_NODES):
-    """The shape's sizes by what they count."""
+    """Returns the shape's sizes by what they count."""
     counts = map(int, run("driver", "sizes", shape, nodes).split())
     return dict(zip(("zones", "samples", "inside", "directly", "marks"), counts))
 
@@ -92,7 +98,7 @@ def unit_of(measure):
 
 
 def units(measure, shape, nodes=MOST_NODES):
-    """How many nodes, marks or pairs the measure's cost is shared by."""
+    """Returns how many nodes, marks or pairs the measure's cost is shared by."""
     if measure == "print":
         return sizes(shape, min(int(nodes), PRINTED_NODES))["inside"]
     size = sizes(shape, nodes)

@@ -7,12 +7,13 @@ MOST_ROUNDS, LEAST_ROUNDS, ENOUGH_NANOSECONDS = 201, 3, 10 ** 9
 
 
 def all_pairs(zones, samples):
-    """Every zone tested against every sample, in descendant order."""
+    """Tests every zone against every sample. Returns the pairs in descendant order."""
     return [(z, s) for s in samples for z in zones if z[0] == s[0] and z[1] < s[1] and s[2] < z[2]]
 
 
 def sweep_samples(zones, samples):
-    """Each sample with the zones that are open at it, in descendant order."""
+    """Pairs each sample with the zones that are open at it. Returns the pairs in descendant order.
+    """
     pairs, open_zones, i = [], [], 0
     for s in samples:
         while i < len(zones) and zones[i][:2] < s[:2]:
@@ -31,7 +32,9 @@ def leave(open_zones, node):
 
 
 def sweep_zones(zones, samples):
-    """Each zone with the run of samples that start in it, in ancestor order."""
+    """Pairs each zone with the run of samples that start in it. Returns the pairs in ancestor
+    order.
+    """
     pairs, first = [], 0
     for z in zones:
         document, start, end, _ = z
@@ -48,8 +51,9 @@ BY_ORDER = {"descendant": (sweep_samples, all_pairs), "ancestor": (sweep_zones,)
 
 
 def timed(join, zones, samples, pairs):
-    """The median processor time in nanoseconds of a join that has to find as many pairs as `pairs`
-    says: of a few rounds at least, and of more until a second has passed."""
+    """Returns the median processor time in nanoseconds of a join that has to find `pairs` pairs. It
+    takes a few rounds at least, and more until a second has passed.
+    """
     times = []
     while (len(times) < LEAST_ROUNDS
            or (len(times) < MOST_ROUNDS and sum(times) < ENOUGH_NANOSECONDS)):

@@ -3,29 +3,30 @@
 #include <stdlib.h>
 #include <string.h>
 
-enum { BOOK_LISTS = 2, OUT_WORDS = MOST_PAIRS * BELFRY_PAIR_WORDS };
+enum {
+    BOOK_LISTS = 2,
+    BOOK_NODES = BOOK_LISTS * BELFRY_MOST_NODES,
+    OUT_WORDS = MOST_PAIRS * BELFRY_PAIR_WORDS,
+};
 
 struct shape shape;
 static uint32_t out[OUT_WORDS];
-uint8_t book[BELFRY_BOOK_BYTES(BOOK_LISTS, BOOK_LISTS * BELFRY_MOST_NODES)];
+uint8_t book[BELFRY_BOOK_BYTES(BOOK_LISTS, BOOK_NODES)];
 size_t book_bytes;
 
-void fail(const char *why)
-{
+void fail(const char *why) {
     fprintf(stderr, "%s\n", why);
     exit(2);
 }
 
 /* Puts numbers after the book's last, as they lie in memory: x86-64 keeps them as a book does. */
-static void put_numbers(const uint32_t *numbers, size_t count)
-{
+static void put_numbers(const uint32_t *numbers, size_t count) {
     memcpy(book + book_bytes, numbers, count * sizeof numbers[0]);
     book_bytes += count * sizeof numbers[0];
 }
 
-/* The book of the shape's two lists. */
-static void build_book(void)
-{
+/* Builds the book of the shape's two lists. */
+static void build_book(void) {
     uint32_t zones_at = BELFRY_BOOK_BYTES(BOOK_LISTS, 0);
     uint32_t samples_at = BELFRY_BOOK_BYTES(BOOK_LISTS, shape.zones);
     uint32_t contents[] = {
@@ -37,8 +38,7 @@ static void build_book(void)
     put_numbers(shape.sample, BELFRY_NODE_WORDS * shape.samples);
 }
 
-static int prepare_listing(struct measure *measure, const char *name)
-{
+static int prepare_listing(struct measure *measure, const char *name) {
     char relation[16], order[16], room[16];
     if (sscanf(name, "%15[^-]-%15[^-]-%15s", relation, order, room) != 3)
         return 0;
@@ -49,8 +49,8 @@ static int prepare_listing(struct measure *measure, const char *name)
     return 0 < measure->room && measure->room <= MOST_PAIRS;
 }
 
-int prepare_measure(struct measure *measure, const char *name, const char *shape_name, size_t nodes)
-{
+int prepare_measure(struct measure *measure, const char *name, const char *shape_name,
+                    size_t nodes) {
     static const char *const names[] = {
         [CHECK] = "check", [LINKS] = "links", [NUMBER] = "number", [BOOK] = "book"};
     int named = 0;
@@ -69,9 +69,8 @@ int prepare_measure(struct measure *measure, const char *name, const char *shape
     return 1;
 }
 
-/* All pages of a listing. */
-static size_t list_all(const struct measure *measure, const struct code *code)
-{
+/* Fetches all pages of a listing, and returns how many pairs they have. */
+static size_t list_all(const struct measure *measure, const struct code *code) {
     belfry_ticket ticket = measure->ticket;
     size_t pairs = 0;
     for (;;) {
@@ -87,40 +86,34 @@ static size_t list_all(const struct measure *measure, const struct code *code)
     }
 }
 
-static size_t taken(uint32_t answer, size_t count)
-{
+static size_t taken(uint32_t answer, size_t count) {
     if (answer != 0)
         fail("a call was refused");
     return count;
 }
 
-static size_t check_two(const struct code *code)
-{
+static size_t check_two(const struct code *code) {
     belfry_verdict verdict = code->check_two(shape.zone, BELFRY_NODE_WORDS * shape.zones,
                                              shape.sample, BELFRY_NODE_WORDS * shape.samples);
     return taken(verdict.answer, shape.zones + shape.samples);
 }
 
-static size_t link_zones(const struct code *code)
-{
+static size_t link_zones(const struct code *code) {
     belfry_result result = code->links(shape.zone, BELFRY_NODE_WORDS * shape.zones, out, OUT_WORDS);
     return taken(result.verdict.answer, result.count);
 }
 
-static size_t number_marks(const struct code *code)
-{
+static size_t number_marks(const struct code *code) {
     belfry_result result = code->number(1, shape.mark, shape.marks, out, OUT_WORDS);
     return taken(result.verdict.answer, result.count);
 }
 
-static size_t check_book(const struct code *code)
-{
+static size_t check_book(const struct code *code) {
     belfry_book opened = code->book_check(book, book_bytes);
     return taken(opened.verdict.answer, opened.lists);
 }
 
-size_t run_measure(const struct measure *measure, const struct code *code)
-{
+size_t run_measure(const struct measure *measure, const struct code *code) {
     switch (measure->kind) {
     case CHECK:
         return check_two(code);

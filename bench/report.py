@@ -50,12 +50,12 @@ def progress(what):
 
 
 def say(text):
-    """A paragraph."""
+    """Prints a paragraph."""
     print("\n" + textwrap.fill(text, WIDTH, break_on_hyphens=False))
 
 
 def item(text):
-    """An item of a list."""
+    """Prints an item of a list."""
     print(textwrap.fill(text, WIDTH, initial_indent="- ", subsequent_indent="  ",
                         break_on_hyphens=False))
 
@@ -67,7 +67,7 @@ def table(head, rows):
 
 
 def said_by(*command):
-    """The first line that a command prints."""
+    """Returns the first line that a command prints."""
     return subprocess.run(command, capture_output=True, text=True).stdout.splitlines()[0]
 
 
@@ -79,8 +79,9 @@ def processor():
 
 @lru_cache(maxsize=None)
 def times(measure, shape):
-    """The median nanoseconds of each code, all from one run in which they take turns; none where
-    the machine isn't an x86-64."""
+    """Returns the median nanoseconds of each code, all from one run in which they take turns. There
+    are none where the machine isn't an x86-64.
+    """
     if EMULATOR:
         return {}
     lines = run("driver", "time", measure, shape, MOST_NODES).splitlines()
@@ -95,12 +96,14 @@ def cell(code, measure, shape):
 
 
 def has_many(pairs, nodes):
-    """Whether there are enough pairs for a figure of one to say something."""
+    """Tells whether there are enough pairs for a figure of one to say something."""
     return 3 * pairs >= nodes
 
 
 def shared(measure, shape):
-    """The archive's instructions for a node, mark or pair; nothing where there are few pairs."""
+    """Returns the archive's instructions for a node, mark or pair, or nothing where there are few
+    pairs.
+    """
     count = units(measure, shape)
     if "-" in measure and not has_many(count, units("check", shape)):
         return ""
@@ -108,8 +111,9 @@ def shared(measure, shape):
 
 
 def measured(title, measure, unit, shapes=ALL_SHAPES):
-    """A table of a measure: a row for each shape, a column for each code, and what the archive's
-    figure comes to for a unit."""
+    """Prints a table of a measure: a row for each shape, a column for each code, and what the
+    archive's figure comes to for a unit.
+    """
     progress(title)
     print(f"\n### {title}")
     table(("shape", *CODES, f"archive, {unit}"),
@@ -120,7 +124,7 @@ def measured(title, measure, unit, shapes=ALL_SHAPES):
 # What is printed before the figures.
 
 def described(path):
-    """How long a file is, and which."""
+    """Returns how long a file is, and its sum."""
     content = Path(path).read_bytes()
     return f"{len(content):,} bytes, SHA-256 {hashlib.sha256(content).hexdigest()[:16]}"
 
@@ -201,7 +205,9 @@ def print_shapes():
 
 @lru_cache(maxsize=None)
 def stacks():
-    """The most bytes of stack that each call took, by the call's name: a number for each code."""
+    """Returns the most bytes of stack that each call took, by the call's name: a number for each
+    code.
+    """
     rows = [line.split(";") for line in run("stack").splitlines()]
     return {name: [int(number) for number in taken] for name, *taken in rows}
 
@@ -211,7 +217,7 @@ def verdict(holds):
 
 
 def worst(measure, shapes):
-    """What the archive takes most for a unit on one of the shapes, and on which."""
+    """Returns what the archive takes most for a unit on one of the shapes, and on which."""
     return max((instructions("archive", measure, shape) / units(measure, shape), shape)
                for shape in shapes)
 
@@ -235,7 +241,7 @@ def print_simple_bars():
 
 
 def ratio(code, listing, shape):
-    """The archive's whole call to a twin's, in instructions."""
+    """Returns the archive's whole call to a twin's, in instructions."""
     measure = f"{listing}-all"
     return instructions("archive", measure, shape) / instructions(code, measure, shape)
 
@@ -247,7 +253,7 @@ def ratio_cell(code, listing, shape):
 
 
 def holds_beside(code, listing, shape):
-    """Whether the bar beside a twin holds, if there is one."""
+    """Tells whether the bar beside a twin holds, if there is one."""
     most = MOST_RATIOS.get(code)
     if listing == SHARP_LISTING and shape in SHARP_SHAPES and code.endswith("three"):
         most = MOST_SHARP
@@ -281,13 +287,13 @@ def print_bars():
 
 
 def bounds(ratios):
-    """The least and the greatest of ratios, to two places or two digits."""
+    """Returns the least and the greatest of ratios, to two places or two digits."""
     return tuple(f"{bound:.2f}" if bound >= 0.1 else f"{bound:.2g}"
                  for bound in (min(ratios), max(ratios)))
 
 
 def bounds_row(name, ratio_of, kinds):
-    """The bounds over the first shapes and over the others, of all kinds of listing."""
+    """Returns the bounds over the first shapes and over the others, of all kinds of listing."""
     found = [bounds([ratio_of(kind, shape) for kind in kinds for shape in shapes])
              for shapes in (SHAPES, OTHER_SHAPES)]
     return name, *found[0], *found[1]
@@ -298,7 +304,7 @@ def sqlite_ratio(order, shape):
 
 
 def print_ratios():
-    """The table that README shows besides one of the whole calls."""
+    """Prints the table that README shows after that of the whole calls."""
     progress("ratios")
     print("\n### The archive's whole call to the others'")
     say("The least and the greatest ratio of instructions over all listings, four on each shape. "
@@ -402,14 +408,14 @@ def print_stack():
 # The same join elsewhere.
 
 def lists_of(shape):
-    """The two lists as Python's tuples."""
+    """Returns the two lists as Python's tuples."""
     zones, samples = run("driver", "lists", shape, MOST_NODES).split("\n\n")
     return [[tuple(map(int, line.split())) for line in nodes.splitlines()]
             for nodes in (zones, samples)]
 
 
 def here(program, *words):
-    """What a program for this machine's own processor prints."""
+    """Returns what a program for this machine's own processor prints."""
     command = [f"{MADE}/{program}-here", *map(str, words)]
     return subprocess.run(command, check=True, stdout=subprocess.PIPE, text=True).stdout
 
@@ -428,7 +434,7 @@ def sqlite_instructions(order, shape):
 
 
 def times_here(order, shape):
-    """The row of a shape in the table of times."""
+    """Returns the row of a shape in the table of times."""
     progress(f"SQLite and Python, {order} order, {shape}")
     lines = here("driver", "time", f"inside-{order}-all", shape, MOST_NODES).splitlines()
     codes = dict(map(str.split, lines))

@@ -13,14 +13,12 @@ struct building {
     uint32_t *ends[BELFRY_MOST_LEVELS];
 };
 
-static void put_mark(struct building *b, uint32_t mark)
-{
+static void put_mark(struct building *b, uint32_t mark) {
     b->shape->mark[b->shape->marks++] = mark;
     b->position++;
 }
 
-static void open_element(struct building *b, uint32_t *node, uint32_t tag)
-{
+static void open_element(struct building *b, uint32_t *node, uint32_t tag) {
     node[0] = b->document;
     node[1] = b->position;
     node[3] = ++b->depth;
@@ -28,53 +26,45 @@ static void open_element(struct building *b, uint32_t *node, uint32_t tag)
     put_mark(b, tag);
 }
 
-static void close_element(struct building *b)
-{
+static void close_element(struct building *b) {
     *b->ends[--b->depth] = b->position;
     put_mark(b, BELFRY_CLOSE);
 }
 
-static void open_zone(struct building *b)
-{
+static void open_zone(struct building *b) {
     open_element(b, &b->shape->zone[BELFRY_NODE_WORDS * b->shape->zones++], ZONE_TAG);
 }
 
-static void open_sample(struct building *b)
-{
+static void open_sample(struct building *b) {
     open_element(b, &b->shape->sample[BELFRY_NODE_WORDS * b->shape->samples++], SAMPLE_TAG);
 }
 
-static void put_samples(struct building *b, size_t count)
-{
+static void put_samples(struct building *b, size_t count) {
     for (size_t i = 0; i < count; i++) {
         open_sample(b);
         close_element(b);
     }
 }
 
-static int has_room(const struct building *b, size_t zones, size_t samples)
-{
+static int has_room(const struct building *b, size_t zones, size_t samples) {
     return b->shape->zones + zones <= b->most && b->shape->samples + samples <= b->most;
 }
 
-static void put_zone_with_sample(struct building *b)
-{
+static void put_zone_with_sample(struct building *b) {
     open_zone(b);
     put_samples(b, 1);
     close_element(b);
 }
 
-/* Zones side by side, a sample in each. */
-static void build_flat(struct building *b)
-{
+/* Builds zones side by side, a sample in each. */
+static void build_flat(struct building *b) {
     while (has_room(b, 1, 1))
         put_zone_with_sample(b);
 }
 
 /* Nests of as many zones as there are levels but one, and as many samples in the innermost zone of
    each. */
-static void build_nests(struct building *b)
-{
+static void build_nests(struct building *b) {
     size_t deep = BELFRY_MOST_LEVELS - 1 - b->depth;
     while (has_room(b, deep, deep)) {
         for (size_t i = 0; i < deep; i++)
@@ -85,9 +75,8 @@ static void build_nests(struct building *b)
     }
 }
 
-/* Such nests with a sample before and a sample after each inner zone. */
-static void build_between(struct building *b)
-{
+/* Builds such nests with a sample before and a sample after each inner zone. */
+static void build_between(struct building *b) {
     size_t deep = BELFRY_MOST_LEVELS - 1 - b->depth;
     if (deep > b->most / 2)
         deep = b->most / 2;
@@ -103,15 +92,13 @@ static void build_between(struct building *b)
     }
 }
 
-uint32_t random_number(uint64_t *state)
-{
+uint32_t random_number(uint64_t *state) {
     *state = *state * 6364136223846793005 + 1442695040888963407;
     return *state >> 33;
 }
 
-/* A walk that opens a zone, opens a sample or closes what is open, at random. */
-static void build_random(struct building *b)
-{
+/* Builds a walk that opens a zone, opens a sample or closes what is open, at random. */
+static void build_random(struct building *b) {
     uint64_t state = 1;
     size_t lowest = b->depth, deepest = lowest + DEEPEST_RANDOM;
     while (has_room(b, 1, 1)) {
@@ -127,9 +114,8 @@ static void build_random(struct building *b)
         close_element(b);
 }
 
-/* Zones side by side, of which `holders` hold `samples` each. */
-static void build_some(struct building *b, size_t holders, size_t samples)
-{
+/* Builds zones side by side, of which `holders` hold `samples` each. */
+static void build_some(struct building *b, size_t holders, size_t samples) {
     size_t apart = b->most < holders ? 1 : b->most / holders;
     for (size_t i = 0; i < b->most; i++) {
         open_zone(b);
@@ -140,8 +126,7 @@ static void build_some(struct building *b, size_t holders, size_t samples)
 }
 
 /* Documents of a zone with a sample in it. Within a root there is one. */
-static void build_documents(struct building *b)
-{
+static void build_documents(struct building *b) {
     put_zone_with_sample(b);
     while (b->depth == 0 && has_room(b, 1, 1)) {
         b->document++;
@@ -150,9 +135,8 @@ static void build_documents(struct building *b)
     }
 }
 
-/* The random tree's zones, as samples too. */
-static void build_twice(struct building *b)
-{
+/* Builds the random tree's zones, as samples too. */
+static void build_twice(struct building *b) {
     struct shape *s = b->shape;
     build_random(b);
     memcpy(s->sample, s->zone, s->zones * BELFRY_NODE_WORDS * sizeof s->zone[0]);
@@ -160,8 +144,7 @@ static void build_twice(struct building *b)
 }
 
 /* Fields: zones that hold zones side by side, a sample in each. */
-static void build_fields(struct building *b)
-{
+static void build_fields(struct building *b) {
     size_t wide = b->most <= FIELD_ZONES ? b->most - 1 : FIELD_ZONES;
     while (has_room(b, wide + 1, wide)) {
         open_zone(b);
@@ -173,8 +156,7 @@ static void build_fields(struct building *b)
 
 /* Nests in each zone of which a small zone with a sample comes first and then the next zone of the
    nest; as many samples as the nest is deep come last in the innermost one. */
-static void build_side(struct building *b)
-{
+static void build_side(struct building *b) {
     size_t deep = BELFRY_MOST_LEVELS - 2 - b->depth;
     if (deep > b->most / 2)
         deep = b->most / 2;
@@ -189,13 +171,11 @@ static void build_side(struct building *b)
     }
 }
 
-static void build_eight_zones(struct building *b)
-{
+static void build_eight_zones(struct building *b) {
     build_some(b, 8, b->most / 8);
 }
 
-static void build_few_samples(struct building *b)
-{
+static void build_few_samples(struct building *b) {
     build_some(b, 16, 1);
 }
 
@@ -210,8 +190,7 @@ static void (*const builders[SHAPES])(struct building *b) = {
     build_few_samples, build_documents, build_twice,   build_fields, build_side,
 };
 
-static int build(struct building *b, const char *name)
-{
+static int build(struct building *b, const char *name) {
     for (size_t i = 0; i < SHAPES; i++)
         if (strcmp(shape_names[i], name) == 0) {
             builders[i](b);
@@ -220,15 +199,13 @@ static int build(struct building *b, const char *name)
     return 0;
 }
 
-int build_shape(struct shape *shape, const char *name, size_t nodes)
-{
+int build_shape(struct shape *shape, const char *name, size_t nodes) {
     struct building b = {.shape = shape, .most = nodes, .document = 1, .position = 1};
     shape->zones = shape->samples = shape->marks = 0;
     return build(&b, name);
 }
 
-int build_document(struct shape *shape, const char *name, size_t marks)
-{
+int build_document(struct shape *shape, const char *name, size_t marks) {
     struct building b = {.shape = shape, .most = marks / 4 - 1, .document = 1, .position = 1};
     uint32_t root[BELFRY_NODE_WORDS];
     shape->zones = shape->samples = shape->marks = 0;

@@ -22,29 +22,25 @@ static struct shape shape;
 static uint32_t out[MOST_PAIRS * BELFRY_PAIR_WORDS];
 static sqlite3 *database;
 
-static void need(int holds, const char *what)
-{
+static void need(int holds, const char *what) {
     if (holds)
         return;
     fprintf(stderr, "sqlite: %s: %s\n", what, database ? sqlite3_errmsg(database) : "");
     exit(2);
 }
 
-static sqlite3_stmt *prepared(const char *text)
-{
+static sqlite3_stmt *prepared(const char *text) {
     sqlite3_stmt *statement;
     need(sqlite3_prepare_v2(database, text, -1, &statement, NULL) == SQLITE_OK, text);
     return statement;
 }
 
-/* Document and position as one number, as the tables' keys are. */
-static sqlite3_int64 place_of(const uint32_t *node, size_t position)
-{
+/* Returns document and position as one number, as the tables' keys are. */
+static sqlite3_int64 place_of(const uint32_t *node, size_t position) {
     return (sqlite3_int64)node[0] << 32 | node[position];
 }
 
-static void fill(const char *table, const uint32_t *nodes, size_t count)
-{
+static void fill(const char *table, const uint32_t *nodes, size_t count) {
     char text[256];
     snprintf(text, sizeof text,
              "CREATE TABLE %s (first INTEGER PRIMARY KEY, last INT,"
@@ -65,10 +61,9 @@ static void fill(const char *table, const uint32_t *nodes, size_t count)
     sqlite3_finalize(insert);
 }
 
-/* The query for the listing inside in an order. That a sample starts before its zone ends follows
-   from how it ends; it lets the key end the search. */
-static sqlite3_stmt *query(const char *order, const char *before)
-{
+/* Returns the query for the listing inside in an order. That a sample starts before its zone ends
+ * follows from how it ends; it lets the key end the search. */
+static sqlite3_stmt *query(const char *order, const char *before) {
     char text[512];
     snprintf(text, sizeof text,
              "%s SELECT z.document, z.start, z.end, z.level, s.document, s.start, s.end, s.level"
@@ -78,8 +73,7 @@ static sqlite3_stmt *query(const char *order, const char *before)
     return prepared(text);
 }
 
-static size_t list_all(sqlite3_stmt *listing)
-{
+static size_t list_all(sqlite3_stmt *listing) {
     size_t pairs = 0;
     while (sqlite3_step(listing) == SQLITE_ROW) {
         need(pairs < MOST_PAIRS, "too many pairs");
@@ -91,8 +85,7 @@ static size_t list_all(sqlite3_stmt *listing)
     return pairs;
 }
 
-static void print_time(sqlite3_stmt *listing)
-{
+static void print_time(sqlite3_stmt *listing) {
     static double times[MOST_ROUNDS];
     size_t rounds = 0, pairs = 0;
     for (double begun = now(); is_round_due(rounds, begun); rounds++) {
@@ -103,15 +96,13 @@ static void print_time(sqlite3_stmt *listing)
     printf("%.0f %zu\n", median(times, rounds), pairs);
 }
 
-static void print_plan(const char *order)
-{
+static void print_plan(const char *order) {
     sqlite3_stmt *plan = query(order, "EXPLAIN QUERY PLAN");
     while (sqlite3_step(plan) == SQLITE_ROW)
         printf("%s\n", (const char *)sqlite3_column_text(plan, 3));
 }
 
-int main(int argc, char **argv)
-{
+int main(int argc, char **argv) {
     need(argc >= 5 && build_shape(&shape, argv[3], strtoul(argv[4], NULL, 10)),
          "usage: sqlite count|time|plan ORDER SHAPE NODES [TIMES]");
     need(sqlite3_open(":memory:", &database) == SQLITE_OK, "open");

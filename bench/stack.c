@@ -17,90 +17,75 @@ static size_t zone_words, sample_words, table_words, book_bytes;
 static uint32_t table[BELFRY_ROW_WORDS * BELFRY_MOST_NODES], entry[2],
     book[4 + BELFRY_NODE_WORDS * BELFRY_MOST_NODES], out[OUT_WORDS];
 
-static void call_nothing(const struct code *code)
-{
+static void call_nothing(const struct code *code) {
     (void)code;
 }
 
-static void call_check(const struct code *code)
-{
+static void call_check(const struct code *code) {
     code->check(lists.zone, zone_words);
 }
 
-static void call_check_two(const struct code *code)
-{
+static void call_check_two(const struct code *code) {
     code->check_two(lists.zone, zone_words, lists.sample, sample_words);
 }
 
-static void call_faulty(const struct code *code)
-{
+static void call_faulty(const struct code *code) {
     (void)code;
     belfry_part part = belfry_faulty(lists.zone, zone_words, lists.sample, sample_words);
     (void)part;
 }
 
-static void call_list(const struct code *code, uint32_t relation, uint32_t order)
-{
+static void call_list(const struct code *code, uint32_t relation, uint32_t order) {
     belfry_ticket ticket = BELFRY_TICKET(relation, order);
     code->list(lists.zone, zone_words, lists.sample, sample_words, ticket, out, OUT_WORDS);
 }
 
-static void call_list_descendant(const struct code *code)
-{
+static void call_list_descendant(const struct code *code) {
     call_list(code, 0, 0);
     call_list(code, 1, 0);
 }
 
-static void call_list_ancestor(const struct code *code)
-{
+static void call_list_ancestor(const struct code *code) {
     call_list(code, 0, 1);
     call_list(code, 1, 1);
 }
 
-static void call_number(const struct code *code)
-{
+static void call_number(const struct code *code) {
     code->number(1, document.mark, document.marks, out, OUT_WORDS);
 }
 
-static void call_unnumber(const struct code *code)
-{
+static void call_unnumber(const struct code *code) {
     (void)code;
     belfry_unnumbered marks = belfry_unnumber(table, table_words, out, OUT_WORDS);
     (void)marks;
 }
 
-static void call_pick(const struct code *code)
-{
+static void call_pick(const struct code *code) {
     (void)code;
     belfry_result nodes = belfry_pick(table, table_words, ZONE_TAG, out, OUT_WORDS);
     (void)nodes;
 }
 
-static void call_links(const struct code *code)
-{
+static void call_links(const struct code *code) {
     code->links(lists.zone, zone_words, out, OUT_WORDS);
 }
 
-static void call_book_check(const struct code *code)
-{
+static void call_book_check(const struct code *code) {
     code->book_check((const uint8_t *)book, book_bytes);
 }
 
-static void call_book_body(const struct code *code)
-{
+static void call_book_body(const struct code *code) {
     code->book_body((const uint8_t *)book, book_bytes, entry[0]);
 }
 
-static void call_book_write(const struct code *code)
-{
+static void call_book_write(const struct code *code) {
     (void)code;
-    belfry_result written = belfry_book_write(entry, 2, lists.zone, zone_words, (uint8_t *)out,
-                                              sizeof out);
+    belfry_result written =
+        belfry_book_write(entry, 2, lists.zone, zone_words, (uint8_t *)out, sizeof out);
     (void)written;
 }
 
-static void call_name(const struct code *code)
-{
+static void call_name(const struct code *code) {
     (void)code;
     belfry_name(1, (uint8_t *)out);
 }
@@ -130,15 +115,13 @@ static unsigned char area[AREA_BYTES];
 static void (*made)(const struct code *code);
 static const struct code *made_by;
 
-static void make_call(void)
-{
+static void make_call(void) {
     made(made_by);
 }
 
-/* The bytes that a call leaves without paint. */
+/* Counts the bytes that a call leaves without paint. */
 static size_t unpainted(void (*make)(const struct code *code), const struct code *code,
-                        unsigned char paint)
-{
+                        unsigned char paint) {
     size_t left = 0;
     memset(area, paint, sizeof area);
     made = make;
@@ -154,10 +137,9 @@ static size_t unpainted(void (*make)(const struct code *code), const struct code
     return sizeof area - left;
 }
 
-/* The stack of a call, in whole words of it. A byte that happens to be written in the paint's
-   colour has another colour the second time. */
-static size_t stack_of(void (*make)(const struct code *code), const struct code *code)
-{
+/* Returns the stack of a call, in whole words of it. A byte that happens to be written in the
+ * paint's colour has another colour the second time. */
+static size_t stack_of(void (*make)(const struct code *code), const struct code *code) {
     static const unsigned char paints[PAINTS] = {0xa5, 0x5a};
     size_t most = 0;
     for (size_t i = 0; i < PAINTS; i++) {
@@ -168,8 +150,7 @@ static size_t stack_of(void (*make)(const struct code *code), const struct code 
     return (most + WORD_BYTES - 1) / WORD_BYTES * WORD_BYTES;
 }
 
-static void prepare(const char *shape_name)
-{
+static void prepare(const char *shape_name) {
     build_shape(&lists, shape_name, BELFRY_MOST_NODES);
     build_document(&document, shape_name, BELFRY_MOST_NODES);
     zone_words = BELFRY_NODE_WORDS * lists.zones;
@@ -185,16 +166,14 @@ static void prepare(const char *shape_name)
     book_bytes = sizeof contents + zone_words * sizeof lists.zone[0];
 }
 
-/* The last node of each list, and of the book, gets a level that is too high. */
-static void damage(void)
-{
+/* Gives the last node of each list, and of the book, a level that is too high. */
+static void damage(void) {
     lists.zone[zone_words - 1] = BELFRY_MOST_LEVELS + 1;
     lists.sample[sample_words - 1] = BELFRY_MOST_LEVELS + 1;
     book[book_bytes / 4 - 1] = BELFRY_MOST_LEVELS + 1;
 }
 
-int main(void)
-{
+int main(void) {
     static size_t most[CALLS][CODES];
     for (size_t round = 0; round < 2 * SHAPES; round++) {
         prepare(shape_names[round / 2]);

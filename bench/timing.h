@@ -6,14 +6,14 @@
 
 enum { MOST_ROUNDS = 201, LEAST_ROUNDS = 5 };
 
-/* The nanoseconds that the program has run. */
+/* Returns the nanoseconds that the program has run. */
 double now(void);
 
-/* Whether there should be another after `rounds` rounds since a moment: there are a few at least,
-   and more until a second has passed. */
+/* Tells whether there should be another after `rounds` rounds since a moment. There are a few at
+ * least, and more until a second has passed. */
 int is_round_due(size_t rounds, double begun);
 
-/* The median of times, which it puts in order. */
+/* Returns the median of times, which it puts in order. */
 double median(double *times, size_t count);
 
 #endif

@@ -3,17 +3,15 @@
    passes only say what is wrong. */
 #include "twin.h"
 
-static belfry_verdict check_one(const uint32_t *list, size_t words)
-{
+static belfry_verdict check_one(const uint32_t *list, size_t words) {
     return check_list(list, words);
 }
 
 #if FUSED
-/* Whether nothing is wrong with two lists, alone and together: one pass. The loops are those of
-   are_agreeing, written out: shared, they take both compilers three or four instructions a node
-   more. */
-static int are_taken(struct lists l)
-{
+/* Tells whether nothing is wrong with two lists, alone and together: one pass. The loops are those
+ * of are_agreeing, written out: shared, they take both compilers three or four instructions a node
+ * more. */
+static int are_taken(struct lists l) {
     struct node stack[STACK_NODES], *top = stack;
     *top = EVERYTHING;
     while (l.ancestor < l.ancestors_end && l.descendant < l.descendants_end) {
@@ -32,8 +30,7 @@ static int are_taken(struct lists l)
 #endif
 
 static belfry_verdict check_both(const uint32_t *ancestors, size_t ancestor_words,
-                                 const uint32_t *descendants, size_t descendant_words)
-{
+                                 const uint32_t *descendants, size_t descendant_words) {
 #if FUSED
     if (word_fault(ancestor_words) == BELFRY_TAKEN &&
         word_fault(descendant_words) == BELFRY_TAKEN &&
@@ -45,8 +42,7 @@ static belfry_verdict check_both(const uint32_t *ancestors, size_t ancestor_word
 
 /* Writes the pairs of ancestors with one descendant, as many as fit. It says whether all did. */
 static inline int pair_ancestors(struct writing *w, const struct node *ancestors, size_t count,
-                                 const struct node *descendant)
-{
+                                 const struct node *descendant) {
     const struct node d = *descendant;
     struct pair *out = w->out;
     size_t room = w->end - out, fitting = count < room ? count : room;
@@ -61,8 +57,7 @@ static inline int pair_ancestors(struct writing *w, const struct node *ancestors
 /* Writes the pairs of an ancestor with the descendants that start in it, or with those of them only
    that are one level deeper, as many as fit. It says whether all did. */
 static inline int pair_run(struct writing *w, const struct node *a, const struct node *d,
-                           const struct node *d_end, int directly)
-{
+                           const struct node *d_end, int directly) {
     uint32_t document = a->document, end = a->end, level = a->level + 1;
     struct pair *out = w->out, *out_end = w->end;
     for (; d < d_end && d->document == document && d->start <= end; d++) {
@@ -79,8 +74,7 @@ static inline int pair_run(struct writing *w, const struct node *a, const struct
 
 /* Puts the ancestors onto the stack that start before the descendant and are open at it, and takes
    the others off. */
-static inline struct node *open_ancestors(struct node *stack, struct node *top, struct lists *l)
-{
+static inline struct node *open_ancestors(struct node *stack, struct node *top, struct lists *l) {
     const struct node *d = l->descendant;
     for (; l->ancestor < l->ancestors_end && is_before(l->ancestor, d); l->ancestor++)
         if (l->ancestor->document == d->document && l->ancestor->end >= d->start) {
@@ -91,9 +85,8 @@ static inline struct node *open_ancestors(struct node *stack, struct node *top, 
 }
 
 /* Pairs each descendant with the ancestors open at it, past the ticket's place. Directly inside it
-   can only lie in the innermost. It says whether all found room. */
-static int sweep_descendants(struct lists l, const belfry_ticket *ticket, struct writing *w)
-{
+ * can only lie in the innermost. Tells whether all found room. */
+static int sweep_descendants(struct lists l, const belfry_ticket *ticket, struct writing *w) {
     const struct node place = {ticket->document, ticket->first, 0, 0};
     struct node stack[STACK_NODES], *top = stack;
     *top = EVERYTHING;
@@ -115,10 +108,9 @@ static int sweep_descendants(struct lists l, const belfry_ticket *ticket, struct
     return 1;
 }
 
-/* Pairs each ancestor with the run of descendants that start in it, past the ticket's place. It
-   says whether all found room. */
-static int sweep_ancestors(struct lists l, const belfry_ticket *ticket, struct writing *w)
-{
+/* Pairs each ancestor with the run of descendants that start in it, past the ticket's place. Tells
+ * whether all found room. */
+static int sweep_ancestors(struct lists l, const belfry_ticket *ticket, struct writing *w) {
     const struct node place = {ticket->document, ticket->first, 0, 0};
     if (ticket->placed)
         while (l.ancestor < l.ancestors_end && is_before(l.ancestor, &place))
@@ -140,15 +132,14 @@ static int sweep_ancestors(struct lists l, const belfry_ticket *ticket, struct w
     return 1;
 }
 
-static inline int has_ended(const struct node *earlier, const struct node *n)
-{
+static inline int has_ended(const struct node *earlier, const struct node *n) {
     return earlier->document != n->document || earlier->end < n->start;
 }
 
-/* The links of a list that was taken. The last node left on the way to a node's parent is its elder
-   sibling, if it is of the same document. */
-static void link_nodes(const struct node *nodes, size_t count, uint32_t (*links)[BELFRY_LINK_WORDS])
-{
+/* Links the nodes of a list that was taken. The last node left on the way to a node's parent is its
+ * elder sibling, if it is of the same document. */
+static void link_nodes(const struct node *nodes, size_t count,
+                       uint32_t (*links)[BELFRY_LINK_WORDS]) {
     uint32_t open[BELFRY_MOST_LEVELS];
     size_t depth = 0;
     for (uint32_t i = 0; i < count; i++) {

@@ -33,8 +33,7 @@ struct lists {
 };
 
 static struct lists lists_of(const uint32_t *ancestors, size_t ancestor_words,
-                             const uint32_t *descendants, size_t descendant_words)
-{
+                             const uint32_t *descendants, size_t descendant_words) {
     const struct node *a = (const struct node *)ancestors, *d = (const struct node *)descendants;
     return (struct lists){a, a + ancestor_words / BELFRY_NODE_WORDS, d,
                           d + descendant_words / BELFRY_NODE_WORDS};
@@ -47,9 +46,8 @@ enum { STACK_NODES = BELFRY_MOST_LEVELS + 1 };
 
 static const struct node EVERYTHING = {0, 0, UINT32_MAX, 0};
 
-/* The top of the stack once those are taken off that ended before the node. */
-static inline struct node *open_at(struct node *stack, struct node *top, const struct node *n)
-{
+/* Returns the top of the stack once those are taken off that ended before the node. */
+static inline struct node *open_at(struct node *stack, struct node *top, const struct node *n) {
     if (n->document != top->document)
         return stack;
     while (top->end < n->start)
@@ -58,8 +56,7 @@ static inline struct node *open_at(struct node *stack, struct node *top, const s
 }
 
 /* Puts the node on top of what is open at it. It is CROSS or DEPTH where that doesn't allow it. */
-static inline uint32_t open_node(struct node *stack, struct node **top, const struct node *n)
-{
+static inline uint32_t open_node(struct node *stack, struct node **top, const struct node *n) {
     struct node *t = open_at(stack, *top, n);
     if (t->end <= n->end && t > stack)
         return BELFRY_CROSS;
@@ -70,9 +67,8 @@ static inline uint32_t open_node(struct node *stack, struct node **top, const st
     return BELFRY_TAKEN;
 }
 
-/* What is wrong with a node. */
-static inline uint32_t check_node(struct node *stack, struct node **top, const struct node *n)
-{
+/* Returns what is wrong with a node. */
+static inline uint32_t check_node(struct node *stack, struct node **top, const struct node *n) {
     const struct node *last = *top;
     if (n->level - 1 >= BELFRY_MOST_LEVELS)
         return BELFRY_LEVEL;
@@ -84,21 +80,18 @@ static inline uint32_t check_node(struct node *stack, struct node **top, const s
     return open_node(stack, top, n);
 }
 
-static uint32_t word_fault(size_t words)
-{
+static uint32_t word_fault(size_t words) {
     if (words % BELFRY_NODE_WORDS != 0)
         return BELFRY_RAGGED;
     return words / BELFRY_NODE_WORDS > BELFRY_MOST_NODES ? BELFRY_LONG : BELFRY_TAKEN;
 }
 
-static belfry_verdict verdict_of(uint32_t answer)
-{
+static belfry_verdict verdict_of(uint32_t answer) {
     return (belfry_verdict){answer, 0, 0};
 }
 
-/* One list alone: the first pass, and the second. */
-static belfry_verdict check_list(const uint32_t *list, size_t words)
-{
+/* Checks one list alone: the first pass, and the second. */
+static belfry_verdict check_list(const uint32_t *list, size_t words) {
     const struct node *nodes = (const struct node *)list, *end = nodes + words / BELFRY_NODE_WORDS;
     struct node stack[STACK_NODES], *top = stack;
     uint32_t fault = word_fault(words);
@@ -113,21 +106,18 @@ static belfry_verdict check_list(const uint32_t *list, size_t words)
     return verdict_of(BELFRY_TAKEN);
 }
 
-static inline int is_same(const struct node *x, const struct node *y)
-{
+static inline int is_same(const struct node *x, const struct node *y) {
     return x->document == y->document && x->start == y->start && x->end == y->end &&
            x->level == y->level;
 }
 
-static inline int is_before(const struct node *x, const struct node *y)
-{
+static inline int is_before(const struct node *x, const struct node *y) {
     return x->document < y->document || (x->document == y->document && x->start < y->start);
 }
 
-/* The next node of two lists that both have more, in start order; NULL where each has another at
-   the same start, and where both have the same, it is taken once. */
-static inline const struct node *next_node(struct lists *l)
-{
+/* Returns the next node of two lists that both have more, in start order. It is NULL where each has
+ * another at the same start; where both have the same, that is taken once. */
+static inline const struct node *next_node(struct lists *l) {
     if (is_before(l->ancestor, l->descendant))
         return l->ancestor++;
     if (!is_before(l->descendant, l->ancestor) && !is_same(l->ancestor++, l->descendant))
@@ -135,9 +125,8 @@ static inline const struct node *next_node(struct lists *l)
     return l->descendant++;
 }
 
-/* Whether two lists that were taken alone agree: the third pass. */
-static int are_agreeing(struct lists l)
-{
+/* Tells whether two lists that were taken alone agree: the third pass. */
+static int are_agreeing(struct lists l) {
     struct node stack[STACK_NODES], *top = stack;
     *top = EVERYTHING;
     while (l.ancestor < l.ancestors_end && l.descendant < l.descendants_end) {
@@ -154,10 +143,9 @@ static int are_agreeing(struct lists l)
     return 1;
 }
 
-/* All three passes. */
+/* Makes all three passes. */
 static belfry_verdict three_passes(const uint32_t *ancestors, size_t ancestor_words,
-                                   const uint32_t *descendants, size_t descendant_words)
-{
+                                   const uint32_t *descendants, size_t descendant_words) {
     belfry_verdict verdict = check_list(ancestors, ancestor_words);
     if (verdict.answer != BELFRY_TAKEN)
         return verdict;
@@ -179,12 +167,12 @@ struct writing {
 
 /* What each form does in its own way. */
 
-/* Whether a list is taken, and two lists together. */
+/* Checks a list alone, or two lists together. */
 static belfry_verdict check_one(const uint32_t *list, size_t words);
 static belfry_verdict check_both(const uint32_t *ancestors, size_t ancestor_words,
                                  const uint32_t *descendants, size_t descendant_words);
 
-/* Write the pairs past the ticket's place. They say whether all found room. */
+/* Writes the pairs past the ticket's place, and tells whether all found room. */
 static int sweep_descendants(struct lists l, const belfry_ticket *ticket, struct writing *w);
 static int sweep_ancestors(struct lists l, const belfry_ticket *ticket, struct writing *w);
 
@@ -194,20 +182,17 @@ static void link_nodes(const struct node *nodes, size_t count,
 
 /* What is the same in all forms: the calls. */
 
-belfry_verdict TWIN(check)(const uint32_t *list, size_t words)
-{
+belfry_verdict TWIN(check)(const uint32_t *list, size_t words) {
     return check_one(list, words);
 }
 
 belfry_verdict TWIN(check_two)(const uint32_t *ancestors, size_t ancestor_words,
-                               const uint32_t *descendants, size_t descendant_words)
-{
+                               const uint32_t *descendants, size_t descendant_words) {
     return check_both(ancestors, ancestor_words, descendants, descendant_words);
 }
 
-/* The ticket after a page whose last pair is given. */
-static belfry_ticket ticket_after(belfry_ticket ticket, const struct pair *last)
-{
+/* Returns the ticket after a page whose last pair is given. */
+static belfry_ticket ticket_after(belfry_ticket ticket, const struct pair *last) {
     ticket.placed = 1;
     ticket.document = last->descendant.document;
     ticket.first = ticket.order ? last->ancestor.start : last->descendant.start;
@@ -217,8 +202,7 @@ static belfry_ticket ticket_after(belfry_ticket ticket, const struct pair *last)
 
 belfry_page TWIN(list)(const uint32_t *ancestors, size_t ancestor_words,
                        const uint32_t *descendants, size_t descendant_words, belfry_ticket ticket,
-                       uint32_t *out, size_t out_words)
-{
+                       uint32_t *out, size_t out_words) {
     belfry_verdict v = check_both(ancestors, ancestor_words, descendants, descendant_words);
     if (v.answer != BELFRY_TAKEN)
         return (belfry_page){v, 0, 0, ticket};
@@ -232,13 +216,11 @@ belfry_page TWIN(list)(const uint32_t *ancestors, size_t ancestor_words,
     return (belfry_page){verdict_of(BELFRY_TAKEN), done, w.out - pairs, ticket};
 }
 
-static belfry_result result_of(belfry_verdict v, size_t count)
-{
+static belfry_result result_of(belfry_verdict v, size_t count) {
     return (belfry_result){v, count};
 }
 
-belfry_result TWIN(links)(const uint32_t *list, size_t words, uint32_t *out, size_t out_words)
-{
+belfry_result TWIN(links)(const uint32_t *list, size_t words, uint32_t *out, size_t out_words) {
     belfry_verdict verdict = check_one(list, words);
     size_t count = words / BELFRY_NODE_WORDS;
     if (verdict.answer != BELFRY_TAKEN)
@@ -249,9 +231,8 @@ belfry_result TWIN(links)(const uint32_t *list, size_t words, uint32_t *out, siz
     return result_of(verdict, count);
 }
 
-/* What is wrong with a document's marks, and how many rows its table has. */
-static uint32_t check_marks(const uint32_t *marks, size_t count, size_t *rows)
-{
+/* Returns what is wrong with a document's marks, and how many rows its table has. */
+static uint32_t check_marks(const uint32_t *marks, size_t count, size_t *rows) {
     size_t depth = 0, found = 0;
     for (size_t i = 0; i < count; i++) {
         uint32_t mark = marks[i];
@@ -272,10 +253,9 @@ static uint32_t check_marks(const uint32_t *marks, size_t count, size_t *rows)
     return count == 0 || depth > 0 ? BELFRY_UNCLOSED : BELFRY_TAKEN;
 }
 
-/* The rows of marks that were taken. An element's end is filled in at its close. */
+/* Writes the rows of marks that were taken. An element's end is filled in at its close. */
 static void write_rows(uint32_t document, const uint32_t *marks, size_t count,
-                       uint32_t (*row)[BELFRY_ROW_WORDS])
-{
+                       uint32_t (*row)[BELFRY_ROW_WORDS]) {
     uint32_t *ends[BELFRY_MOST_LEVELS];
     size_t depth = 0;
     for (uint32_t position = 1; position <= count; position++) {
@@ -296,8 +276,7 @@ static void write_rows(uint32_t document, const uint32_t *marks, size_t count,
 }
 
 belfry_result TWIN(number)(uint32_t document, const uint32_t *marks, size_t mark_words,
-                           uint32_t *out, size_t out_words)
-{
+                           uint32_t *out, size_t out_words) {
     size_t rows = 0;
     uint32_t fault =
         mark_words > BELFRY_MOST_NODES ? BELFRY_LONG : check_marks(marks, mark_words, &rows);
@@ -309,9 +288,8 @@ belfry_result TWIN(number)(uint32_t document, const uint32_t *marks, size_t mark
     return result_of(verdict_of(BELFRY_TAKEN), rows);
 }
 
-/* A number of a book, which may lie anywhere. */
-static inline uint32_t number_at(const uint8_t *at)
-{
+/* Returns a number of a book, which may lie anywhere. */
+static inline uint32_t number_at(const uint8_t *at) {
     return at[0] | (uint32_t)at[1] << 8 | (uint32_t)at[2] << 16 | (uint32_t)at[3] << 24;
 }
 
@@ -320,15 +298,13 @@ struct entry {
     uint32_t tag, offset, count;
 };
 
-static inline struct entry entry_at(const uint8_t *book, size_t index)
-{
+static inline struct entry entry_at(const uint8_t *book, size_t index) {
     const uint8_t *at = book + BELFRY_NUMBER_BYTES + ENTRY_BYTES * index;
     return (struct entry){number_at(at), number_at(at + 4), number_at(at + 8)};
 }
 
-/* Whether the contents keep the rules, and how many lists they name. */
-static int are_contents(const uint8_t *book, size_t bytes, uint32_t *lists)
-{
+/* Tells whether the contents keep the rules, and how many lists they name. */
+static int are_contents(const uint8_t *book, size_t bytes, uint32_t *lists) {
     if (bytes < BELFRY_NUMBER_BYTES || number_at(book) > BELFRY_MOST_LISTS)
         return 0;
     *lists = number_at(book);
@@ -346,9 +322,8 @@ static int are_contents(const uint8_t *book, size_t bytes, uint32_t *lists)
     return end == bytes;
 }
 
-/* One list alone, out of a book's bytes. */
-static belfry_verdict check_body(const uint8_t *at, uint32_t count)
-{
+/* Checks one list alone, out of a book's bytes. */
+static belfry_verdict check_body(const uint8_t *at, uint32_t count) {
     struct node stack[STACK_NODES], *top = stack;
     *top = EVERYTHING;
     for (uint32_t i = 0; i < count; i++, at += NODE_BYTES) {
@@ -360,8 +335,7 @@ static belfry_verdict check_body(const uint8_t *at, uint32_t count)
     return verdict_of(BELFRY_TAKEN);
 }
 
-static belfry_book check_book(const uint8_t *book, size_t bytes)
-{
+static belfry_book check_book(const uint8_t *book, size_t bytes) {
     uint32_t lists = 0;
     if (!are_contents(book, bytes, &lists))
         return (belfry_book){verdict_of(BELFRY_CONTENTS), 0};
@@ -374,13 +348,11 @@ static belfry_book check_book(const uint8_t *book, size_t bytes)
     return (belfry_book){verdict_of(BELFRY_TAKEN), lists};
 }
 
-belfry_book TWIN(book_check)(const uint8_t *book, size_t bytes)
-{
+belfry_book TWIN(book_check)(const uint8_t *book, size_t bytes) {
     return check_book(book, bytes);
 }
 
-belfry_body TWIN(book_body)(const uint8_t *book, size_t bytes, uint32_t tag)
-{
+belfry_body TWIN(book_body)(const uint8_t *book, size_t bytes, uint32_t tag) {
     belfry_book b = check_book(book, bytes);
     if (b.verdict.answer != BELFRY_TAKEN)
         return (belfry_body){b.verdict, 0, 0};

@@ -88,9 +88,9 @@ static void print_page(const belfry_page *page, const belfry_pair *pairs) {
  * that is the old one again. */
 static belfry_page fetch_page(uint8_t stored[BELFRY_TICKET_BYTES]) {
     static belfry_pair pairs[BELFRY_PAGE_PAIRS];
-    const belfry_page page = belfry_list_pairs(zones.nodes, zones.count, samples.nodes,
-                                               samples.count, take_ticket(stored), pairs,
-                                               BELFRY_PAGE_PAIRS);
+    const belfry_page page =
+        belfry_list_pairs(zones.nodes, zones.count, samples.nodes, samples.count,
+                          take_ticket(stored), pairs, BELFRY_PAGE_PAIRS);
     belfry_store_ticket(page.ticket, stored);
     print_page(&page, pairs);
     return page;
@@ -106,8 +106,8 @@ static void repair_end(uint32_t end) {
     belfry_node *node = faulty->nodes + part.from;
     char name[BELFRY_NAME_BYTES + 1];
     printf("repair: %s in list %u at index %zu, from %u to %u; now to %u\n",
-           belfry_answer_name(part.verdict.answer, name), part.verdict.list, part.from,
-           node->start, node->end, end);
+           belfry_answer_name(part.verdict.answer, name), part.verdict.list, part.from, node->start,
+           node->end, end);
     node->end = end;
 }
 

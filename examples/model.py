@@ -5,9 +5,9 @@
 
 The fields are numbered, their zones and samples paired, and each zone gets a rate from the readings
 of the samples under it. A sample without a reading counts as a sample, and its reading is None,
-never 0; a zone without any reading gets no rate. A line that can't be placed, a reading that is no
-number and a field that is too large (4,096 marks, and a row takes two) are told, and then no rate
-is printed.
+never 0; a zone without any reading gets no rate. It tells of a line that can't be placed, and of a
+reading that is no number. It tells of a field that is too large (4,096 marks, and a row takes two).
+Then it prints no rate.
 """
 import csv
 import math

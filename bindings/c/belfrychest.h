@@ -1,8 +1,8 @@
 /* Belfrychest for C99 and C++: it pairs every zone with the samples under it, and loses none.
  *
  * A node is four numbers: document, start, end, level. A list is an array of nodes. A listing joins
- * two lists: the ancestors (zones) and the descendants (samples). docs/SCOPE.md says what each number
- * means; this header says what a caller has to know of each call.
+ * two lists: the ancestors (zones) and the descendants (samples). docs/SCOPE.md says what each
+ * number means; this header says what a caller has to know of each call.
  *
  * What the library does can be called in two ways:
  *
@@ -67,7 +67,7 @@ extern "C" {
 #define BELFRY_PRINTED_BYTES 61440
 
 /* A good size for a page, in pairs. Every page checks both lists anew, so a small page costs nearly
- * as much as a large one, and a listing in pages of 4 pairs hundreds of times as much as one in
+ * as much as a large one. A listing in pages of 4 pairs costs hundreds of times as much as one in
  * pages of this size. */
 #define BELFRY_PAGE_PAIRS 4096
 
@@ -114,14 +114,14 @@ extern "C" {
 /* A ticket's relation, its order, and whether it is placed. Any number other than 0 is taken as
  * BELFRY_DIRECTLY, as BELFRY_ANCESTOR_ORDER and as BELFRY_PLACED.
  * The relation and the order are two types, so that a compiler sees where one is given for the
- * other: C++ refuses it; in C, clang and gcc (from 10 on, with -Wextra) warn of it. */
+ * other. C++ refuses it. In C, clang and gcc (from 10 on, with -Wextra) warn of it. */
 typedef enum belfry_relation {
     BELFRY_INSIDE = 0,
-    BELFRY_DIRECTLY = 1
+    BELFRY_DIRECTLY = 1,
 } belfry_relation;
 typedef enum belfry_order {
     BELFRY_DESCENDANT_ORDER = 0,
-    BELFRY_ANCESTOR_ORDER = 1
+    BELFRY_ANCESTOR_ORDER = 1,
 } belfry_order;
 #define BELFRY_FRESH 0
 #define BELFRY_PLACED 1
@@ -217,7 +217,7 @@ typedef struct {
     uint32_t relation, order, placed, document, first, second;
 } belfry_ticket;
 
-/* Returns the ticket that starts a listing. Use it rather than filling in the fields: a later
+/* Returns the ticket that starts a listing. Use it rather than filling in the fields. A later
  * version of the library may have more of them, and here they get the values with which every pair
  * is listed. It is a function, since clang doesn't warn of the arguments of an installed header's
  * macro. */
@@ -278,20 +278,23 @@ uint32_t belfry_version(void);
 /* Checks one list. It reads the list and writes nothing.
  * Answers: RAGGED, LONG, then LEVEL to DEPTH for the first node at which one applies, with its
  * index; the list is 0. */
-BELFRY_MUST_USE BELFRY_NONNULL
+BELFRY_MUST_USE
+BELFRY_NONNULL
 belfry_verdict belfry_check(const uint32_t *list, size_t words);
 
 /* Checks two lists that are to be joined. It reads both and writes nothing.
  * Answers: those of belfry_check for the ancestors, then for the descendants, with the list at
  * fault; then JOINT. */
-BELFRY_MUST_USE BELFRY_NONNULL
+BELFRY_MUST_USE
+BELFRY_NONNULL
 belfry_verdict belfry_check_two(const uint32_t *ancestors, size_t ancestor_words,
                                 const uint32_t *descendants, size_t descendant_words);
 
 /* Checks two lists as belfry_check_two does, and says where to repair: the part of the list at
  * fault from the faulty node to its end. It reads both lists and writes nothing; the part is in the
  * caller's own list, from word `from` on. It is empty unless the answer is LEVEL to DEPTH. */
-BELFRY_MUST_USE BELFRY_NONNULL
+BELFRY_MUST_USE
+BELFRY_NONNULL
 belfry_part belfry_faulty(const uint32_t *ancestors, size_t ancestor_words,
                           const uint32_t *descendants, size_t descendant_words);
 
@@ -307,16 +310,18 @@ belfry_part belfry_faulty(const uint32_t *ancestors, size_t ancestor_words,
  * in all accepted calls has been handed out, once.
  * Answers: those of belfry_check_two, never ROOM. A refusal returns the ticket as it was and isn't
  * done, so a repaired list goes on from there. */
-BELFRY_MUST_USE BELFRY_NONNULL
+BELFRY_MUST_USE
+BELFRY_NONNULL
 belfry_page belfry_list(const uint32_t *ancestors, size_t ancestor_words,
-                        const uint32_t *descendants, size_t descendant_words,
-                        belfry_ticket ticket, uint32_t *out, size_t out_words);
+                        const uint32_t *descendants, size_t descendant_words, belfry_ticket ticket,
+                        uint32_t *out, size_t out_words);
 
 /* Numbers a document's marks. It reads the marks and writes a row for each element and text, in
  * start order; as many rows as there are marks are always enough.
  * Answers: LONG, then MARK, STRAY or DEEP for the first faulty mark, UNCLOSED, ROOM; list and index
  * are 0. */
-BELFRY_MUST_USE BELFRY_NONNULL
+BELFRY_MUST_USE
+BELFRY_NONNULL
 belfry_result belfry_number(uint32_t document, const uint32_t *marks, size_t mark_words,
                             uint32_t *out, size_t out_words);
 
@@ -324,46 +329,51 @@ belfry_result belfry_number(uint32_t document, const uint32_t *marks, size_t mar
  * BELFRY_MOST_NODES words are always enough. The document's number is read from the table, and is 0
  * on refusal.
  * Answers: RAGGED, LONG, TABLE, ROOM. */
-BELFRY_MUST_USE BELFRY_NONNULL
-belfry_unnumbered belfry_unnumber(const uint32_t *table, size_t table_words,
-                                  uint32_t *out, size_t out_words);
+BELFRY_MUST_USE
+BELFRY_NONNULL
+belfry_unnumbered belfry_unnumber(const uint32_t *table, size_t table_words, uint32_t *out,
+                                  size_t out_words);
 
 /* Picks a tag's list out of a table. It reads the table and writes the node of each row with that
  * tag, in row order; as many nodes as there are rows are always enough. It checks nothing else of
  * the table.
  * Answers: RAGGED, LONG, ROOM; list and index are 0. */
-BELFRY_MUST_USE BELFRY_NONNULL
-belfry_result belfry_pick(const uint32_t *table, size_t table_words, uint32_t tag,
-                          uint32_t *out, size_t out_words);
+BELFRY_MUST_USE
+BELFRY_NONNULL
+belfry_result belfry_pick(const uint32_t *table, size_t table_words, uint32_t tag, uint32_t *out,
+                          size_t out_words);
 
 /* Links a list's nodes to the forest of what contains what. It reads the list and writes a link for
- * each node: the index of its parent, which is the innermost node that contains it, of its first
- * child, and of the next node with the same parent in the same document, or BELFRY_NONE.
- * Answers: those of belfry_check, then ROOM. */
-BELFRY_MUST_USE BELFRY_NONNULL
+ * each node. A link has the index of the node's parent, which is the innermost node that contains
+ * it, and of its first child. Its third index is that of the next node with the same parent in the
+ * same document. BELFRY_NONE says that there is none. Answers: those of belfry_check, then ROOM. */
+BELFRY_MUST_USE
+BELFRY_NONNULL
 belfry_result belfry_links(const uint32_t *list, size_t words, uint32_t *out, size_t out_words);
 
 /* Checks a book. It reads the book and writes nothing.
  * Answers: CONTENTS, then LEVEL to DEPTH for the first body at fault, with the list's place in the
  * book and the node's index in that list. */
-BELFRY_MUST_USE BELFRY_NONNULL
+BELFRY_MUST_USE
+BELFRY_NONNULL
 belfry_book belfry_book_check(const uint8_t *book, size_t bytes);
 
 /* Finds the body of a tag's list. It reads the book, checks all of it, and writes nothing; the body
  * is in the caller's own bytes.
  * Answers: those of belfry_book_check, then ABSENT. */
-BELFRY_MUST_USE BELFRY_NONNULL
+BELFRY_MUST_USE
+BELFRY_NONNULL
 belfry_body belfry_book_body(const uint8_t *book, size_t bytes, uint32_t tag);
 
 /* Writes a book. It reads the entries, a tag and a number of nodes for each list, and the nodes of
- * all lists one after the other; it writes the book, which takes BELFRY_BOOK_BYTES. Tags must
+ * all lists one after the other. It writes the book, which takes BELFRY_BOOK_BYTES. Tags must
  * ascend, and the numbers must add up to the nodes.
  * Answers: RAGGED, CONTENTS, then LEVEL to DEPTH for the first list at fault, with its place and
  * the node's index in that list, then ROOM. */
-BELFRY_MUST_USE BELFRY_NONNULL
-belfry_result belfry_book_write(const uint32_t *entries, size_t entry_words,
-                                const uint32_t *nodes, size_t node_words,
-                                uint8_t *out, size_t out_bytes);
+BELFRY_MUST_USE
+BELFRY_NONNULL
+belfry_result belfry_book_write(const uint32_t *entries, size_t entry_words, const uint32_t *nodes,
+                                size_t node_words, uint8_t *out, size_t out_bytes);
 
 /* Writes an answer's name into all eight bytes, padded with blanks; eight blanks for a number above
  * BELFRY_ABSENT. It is never refused. */
@@ -372,7 +382,7 @@ void belfry_name(uint32_t answer, uint8_t out[BELFRY_NAME_BYTES]);
 
 /* ---- What the calls of nodes stand on. ---- */
 
-/* Return the address that stands in for an array of no words, and of no bytes. */
+/* Returns the address that stands in for an array of no words, and of no bytes. */
 static inline uint32_t *belfry_no_words(void) {
     static uint32_t none;
     return &none;
@@ -423,9 +433,10 @@ static inline belfry_verdict belfry_check_nodes(const belfry_node *list, size_t 
  * Answers: those of belfry_check_nodes for the ancestors, then for the descendants, with the list
  * at fault; then JOINT. */
 BELFRY_MUST_USE
-static inline belfry_verdict belfry_check_two_lists(
-    const belfry_node *ancestors, size_t ancestor_count,
-    const belfry_node *descendants, size_t descendant_count) {
+static inline belfry_verdict belfry_check_two_lists(const belfry_node *ancestors,
+                                                    size_t ancestor_count,
+                                                    const belfry_node *descendants,
+                                                    size_t descendant_count) {
     return belfry_check_two(BELFRY_WORDS_OF(ancestors, ancestor_count, document),
                             BELFRY_WORDS_OF(descendants, descendant_count, document));
 }
@@ -434,9 +445,10 @@ static inline belfry_verdict belfry_check_two_lists(
  * index `from` of the list at fault.
  * Answers: those of belfry_check_two_lists. */
 BELFRY_MUST_USE
-static inline belfry_node_part belfry_faulty_nodes(
-    const belfry_node *ancestors, size_t ancestor_count,
-    const belfry_node *descendants, size_t descendant_count) {
+static inline belfry_node_part belfry_faulty_nodes(const belfry_node *ancestors,
+                                                   size_t ancestor_count,
+                                                   const belfry_node *descendants,
+                                                   size_t descendant_count) {
     const belfry_part words =
         belfry_faulty(BELFRY_WORDS_OF(ancestors, ancestor_count, document),
                       BELFRY_WORDS_OF(descendants, descendant_count, document));
@@ -449,21 +461,19 @@ static inline belfry_node_part belfry_faulty_nodes(
  * for no pair, a loop until done would never end.
  * Answers: those of belfry_check_two_lists. */
 BELFRY_MUST_USE
-static inline belfry_page belfry_list_pairs(
-    const belfry_node *ancestors, size_t ancestor_count,
-    const belfry_node *descendants, size_t descendant_count,
-    belfry_ticket ticket, belfry_pair *out, size_t room) {
+static inline belfry_page belfry_list_pairs(const belfry_node *ancestors, size_t ancestor_count,
+                                            const belfry_node *descendants, size_t descendant_count,
+                                            belfry_ticket ticket, belfry_pair *out, size_t room) {
     return belfry_list(BELFRY_WORDS_OF(ancestors, ancestor_count, document),
-                       BELFRY_WORDS_OF(descendants, descendant_count, document),
-                       ticket, BELFRY_WORDS_OF(out, room, ancestor.document));
+                       BELFRY_WORDS_OF(descendants, descendant_count, document), ticket,
+                       BELFRY_WORDS_OF(out, room, ancestor.document));
 }
 
 /* Numbers a document's marks, as belfry_number does.
  * Answers: LONG, then MARK, STRAY or DEEP for the first faulty mark, UNCLOSED, ROOM. */
 BELFRY_MUST_USE
-static inline belfry_result belfry_number_rows(uint32_t document,
-                                               const uint32_t *marks, size_t mark_count,
-                                               belfry_row *out, size_t room) {
+static inline belfry_result belfry_number_rows(uint32_t document, const uint32_t *marks,
+                                               size_t mark_count, belfry_row *out, size_t room) {
     return belfry_number(document, mark_count != 0 ? marks : belfry_no_words(), mark_count,
                          BELFRY_WORDS_OF(out, room, document));
 }
@@ -491,8 +501,7 @@ static inline belfry_result belfry_pick_nodes(const belfry_row *table, size_t ro
 BELFRY_MUST_USE
 static inline belfry_result belfry_link_nodes(const belfry_node *list, size_t count,
                                               belfry_link *out, size_t room) {
-    return belfry_links(BELFRY_WORDS_OF(list, count, document),
-                        BELFRY_WORDS_OF(out, room, parent));
+    return belfry_links(BELFRY_WORDS_OF(list, count, document), BELFRY_WORDS_OF(out, room, parent));
 }
 
 /* Writes a book, as belfry_book_write does: `nodes` holds the nodes of all lists one after the
@@ -516,10 +525,10 @@ static inline belfry_book belfry_open_book(const uint8_t *book, size_t bytes) {
 
 /* Returns the node whose sixteen bytes of a book start at `bytes`. */
 static inline belfry_node belfry_read_node(const uint8_t *bytes) {
-    const belfry_node node = {
-        belfry_read_number(bytes), belfry_read_number(bytes + BELFRY_NUMBER_BYTES),
-        belfry_read_number(bytes + 2 * BELFRY_NUMBER_BYTES),
-        belfry_read_number(bytes + 3 * BELFRY_NUMBER_BYTES)};
+    const belfry_node node = {belfry_read_number(bytes),
+                              belfry_read_number(bytes + BELFRY_NUMBER_BYTES),
+                              belfry_read_number(bytes + 2 * BELFRY_NUMBER_BYTES),
+                              belfry_read_number(bytes + 3 * BELFRY_NUMBER_BYTES)};
     return node;
 }
 
@@ -559,7 +568,7 @@ static inline const char *belfry_answer_name(uint32_t answer, char out[BELFRY_NA
 BELFRY_NONNULL
 static inline void belfry_store_ticket(belfry_ticket ticket, uint8_t out[BELFRY_TICKET_BYTES]) {
     const uint32_t numbers[] = {BELFRY_TICKET_FORM, ticket.relation, ticket.order, ticket.placed,
-                                ticket.document, ticket.first, ticket.second};
+                                ticket.document,    ticket.first,    ticket.second};
     for (size_t i = 0; i < sizeof numbers / sizeof *numbers; i++)
         belfry_write_number(numbers[i], out + BELFRY_NUMBER_BYTES * i);
 }

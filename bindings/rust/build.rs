@@ -1,6 +1,6 @@
 //! Links the archive: the one that BELFRYCHEST_ARCHIVE names, or the one that was installed with
-//! this crate, or the one that `rt staticlib belfrychest` writes in this repository. An archive that can't be linked is told
-//! here, before the linker complains of it in its own words.
+//! this crate, or the one that `rt staticlib belfrychest` writes in this repository. An archive
+//! that can't be linked is told here, before the linker complains of it in its own words.
 
 use std::env;
 use std::fs;

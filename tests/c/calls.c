@@ -1,4 +1,4 @@
-/* Calls each function of the archive on the farm of docs/SCOPE.md and holds every field of the
+/* Calls each function of the archive on the farm of docs/SCOPE.md. Holds every field of the
  * answers, and every byte of the outputs, against what has to be there. */
 #include "expect.h"
 
@@ -6,8 +6,8 @@ enum { MOST = 64 };
 
 static const uint32_t none = BELFRY_NONE;
 static const uint32_t marks[] = {1, 2, 2, 3, 65536, 0, 0, 3, 0, 0, 0};
-static const uint32_t table[] = {5, 1, 11, 1, 1, 5, 2, 10, 2, 2, 5, 3, 7, 3, 2,
-                                 5, 4, 6, 4, 3, 5, 5, 5, 5, 65536, 5, 8, 9, 3, 3};
+static const uint32_t table[] = {5, 1, 11, 1, 1, 5, 2, 10, 2, 2,     5, 3, 7, 3, 2,
+                                 5, 4, 6,  4, 3, 5, 5, 5,  5, 65536, 5, 8, 9, 3, 3};
 static const uint32_t zones[] = {5, 2, 10, 2, 5, 3, 7, 3};
 static const uint32_t samples[] = {5, 4, 6, 4, 5, 8, 9, 3};
 /* A book of the zones and the samples. */
@@ -34,8 +34,8 @@ static void call_checks(void) {
     expect("words", part.words, 8);
 }
 
-/* A page of two pairs in ancestor order, the last one, and a refused one. An order of 9 is ancestor
- * order and comes back as 9. */
+/* Fetches a page of two pairs in ancestor order, the last one, and a refused one. An order of 9 is
+ * ancestor order and comes back as 9. */
 static void call_list(void) {
     const uint32_t first_pairs[] = {5, 2, 10, 2, 5, 4, 6, 4, 5, 2, 10, 2, 5, 8, 9, 3};
     const uint32_t last_pair[] = {5, 3, 7, 3, 5, 4, 6, 4};
@@ -69,7 +69,8 @@ static void call_list(void) {
     expect_output(out, sizeof out, out, 0);
 }
 
-/* BELFRY_TICKET makes a ticket with the relation and the order asked for, which is fresh. */
+/* Makes a ticket by BELFRY_TICKET, which must be fresh and have the relation and the order asked
+ * for. */
 static void make_ticket(void) {
     const belfry_ticket fresh = {BELFRY_DIRECTLY, BELFRY_ANCESTOR_ORDER, BELFRY_FRESH, 0, 0, 0};
     printf("BELFRY_TICKET\n");
@@ -115,7 +116,7 @@ static void call_links(void) {
     expect_output(out, sizeof out, out, 0);
 }
 
-/* The number at a place of a book, the lowest byte first. */
+/* Returns the number at a place of a book, the lowest byte first. */
 static uint32_t number_at(const uint8_t *book, size_t index) {
     const uint8_t *at = book + BELFRY_NUMBER_BYTES * index;
     return at[0] | (uint32_t)at[1] << 8 | (uint32_t)at[2] << 16 | (uint32_t)at[3] << 24;
@@ -123,7 +124,7 @@ static uint32_t number_at(const uint8_t *book, size_t index) {
 
 static void call_book(void) {
     const uint32_t numbers[] = {2, 2, 28, 2, 3, 60, 2, 5, 2, 10, 2, 5,
-                                3, 7, 3, 5, 4, 6, 4, 5, 8, 9, 3};
+                                3, 7, 3,  5, 4, 6,  4, 5, 8, 9,  3};
     uint8_t book[BELFRY_BOOK_BYTES(2, 4) + 1];
     memset(book, PAINT, sizeof book);
     belfry_result written = belfry_book_write(entries, 4, nodes, 16, book, sizeof book);
@@ -144,7 +145,7 @@ static void call_book(void) {
     expect("bytes", body.bytes, 32);
 }
 
-/* The second sample of the book is given the first one's start: list 1, node 1 is out of order. */
+/* Gives the second sample of the book the first one's start: list 1, node 1 is out of order. */
 static void call_faulty_book(void) {
     uint8_t book[BELFRY_BOOK_BYTES(2, 4)];
     expect("count", belfry_book_write(entries, 4, nodes, 16, book, sizeof book).count, 92);
@@ -166,7 +167,7 @@ static void call_name(void) {
     belfry_name(BELFRY_ABSENT, name);
     printf("belfry_name\n");
     for (size_t i = 0; i < BELFRY_NAME_BYTES; i++)
-        expect("a byte of the name", name[i], (uint8_t)"ABSENT  "[i]);
+        expect("a byte of the name", name[i], (uint8_t) "ABSENT  "[i]);
     expect("the byte after the name", name[BELFRY_NAME_BYTES], PAINT);
 }
 

@@ -39,7 +39,8 @@ static inline void expect_ticket(belfry_ticket found, belfry_ticket wanted) {
     expect("second", found.second, wanted.second);
 }
 
-/* The first `written` bytes of an output are the wanted ones, and the others are still painted. */
+/* Checks that the first `written` bytes of an output are the wanted ones, and that the others are
+ * still painted. */
 static inline void expect_output(const void *found, size_t bytes, const void *wanted,
                                  size_t written) {
     const unsigned char *output = (const unsigned char *)found;

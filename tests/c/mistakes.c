@@ -3,8 +3,7 @@
 #include "expect.h"
 
 static const belfry_node zones[] = {{5, 2, 30, 2}, {5, 3, 7, 3}, {5, 9, 20, 3}, {5, 10, 15, 4}};
-static const belfry_node samples[] = {
-    {5, 4, 6, 4}, {5, 11, 12, 5}, {5, 16, 17, 4}, {5, 21, 22, 3}};
+static const belfry_node samples[] = {{5, 4, 6, 4}, {5, 11, 12, 5}, {5, 16, 17, 4}, {5, 21, 22, 3}};
 /* The zones around each sample, added up. */
 enum { ALL_PAIRS = 2 + 3 + 2 + 1, ROOM = 16 };
 
@@ -18,29 +17,30 @@ static void expect_page(const char *what, belfry_page page, uint32_t done, size_
     expect("count", page.count, count);
 }
 
-/* Four nodes counted as four where words are wanted are one node: the call of words takes that and
- * says done, and all pairs but one are lost. Three are RAGGED. The call of nodes finds them all. */
+/* Counts four nodes as four where words are wanted, which is one node. The call of words takes that
+ * and says done, and all pairs but one are lost. Three are RAGGED. The call of nodes finds them
+ * all. */
 static void count_nodes_for_words(void) {
     uint32_t zone_words[16], sample_words[16], out_words[BELFRY_PAIR_WORDS * ROOM];
     belfry_pair out[ROOM];
     memcpy(zone_words, zones, sizeof zone_words);
     memcpy(sample_words, samples, sizeof sample_words);
-    expect_page("the call of words, lengths in nodes",
-                belfry_list(zone_words, 4, sample_words, 4, fresh_ticket(), out_words,
-                            COUNT(out_words)),
-                1, 1);
+    expect_page(
+        "the call of words, lengths in nodes",
+        belfry_list(zone_words, 4, sample_words, 4, fresh_ticket(), out_words, COUNT(out_words)), 1,
+        1);
     expect_verdict("the call of words, a length of three", belfry_check(zone_words, 3),
                    BELFRY_RAGGED, 0, 0);
     expect_page("the call of nodes",
                 belfry_list_pairs(zones, 4, samples, 4, fresh_ticket(), out, ROOM), 1, ALL_PAIRS);
 }
 
-/* Null with a count of 0, in the calls of lists. */
+/* Gives null with a count of 0 to the calls of lists. */
 static void give_null_lists(void) {
     belfry_pair out[ROOM];
     expect_verdict("belfry_check_nodes", belfry_check_nodes(NULL, 0), BELFRY_TAKEN, 0, 0);
-    expect_verdict("belfry_check_two_lists", belfry_check_two_lists(NULL, 0, NULL, 0),
-                   BELFRY_TAKEN, 0, 0);
+    expect_verdict("belfry_check_two_lists", belfry_check_two_lists(NULL, 0, NULL, 0), BELFRY_TAKEN,
+                   0, 0);
     const belfry_node_part part = belfry_faulty_nodes(NULL, 0, NULL, 0);
     expect_verdict("belfry_faulty_nodes", part.verdict, BELFRY_TAKEN, 0, 0);
     expect("the part's nodes", part.count, 0);
@@ -58,7 +58,7 @@ static void give_null_lists(void) {
                    BELFRY_ROOM, 0, 0);
 }
 
-/* Null with a count of 0, in the calls of marks and tables. */
+/* Gives null with a count of 0 to the calls of marks and tables. */
 static void give_null_tables(void) {
     const uint32_t marks[] = {1, 0};
     const belfry_row table[] = {{5, 1, 2, 1, 1}};
@@ -75,7 +75,7 @@ static void give_null_tables(void) {
                    BELFRY_ROOM, 0, 0);
 }
 
-/* Null with a count of 0, in the calls of books and in a stored ticket. */
+/* Gives null with a count of 0 to the calls of books and for a stored ticket. */
 static void give_null_books(void) {
     const belfry_entry empty_list[] = {{2, 0}};
     uint8_t book[BELFRY_BOOK_BYTES(1, 0)];
@@ -155,8 +155,8 @@ static void overflow(void) {
     overflow_rooms();
 }
 
-/* Room for no pair: nothing is handed out, and the call isn't done while a pair remains, however
- * often it is made. After the last pair it is. */
+/* Gives room for no pair. Nothing is handed out, and the call isn't done while a pair remains,
+ * however often it is made. After the last pair it is. */
 static void give_no_room(void) {
     belfry_pair pairs[ROOM];
     uint32_t zone_words[16], sample_words[16], out[BELFRY_PAIR_WORDS - 1];
@@ -178,7 +178,8 @@ static void give_no_room(void) {
                 belfry_list_pairs(zones, 4, samples, 4, page.ticket, pairs, 0), 1, 0);
 }
 
-/* Bytes that aren't a ticket of this form are refused, and the caller's ticket stays as it was. */
+/* Checks that bytes which aren't a ticket of this form are refused, and that the caller's ticket
+ * stays as it was. */
 static void refuse_bytes(const uint8_t *stored, size_t bytes, belfry_ticket_fault fault) {
     const belfry_ticket kept = {1, 2, 3, 4, 5, 6};
     belfry_ticket ticket = kept;
@@ -186,12 +187,17 @@ static void refuse_bytes(const uint8_t *stored, size_t bytes, belfry_ticket_faul
     expect_ticket(ticket, kept);
 }
 
-/* A ticket is stored as its form and its words, the lowest byte first. Another form, as a later
+/* Stores a ticket as its form and its words, the lowest byte first. Another form, as a later
  * version of the library stores, and bytes that were cut off are refused. */
 static void store_ticket(void) {
     const belfry_ticket ticket = {1, 9, 0xFFFFFFFF, 0x04030201, 0x10, 0x8000};
-    const uint8_t wanted[] = {BELFRY_TICKET_FORM, 0, 0, 0, 1, 0, 0, 0, 9, 0, 0, 0, 255, 255,
-                              255, 255, 1, 2, 3, 4, 16, 0, 0, 0, 0, 128, 0, 0};
+    /* clang-format off */
+    const uint8_t wanted[] = {
+        BELFRY_TICKET_FORM, 0, 0, 0,
+        1, 0, 0, 0,  9, 0, 0, 0,  255, 255, 255, 255,
+        1, 2, 3, 4,  16, 0, 0, 0,  0, 128, 0, 0,
+    };
+    /* clang-format on */
     uint8_t stored[BELFRY_TICKET_BYTES + 1];
     belfry_ticket back;
     memset(stored, PAINT, sizeof stored);
@@ -212,7 +218,7 @@ static void store_ticket(void) {
     refuse_bytes(stored, BELFRY_TICKET_BYTES, BELFRY_TICKET_OTHER_FORM);
 }
 
-/* A name is printed as a string: without blanks, and with a zero at its end. */
+/* Prints a name as a string: without blanks, and with a zero at its end. */
 static void print_name(void) {
     const char full[] = "CONTENTS", part[] = "ROOM";
     char name[BELFRY_NAME_BYTES + 2];
@@ -230,8 +236,12 @@ static const struct {
     const char *name;
     void (*make)(void);
 } mistakes[] = {
-    {"length", count_nodes_for_words}, {"null", give_null},    {"overflow", overflow},
-    {"room", give_no_room},            {"ticket", store_ticket}, {"name", print_name},
+    {"length", count_nodes_for_words},
+    {"null", give_null},
+    {"overflow", overflow},
+    {"room", give_no_room},
+    {"ticket", store_ticket},
+    {"name", print_name},
 };
 
 int main(int count, char **arguments) {

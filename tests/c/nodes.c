@@ -1,4 +1,4 @@
-/* Holds each call of nodes against the call of words that it stands on: with n nodes it answers and
+/* Holds each call of nodes against the call of words that it stands on. With n nodes it answers and
  * writes what the other does with 4 * n words, and so with rows, links, entries and pairs. Every
  * number of nodes is tried, from none up to lists that are refused. */
 #include "expect.h"
@@ -7,13 +7,13 @@ enum { ROOM = 8 };
 
 static const belfry_node zones[] = {{5, 2, 30, 2}, {5, 3, 7, 3}, {5, 9, 20, 3}, {5, 10, 15, 4}};
 /* The last one is at fault: it comes after a node that starts later. */
-static const belfry_node samples[] = {{5, 4, 6, 4},   {5, 11, 12, 5}, {5, 16, 17, 4},
-                                      {5, 40, 40, 2}, {5, 39, 39, 2}};
+static const belfry_node samples[] = {
+    {5, 4, 6, 4}, {5, 11, 12, 5}, {5, 16, 17, 4}, {5, 40, 40, 2}, {5, 39, 39, 2}};
 static const uint32_t marks[] = {1, 2, 2, 3, 65536, 0, 0, 3, 0, 0, 0};
-static const belfry_row table[] = {{5, 1, 11, 1, 1}, {5, 2, 10, 2, 2}, {5, 3, 7, 3, 2},
+static const belfry_row table[] = {{5, 1, 11, 1, 1}, {5, 2, 10, 2, 2},    {5, 3, 7, 3, 2},
                                    {5, 4, 6, 4, 3},  {5, 5, 5, 5, 65536}, {5, 8, 9, 3, 3}};
 static const belfry_entry entries[] = {{2, 4}, {3, 0}, {9, 2}};
-static const belfry_node stored[] = {{5, 2, 30, 2}, {5, 3, 7, 3},   {5, 9, 20, 3},
+static const belfry_node stored[] = {{5, 2, 30, 2},  {5, 3, 7, 3}, {5, 9, 20, 3},
                                      {5, 10, 15, 4}, {5, 4, 6, 4}, {5, 11, 12, 5}};
 
 /* The same in words. */
@@ -69,7 +69,7 @@ static void check_both(size_t zone_count, size_t sample_count) {
     expect("the part's nodes", BELFRY_NODE_WORDS * part.count, words.words);
 }
 
-/* A page with room for some pairs, in ancestor order. */
+/* Lists a page with room for some pairs, in ancestor order. */
 static void list_both(size_t zone_count, size_t sample_count, size_t room) {
     const belfry_ticket fresh = BELFRY_TICKET(BELFRY_INSIDE, BELFRY_ANCESTOR_ORDER);
     belfry_pair out[ROOM];
@@ -91,8 +91,7 @@ static void number_marks(size_t count, size_t room) {
     belfry_row out[ROOM];
     paint();
     memset(out, PAINT, sizeof out);
-    const belfry_result words =
-        belfry_number(5, marks, count, by_words, BELFRY_ROW_WORDS * room);
+    const belfry_result words = belfry_number(5, marks, count, by_words, BELFRY_ROW_WORDS * room);
     expect_same_result("belfry_number_rows", belfry_number_rows(5, marks, count, out, room), words,
                        out, sizeof out);
 }
@@ -113,8 +112,8 @@ static void pick_tag(size_t count, size_t room) {
     belfry_node out[ROOM];
     paint();
     memset(out, PAINT, sizeof out);
-    const belfry_result words = belfry_pick(table_words, BELFRY_ROW_WORDS * count, 2, by_words,
-                                            BELFRY_NODE_WORDS * room);
+    const belfry_result words =
+        belfry_pick(table_words, BELFRY_ROW_WORDS * count, 2, by_words, BELFRY_NODE_WORDS * room);
     expect_same_result("belfry_pick_nodes", belfry_pick_nodes(table, count, 2, out, room), words,
                        out, sizeof out);
 }
@@ -123,8 +122,8 @@ static void link_samples(size_t count, size_t room) {
     belfry_link out[ROOM];
     paint();
     memset(out, PAINT, sizeof out);
-    const belfry_result words = belfry_links(sample_words, BELFRY_NODE_WORDS * count, by_words,
-                                             BELFRY_LINK_WORDS * room);
+    const belfry_result words =
+        belfry_links(sample_words, BELFRY_NODE_WORDS * count, by_words, BELFRY_LINK_WORDS * room);
     expect_same_result("belfry_link_nodes", belfry_link_nodes(samples, count, out, room), words,
                        out, sizeof out);
 }
@@ -179,7 +178,7 @@ static void read_book(void) {
     expect_output(out, sizeof out, stored, 0);
 }
 
-/* Each number of zones with each of samples. */
+/* Tries each number of zones with each of samples. */
 static void try_lists(void) {
     for (size_t i = 0; i < (COUNT(zones) + 1) * (COUNT(samples) + 1); i++) {
         const size_t zone_count = i % (COUNT(zones) + 1), sample_count = i / (COUNT(zones) + 1);
@@ -190,7 +189,7 @@ static void try_lists(void) {
     }
 }
 
-/* Each number of marks, rows and nodes, with enough room and with too little. */
+/* Tries each number of marks, rows and nodes, with enough room and with too little. */
 static void try_counts(void) {
     for (size_t count = 0; count <= COUNT(marks); count++) {
         number_marks(count, ROOM);
@@ -204,7 +203,7 @@ static void try_counts(void) {
     }
 }
 
-/* Each number of entries with each of nodes, with enough room and with a byte less. */
+/* Tries each number of entries with each of nodes, with enough room and with a byte less. */
 static void try_books(void) {
     uint8_t book[BELFRY_BOOK_BYTES(COUNT(entries), COUNT(stored))];
     for (size_t i = 0; i < (COUNT(entries) + 1) * (COUNT(stored) + 1); i++) {

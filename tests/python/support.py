@@ -1,4 +1,4 @@
-"""What the tests share: the scope's figures, random lists, and a naive model of its words."""
+"""What the tests share: the scope's figures, random lists, and the naive model of tests/oracles."""
 import os
 import subprocess
 import sys
@@ -8,9 +8,10 @@ from pathlib import Path
 
 ROOT = Path(__file__).resolve().parents[2]
 PYTHON = ROOT / "bindings" / "python"
-sys.path[:0] = [str(PYTHON), str(ROOT / "examples")]
+sys.path[:0] = [str(PYTHON), str(ROOT / "tests" / "oracles"), str(ROOT / "examples")]
 
-import make_books as model  # noqa: E402
+import figure_books  # noqa: E402
+import scope as model  # noqa: E402
 from belfrychest import NONE, TEXT, Answer, Order, Relation, Ticket, Verdict  # noqa: E402
 
 LISTINGS = [{"relation": relation, "order": order} for relation in Relation for order in Order]
@@ -32,7 +33,7 @@ def words(nodes):
 
 
 def in_five(*nodes):
-    """The list of nodes of document 5, given as (start, end, level)."""
+    """Returns the list of nodes of document 5, given as (start, end, level)."""
     return words((5, *node) for node in nodes)
 
 
@@ -45,7 +46,7 @@ def starts(pairs):
 
 
 def ticket(*numbers):
-    """The ticket of some words; those that aren't given are 0."""
+    """Returns the ticket of some words; those that aren't given are 0."""
     return Ticket.from_words(numbers + (0,) * (6 - len(numbers)))
 
 
@@ -57,87 +58,24 @@ TABLE = words([
 Z = in_five((2, 10, 2), (3, 7, 3))
 S = in_five((4, 6, 4), (8, 9, 3))
 ENTRIES = array("I", [2, 2, 3, 2])
-BOOK = model.FIGURE
+BOOK = figure_books.FIGURE
 INSIDE = Ticket.fresh(relation=Relation.INSIDE, order=Order.DESCENDANT)
 
 
-# What examples/make_books.py has not: listings, numbering and links, naively.
+# The model of tests/oracles, in the binding's terms.
 
 def key(pair, order):
-    (document, ancestor, *_), (_, descendant, *_) = pair
-    ancestor_first = order == Order.ANCESTOR
-    return (document, *((ancestor, descendant) if ancestor_first else (descendant, ancestor)))
+    return model.key(pair, order.name.lower())
 
 
 def listing(ancestors, descendants, relation, order):
-    related = [
-        (x, y) for x in ancestors for y in descendants
-        if model.inside(y, x) and (relation == Relation.INSIDE or y[3] == x[3] + 1)
-    ]
-    return sorted(related, key=lambda pair: key(pair, order))
+    return model.listing(ancestors, descendants, relation.name.lower(), order.name.lower())
 
 
 def two_lists(ancestors, descendants):
-    for number, nodes in enumerate((ancestors, descendants)):
-        answer, index = model.check_list(nodes)
-        if answer != "TAKEN":
-            return Verdict(Answer[answer], number, index)
-    joint = any(model.odds(x, y) for x in ancestors for y in descendants)
-    return Verdict(Answer.JOINT if joint else Answer.TAKEN)
-
-
-def mark_fault(mark, begun, depth):
-    if mark > 65536:
-        return "MARK"
-    if depth == 0 and (mark == 0 or mark == 65536 or begun):
-        return "STRAY"
-    return "DEEP" if mark > 0 and depth == 64 else None
-
-
-def numbered(document, marks):
-    rows, opened = [], []
-    for position, mark in enumerate(marks, 1):
-        fault = mark_fault(mark, bool(rows), len(opened))
-        if fault:
-            return fault, []
-        if mark == 0:
-            rows[opened.pop()][2] = position
-            continue
-        rows.append([document, position, position, len(opened) + 1, mark])
-        if mark < 65536:
-            opened.append(len(rows) - 1)
-    return ("UNCLOSED", []) if opened or not rows else ("TAKEN", [tuple(row) for row in rows])
-
-
-def unnumbered(rows):
-    """The only marks that could have this table are tried."""
-    length = rows[0][2] if rows else 0
-    if length > 4096 or any(not 1 <= row[1] <= length for row in rows):
-        return "TABLE", []
-    marks = [0] * length
-    for row in rows:
-        marks[row[1] - 1] = row[4]
-    same = numbered(rows[0][0] if rows else 0, marks) == ("TAKEN", rows)
-    return ("TAKEN", marks) if same else ("TABLE", [])
-
-
-def parent(nodes, index):
-    around = (j for j, x in enumerate(nodes) if model.inside(nodes[index], x))
-    return max(around, key=lambda j: nodes[j][3], default=NONE)
-
-
-def forest(nodes):
-    everyone = range(len(nodes))
-    parents = [parent(nodes, i) for i in everyone]
-
-    def sibling(i, j):
-        return j > i and parents[j] == parents[i] and nodes[j][0] == nodes[i][0]
-
-    return [
-        (parents[i], min((j for j in everyone if parents[j] == i), default=NONE),
-         min((j for j in everyone if sibling(i, j)), default=NONE))
-        for i in everyone
-    ]
+    answer, number, index = model.check_two(words(ancestors), words(descendants))
+    placed = Answer.LEVEL <= Answer[answer] <= Answer.DEPTH
+    return Verdict(Answer[answer], *((number, index) if placed else ()))
 
 
 # Random marks and lists.
@@ -152,8 +90,8 @@ def random_marks(rng, length):
 
 
 def random_tree(rng, length=10, documents=(5, 6)):
-    """The nodes of some documents, as (document, start, end, level)."""
-    tables = (numbered(document, random_marks(rng, rng.randint(0, length)))[1]
+    """Returns the nodes of some documents, as (document, start, end, level)."""
+    tables = (model.number(document, random_marks(rng, rng.randint(0, length)))[1]
               for document in documents)
     return [row[:4] for table in tables for row in table]
 
@@ -163,7 +101,7 @@ def some_of(rng, nodes):
 
 
 def damaged(rng, nodes):
-    """Half of the time one number of one node is another one."""
+    """Returns the nodes, half of the time with one number of one node changed."""
     made = [list(node) for node in nodes]
     if made and rng.random() < 0.5:
         other = rng.choice((0, 1, 2, 3, 5, 6, 7, 64, 65, NONE))
@@ -172,6 +110,6 @@ def damaged(rng, nodes):
 
 
 def tuples(out, count):
-    """The first pairs of an output, as two tuples each."""
+    """Returns the first pairs of an output, as two tuples each."""
     ends = range(8, 8 * count + 8, 8)
     return [(tuple(out[end - 8:end - 4]), tuple(out[end - 4:end])) for end in ends]

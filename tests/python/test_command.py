@@ -20,7 +20,8 @@ from unittest import mock
 from xml.etree import ElementTree
 
 from support import (
-    LISTINGS, ROOT, damaged, listing, model, random_tree, some_of, start_python, two_lists,
+    LISTINGS, ROOT, damaged, figure_books, listing, model, random_tree, some_of, start_python,
+    two_lists,
 )
 
 from belfrychest import HINTS, Answer, Order, Relation, __version__, _command
@@ -75,7 +76,7 @@ def in_document(*nodes):
 # Where a fault is, naively.
 
 def naive_partner(nodes, index, answer):
-    """The last earlier node that the faulty one is at odds with."""
+    """Returns the last earlier node that the faulty one is at odds with."""
     at, earlier = nodes[index], list(enumerate(nodes[:index]))
     if answer == Answer.ORDER:
         return index - 1
@@ -88,7 +89,7 @@ def naive_partner(nodes, index, answer):
 
 
 def naive_spots(zones, samples):
-    """The faulty node and its partner, each as (list, index)."""
+    """Returns the faulty node and its partner, each as (list, index)."""
     verdict = two_lists(zones, samples)
     if verdict.answer == Answer.JOINT:
         at_odds = [(s, z) for s, sample in enumerate(samples) for z, zone in enumerate(zones)
@@ -103,14 +104,16 @@ def naive_spots(zones, samples):
 
 
 def naive_row_fault(entries):
-    """The byte of the first tag that doesn't ascend, or of the first count that is too great."""
+    """Returns the byte of the first tag that doesn't ascend, or of the first count that is too
+    great.
+    """
     places = [4 + 12 * k for k, (tag, _, _) in enumerate(entries) if k and tag <= entries[k - 1][0]]
     places += [12 + 12 * k for k, (_, _, count) in enumerate(entries) if count > 4096]
     return min(places, default=None)
 
 
 def naive_byte(book):
-    """The byte at which a book's contents are wrong."""
+    """Returns the byte at which a book's contents are wrong."""
     lists = int.from_bytes(book[:4], "little")
     if len(book) < 4 or lists > 16:
         return len(book) if len(book) < 4 else 0
@@ -127,9 +130,9 @@ def naive_byte(book):
 
 
 def stored_answers():
-    """For each of the figures' books the numbers that it must draw: the answer of reading it with
-    its list and index, and that of joining its first two lists, which the program prints but for
-    books that are too long for it.
+    """Returns for each of the figures' books the numbers that it must draw. They are the answer of
+    reading it, its list and its index, and the answer of joining its first two lists. The program
+    prints the latter, unless the book is too long for it.
     """
     found, name = {}, None
     for line in (FIGURES / "stdout").read_text().splitlines():
@@ -226,7 +229,7 @@ class Places(unittest.TestCase):
         })
 
     def test_contents_with_one_byte_changed(self):
-        whole = model.book((2, model.Z), (300, []), (301, model.S))
+        whole = model.book((2, figure_books.Z), (300, []), (301, figure_books.S))
         changes = [(place, whole[place] ^ flip) for place in range(40) for flip in (1, 255)]
         refused = 0
         for place, byte in changes:
@@ -239,7 +242,7 @@ class Places(unittest.TestCase):
         self.assertGreater(refused, 60)
 
     def test_contents_cut_at_every_byte(self):
-        whole = model.book((2, model.Z), (300, []), (301, model.S))
+        whole = model.book((2, figure_books.Z), (300, []), (301, figure_books.S))
         for size in range(len(whole)):
             fault = look_into(whole[:size]).fault
             self.assertTrue(fault.text.startswith(f"byte {size}: "), fault.text)
@@ -248,7 +251,7 @@ class Places(unittest.TestCase):
 
 class Show(unittest.TestCase):
     def test_a_taken_book(self):
-        self.assertEqual(run("show", "-", data=model.FIGURE), (0, (
+        self.assertEqual(run("show", "-", data=figure_books.FIGURE), (0, (
             "standard input: 92 bytes\n"
             "list 0: tag 2, 2 nodes from byte 28\n"
             "list 1: tag 3, 2 nodes from byte 60\n"
@@ -299,7 +302,7 @@ class Show(unittest.TestCase):
 
 
 def panels(svg):
-    """The nodes of each panel: class, title, left, top, right, bottom and label."""
+    """Returns the nodes of each panel: class, title, left, top, right, bottom and label."""
     found = []
     for block in ElementTree.fromstring(svg).findall(f"{SVG}g"):
         groups = block.findall(f"{SVG}g")
@@ -436,7 +439,7 @@ class Picture(unittest.TestCase):
         self.assertIn(">nodes: list 2, tag 4<", svg)
 
     def test_names_are_escaped(self):
-        look = look_at(model.FIGURE)
+        look = look_at(figure_books.FIGURE)
         svg = picture("a&b<c>\"'.book", look, 5)
         title = ElementTree.fromstring(svg).find(f"{SVG}title").text
         self.assertEqual(title, "a&b<c>\"'.book, document 5: 0 TAKEN")
@@ -455,7 +458,7 @@ class Picture(unittest.TestCase):
         self.assertEqual((without.status, without.out), (_command.USAGE, ""))
 
     def test_refused_contents_have_no_picture(self):
-        result = run("show", "-", "--svg", "-", data=model.FIGURE[:-1])
+        result = run("show", "-", "--svg", "-", data=figure_books.FIGURE[:-1])
         self.assertEqual((result.status, result.out), (Answer.CONTENTS, ""))
 
 
@@ -487,7 +490,7 @@ class Listings(unittest.TestCase):
         self.assertEqual(run("list", "-", "--document", 103, data=FARM).out, "pairs 0\n")
         of_texts = run("list", "-", "--ancestors", 3, "--descendants", 65536, data=FARM)
         self.assertEqual(of_texts.out.splitlines()[-1], "pairs 14")
-        with_itself = run("list", "-", "--descendants", 2, data=model.FIGURE)
+        with_itself = run("list", "-", "--descendants", 2, data=figure_books.FIGURE)
         self.assertEqual(with_itself.out, "5 2 3\npairs 1\n")
         absent = run("list", "-", "--document", 7, data=FARM)
         self.assertEqual((absent.status, absent.out), (_command.USAGE, ""))
@@ -499,7 +502,7 @@ class Listings(unittest.TestCase):
         self.assertIn("index 6 at byte 268, with list 0 (tag 2) index 6 at byte 124. ", result.err)
 
     def test_more_than_a_page(self):
-        book = model.book((2, model.nest(60)), (3, model.points(100)))
+        book = model.book((2, figure_books.nest(60)), (3, figure_books.points(100)))
         result = run("list", "-", data=book)
         self.assertEqual(result.out.splitlines()[-1], "pairs 6000")
         self.assertEqual(len(set(result.out.splitlines())), 6001)
@@ -512,7 +515,7 @@ class WithFiles(unittest.TestCase):
         self.folder = Path(folder.name)
 
     def path(self, name, data=None):
-        """The path of a file, which is written if there is data."""
+        """Returns the path of a file, which is written if there is data."""
         path = self.folder / name
         if data is not None:
             path.write_bytes(data)
@@ -554,7 +557,7 @@ class Csv(WithFiles):
         self.assertEqual(set(self.folder.iterdir()), {book, table})
 
     def test_lists_without_nodes_and_books_without_lists(self):
-        book = model.book((0, []), (2, model.Z), (4294967295, []))
+        book = model.book((0, []), (2, figure_books.Z), (4294967295, []))
         text = "tag,document,start,end,level\n0,,,,\n2,5,2,10,2\n2,5,3,7,3\n4294967295,,,,\n"
         self.assertEqual(run("unpack", "-", "-", data=book).out, text)
         self.assertEqual(run("unpack", "-", "-", data=model.book()).out, text.splitlines(True)[0])
@@ -564,7 +567,7 @@ class Csv(WithFiles):
                 "\"3\",5,008,9,3\r\n2,5,3,7,3\r\n")
         book = self.path("figure.book")
         self.assertEqual(run("pack", "-", book, data=text.encode()), (0, "", ""))
-        self.assertEqual(book.read_bytes(), model.FIGURE)
+        self.assertEqual(book.read_bytes(), figure_books.FIGURE)
 
     def test_cells_that_are_no_numbers(self):
         columns = {"tag": 1, "document": 2, "start": 3, "end": 4, "level": 5}
@@ -606,7 +609,7 @@ class Csv(WithFiles):
             header + b"2,5,2,10,2\n2,5,3,7,3,1\n": ":3: the line has 6 cells",
             header + b"2,5,2,\"10,2\n": ":2: this is no CSV",
             header + b"2,5,2,10,2\n\xff": ":3: byte 40 of the file isn't UTF-8",
-            model.FIGURE: ":1: ",
+            figure_books.FIGURE: ":1: ",
         }
         for data, place in cases.items():
             table = self.path("a.csv", data)
@@ -636,7 +639,7 @@ class Csv(WithFiles):
         self.assertIn(":4099: refused 15 CONTENTS, tag 3 has 4097 nodes. ", err)
 
     def test_a_refused_book_is_unpacked_and_repaired(self):
-        book = model.book((1, []), (2, model.Z), (3, in_document((4, 6, 4), (6, 9, 5))))
+        book = model.book((1, []), (2, figure_books.Z), (3, in_document((4, 6, 4), (6, 9, 5))))
         table = self.path("broken.csv")
         result = run("unpack", "-", table, data=book)
         self.assertEqual((result.status, result.out), (Answer.CROSS, ""))
@@ -650,7 +653,7 @@ class Csv(WithFiles):
         self.assertEqual(result.out, "5 2 4\n5 3 4\n5 2 8\npairs 3\n")
 
     def test_a_book_whose_lists_cant_be_joined_is_unpacked_and_repaired(self):
-        book = model.book((2, model.Z), (3, in_document((4, 6, 4), (8, 11, 3))), (4, []))
+        book = model.book((2, figure_books.Z), (3, in_document((4, 6, 4), (8, 11, 3))), (4, []))
         table = self.path("broken.csv")
         result = run("unpack", "-", table, data=book)
         self.assertEqual((result.status, result.out), (Answer.JOINT, ""))
@@ -663,7 +666,7 @@ class Csv(WithFiles):
         self.assertEqual(run("check", self.path("good.book")).status, Answer.TAKEN)
 
     def test_a_node_that_is_wrong_by_itself_has_one_line(self):
-        book = model.book((2, model.Z), (3, in_document((4, 6, 65))))
+        book = model.book((2, figure_books.Z), (3, in_document((4, 6, 65))))
         result = run("unpack", "-", "-", data=book)
         self.assertEqual((result.status, result.out.splitlines()[3]), (Answer.LEVEL, "3,5,4,6,65"))
         self.assertIn(" index 0 at byte 60, line 4 of the CSV. ", result.err)
@@ -796,7 +799,7 @@ class Usage(unittest.TestCase):
 
 
 class Progress(unittest.TestCase):
-    BOOK = model.book((2, model.nest(60)), (3, model.points(100)))
+    BOOK = model.book((2, figure_books.nest(60)), (3, figure_books.points(100)))
 
     def test_long_work_is_told_on_a_terminal_and_erased(self):
         table = run("unpack", "-", "-", data=self.BOOK).out.encode()

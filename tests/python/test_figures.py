@@ -4,8 +4,8 @@ import unittest
 from array import array
 
 from support import (
-    BOOK, ENTRIES, INSIDE, LISTINGS, MARKS, S, TABLE, Z, in_five, model, painted, starts, ticket,
-    words,
+    BOOK, ENTRIES, INSIDE, LISTINGS, MARKS, S, TABLE, Z, figure_books, in_five, model, painted,
+    starts, ticket, words,
 )
 
 import belfrychest as belfry
@@ -70,7 +70,7 @@ class Figures(unittest.TestCase):
                 self.assertEqual(found, Verdict(answer, second, index))
 
     def test_a_list_of_the_greatest_length(self):
-        most = memoryview(words(model.siblings(belfry.MOST, 2)))
+        most = memoryview(words(figure_books.siblings(belfry.MOST, 2)))
         self.assertIsNone(belfry.check(most))
         self.assertIsNone(belfry.check_two(most, most))
         self.assertEqual(len(belfry.links(most)), 3 * belfry.MOST)
@@ -113,7 +113,7 @@ LEVELS = in_five((4, 6, 4), (8, 9, 0))
 SPANS = in_five((2, 10, 2), (3, 1, 3))
 CROSSED = in_five((1, 5, 1), (5, 7, 2))
 TOO_DEEP = in_five((1, 9, 3), (2, 3, 3))
-LONG = words(model.siblings(4097, 0))
+LONG = words(figure_books.siblings(4097, 0))
 REFUSALS = [
     (lambda: belfry.check(array("I", bytes(4 * 16385))), Answer.RAGGED, None, None),
     (lambda: belfry.check_two(Z[:3], Z), Answer.RAGGED, 0, None),
@@ -144,9 +144,9 @@ REFUSALS = [
     (lambda: belfry.unnumber(TABLE[1:]), Answer.RAGGED, None, None),
     (lambda: belfry.pick(TABLE[1:], 2), Answer.RAGGED, None, None),
     (lambda: belfry.book_check(BOOK[:-1]), Answer.CONTENTS, None, None),
-    (lambda: belfry.book_check(model.CASES["third-list-faulty"]), Answer.ORDER, 2, 2),
+    (lambda: belfry.book_check(figure_books.CASES["third-list-faulty"]), Answer.ORDER, 2, 2),
     (lambda: belfry.book_body(b"", 2), Answer.CONTENTS, None, None),
-    (lambda: belfry.book_body(model.CASES["span"], 2), Answer.SPAN, 1, 1),
+    (lambda: belfry.book_body(figure_books.CASES["span"], 2), Answer.SPAN, 1, 1),
     (lambda: belfry.book_body(BOOK, 4), Answer.ABSENT, None, None),
     (lambda: belfry.book_write(array("I", [2, 2, 3]), Z), Answer.RAGGED, None, None),
     (lambda: belfry.book_write(array("I", [2, 2, 3, 3]), Z + S), Answer.CONTENTS, None, None),

@@ -72,8 +72,8 @@ class Listings(unittest.TestCase):
         self.assertGreater(sum(stood), 60)
 
     def hold_demand_three(self, rng, nodes, relation, order):
-        """Every pair that stood at each page was handed out, no key came twice, and each pair stood
-        in its own page's lists.
+        """Checks that every pair that stood at each page was handed out, that no key came twice,
+        and that each pair stood in its own page's lists.
         """
         reached, done, stood, handed = Ticket.fresh(relation=relation, order=order), False, None, []
         kept = some_of(rng, nodes)

@@ -8,7 +8,8 @@ from mmap import mmap
 from types import SimpleNamespace
 
 from support import (
-    BOOK, ENTRIES, INSIDE, MARKS, PAINT, S, TABLE, Z, in_five, model, painted, starts, words,
+    BOOK, ENTRIES, INSIDE, MARKS, PAINT, S, TABLE, Z, figure_books, in_five, painted, starts,
+    words,
 )
 
 import belfrychest as belfry
@@ -22,14 +23,14 @@ except ImportError:
 
 
 def mapped(numbers):
-    """The numbers in a mapped file without a name."""
+    """Returns the numbers in a mapped file without a name."""
     file = mmap(-1, 4096)
     file[:4 * len(numbers)] = array("I", numbers).tobytes()
     return memoryview(file)[:4 * len(numbers)].cast("I")
 
 
 def shaped(numbers, *last):
-    """The numbers with a last dimension, or several."""
+    """Returns the numbers with a last dimension, or several."""
     held = bytearray(array("I", numbers).tobytes())
     items = len(numbers)
     for dimension in last:
@@ -38,7 +39,7 @@ def shaped(numbers, *last):
 
 
 def in_rows(numbers):
-    """Empty memory with `numbers` numbers a row."""
+    """Returns empty memory with `numbers` numbers a row."""
     return ((ctypes.c_uint32 * numbers) * 0)()
 
 
@@ -152,7 +153,7 @@ class Memory(unittest.TestCase):
                 self.assertEqual((lent.address, lent.length), expected)
 
     def test_no_call_copies_a_list(self):
-        nodes = words(model.siblings(belfry.MOST, 2))
+        nodes = words(figure_books.siblings(belfry.MOST, 2))
         book = belfry.book_write(array("I", [2, belfry.MOST]), nodes)
         out = painted(8)
         for call in (

@@ -45,14 +45,14 @@ START, END, LEVEL = 1, 2, 3
 
 
 def field_of(zones):
-    """A zone with `zones` zones side by side in it, and a sample in each of those."""
+    """Returns a zone with `zones` zones side by side in it, and a sample in each of those."""
     outer = (5, 1, 10 * zones + 20, 1)
     inner = [(5, 10 * at + 10, 10 * at + 19, 2) for at in range(zones)]
     return words([outer, *inner]), words((5, start + 4, start + 4, 3) for _, start, _, _ in inner)
 
 
 def by_piece(zones, samples):
-    """What "split it" once made users do: the pieces of both lists, one with one."""
+    """Does what "split it" once made users do: joins the pieces of both lists, one with one."""
     step = 4 * belfry.MOST
     ends = range(0, max(len(zones), len(samples)), step)
     return [(zones[at:at + step], samples[at:at + step]) for at in ends]
@@ -76,7 +76,9 @@ class ListsSplitAndJoinedPieceByPiece(unittest.TestCase):
         self.assertEqual(len(cut.meeting()), 4)
 
     def assert_fault(self, expected):
-        """Each piece passes with the piece that it was joined with, and the whole is refused."""
+        """Checks that each piece passes with the piece that it was joined with, and that the whole
+        is refused.
+        """
         for two in by_piece(self.zones, self.samples):
             self.assertEqual(belfry.verdict_two(*two).answer, Answer.TAKEN)
         cut = Pieces(self.zones, self.samples)

@@ -23,7 +23,7 @@ def printed(path):
 
 
 def columns(text):
-    """The numbers of samples, of readings and the rate of each zone."""
+    """Returns the numbers of samples, of readings and the rate of each zone."""
     return [tuple(line.split()[-3:]) for line in text.splitlines()[1:]]
 
 

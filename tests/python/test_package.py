@@ -67,7 +67,7 @@ class Names(unittest.TestCase):
 
 
 def header(wide=2, little=1, machine=62):
-    """The first bytes of an ELF file: an x86-64 one unless another is asked for."""
+    """Returns the first bytes of an ELF file: an x86-64 one unless another is asked for."""
     order = "little" if little == 1 else "big"
     return b"\x7fELF" + bytes([wide, little, 1]) + bytes(9) + (3).to_bytes(2, order) + \
         machine.to_bytes(2, order) + bytes(44)

@@ -21,13 +21,13 @@ DOCUMENTS = ((5,), (5, 6), (5, 6, 7))
 
 
 def two_of(rng, length=12):
-    """Two lists of some nodes of one tree."""
+    """Returns two lists of some nodes of one tree."""
     tree = random_tree(rng, length, rng.choice(DOCUMENTS))
     return some_of(rng, tree), some_of(rng, tree)
 
 
 def random_ticket(rng, relation, order):
-    """A fresh ticket, or one at a place that may stand in the lists."""
+    """Returns a fresh ticket, or one at a place that may stand in the lists."""
     place = (rng.randint(4, 7), rng.randint(0, 16), rng.randint(0, 16))
     return ticket(relation, order, rng.randint(0, 3), *place)
 
@@ -91,7 +91,9 @@ class AgainstTheArchive(unittest.TestCase):
             self.hold_pages(rng, tree, **rng.choice(LISTINGS))
 
     def hold_pages(self, rng, tree, relation, order):
-        """Page after page is that of the archive, while nodes come and go in the lists lent."""
+        """Checks that page after page is that of the archive, while nodes come and go in the lists
+        lent.
+        """
         zones, samples = array("I"), array("I")
         cut = Pieces(zones, samples, _size=rng.randint(1, 4))
         reached, done, stood, handed = Ticket.fresh(relation=relation, order=order), False, None, []

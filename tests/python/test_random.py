@@ -7,8 +7,8 @@ from array import array
 from itertools import chain
 
 from support import (
-    LISTINGS, damaged, forest, listing, model, numbered, random_marks, random_tree, some_of,
-    two_lists, unnumbered, words,
+    LISTINGS, damaged, figure_books, listing, model, random_marks, random_tree, some_of, two_lists,
+    words,
 )
 
 import belfrychest as belfry
@@ -32,7 +32,7 @@ class AgainstTheModel(unittest.TestCase):
                 which = rng.choice(LISTINGS)
                 found = belfry.listing(words(zones), words(samples), **which)
                 self.assertEqual(list(belfry.node_pairs(found)), listing(zones, samples, **which))
-                self.assertEqual(belfry.links(words(zones)), words(forest(zones)))
+                self.assertEqual(belfry.links(words(zones)), words(model.links(zones)))
         self.assertEqual(answers, {Answer.TAKEN} | set(map(Answer, range(3, 9))))
 
     def test_marks(self):
@@ -41,7 +41,7 @@ class AgainstTheModel(unittest.TestCase):
             marks = random_marks(rng, rng.randint(0, 12))
             if rng.random() < 0.5:
                 marks[rng.randrange(len(marks))] = rng.choice((0, 1, 65536, 65537))
-            answer, rows = numbered(7, marks)
+            answer, rows = model.number(7, marks)
             answers.add(answer)
             found = self.answered(belfry.number, 7, array("I", marks))
             self.assertEqual(found, (answer, words(rows)))
@@ -50,11 +50,11 @@ class AgainstTheModel(unittest.TestCase):
     def test_tables(self):
         rng, answers = random.Random(5), set()
         for _ in range(300):
-            rows = [list(row) for row in numbered(7, random_marks(rng, rng.randint(0, 12)))[1]]
+            rows = [list(row) for row in model.number(7, random_marks(rng, rng.randint(0, 12)))[1]]
             if rng.random() < 0.5:
                 rng.choice(rows)[rng.randrange(5)] += rng.choice((1, -1))
             rows = [tuple(row) for row in rows]
-            answer, marks = unnumbered(rows)
+            answer, marks = model.unnumber(rows)
             answers.add(answer)
             expected = (rows[0][0], array("I", marks)) if answer == "TAKEN" else array("I")
             self.assertEqual(self.answered(belfry.unnumber, words(rows)), (answer, expected))
@@ -87,10 +87,7 @@ class AgainstTheModel(unittest.TestCase):
                              [(tag, list(chain.from_iterable(part))) for tag, part in ordered])
 
     def test_damaged_books(self):
-        """Books with some thousand nodes are left out: the model compares each node with each."""
-        for name, book in model.CASES.items():
-            if len(book) > 2000:
-                continue
+        for name, book in figure_books.CASES.items():
             with self.subTest(book=name):
                 answer, number, index, entries = model.read(book)
                 count = len(entries) if answer == "TAKEN" else b""
@@ -102,8 +99,8 @@ class AgainstTheModel(unittest.TestCase):
         return answer, result if answer == "TAKEN" else array("I")
 
     def placed(self, function, *arguments):
-        """The answer's name, list and index, and what the call returned; no bytes where it was
-        refused. The model says 0 where no place is meant.
+        """Returns the answer's name, list and index, and what the call returned, which is no bytes
+        where it was refused. The model says 0 where no place is meant.
         """
         try:
             return "TAKEN", 0, 0, function(*arguments)

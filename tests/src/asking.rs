@@ -10,7 +10,7 @@ use belfrychest::raw;
 /// The verdict of a call that is taken.
 pub const TAKEN: raw::Verdict = raw::Verdict { answer: 0, list: 0, index: 0 };
 
-/// The verdict of the model in the numbers of the C interface.
+/// Returns the verdict of the model in the numbers of the C interface.
 pub fn raw_verdict(verdict: Verdict) -> raw::Verdict {
     raw::Verdict { answer: verdict.answer as u32, list: verdict.list, index: verdict.index }
 }
@@ -27,18 +27,26 @@ pub fn check(list: &[u32]) -> Answer {
 
 pub fn check_two(ancestors: &[u32], descendants: &[u32]) -> Answer {
     let expected = lists::check_two(ancestors, descendants);
-    assert_eq!(raw::check_two(ancestors, descendants), raw_verdict(expected), "given and expected: check of {ancestors:?} and {descendants:?}");
+    assert_eq!(
+        raw::check_two(ancestors, descendants),
+        raw_verdict(expected),
+        "given and expected: check of {ancestors:?} and {descendants:?}"
+    );
     expected.answer
 }
 
 pub fn faulty(ancestors: &[u32], descendants: &[u32]) -> Answer {
     let lists::Part { verdict, from, words } = lists::faulty(ancestors, descendants);
     let expected = raw::Part { verdict: raw_verdict(verdict), from, words };
-    assert_eq!(raw::faulty(ancestors, descendants), expected, "given and expected: faulty part of {ancestors:?} and {descendants:?}");
+    assert_eq!(
+        raw::faulty(ancestors, descendants),
+        expected,
+        "given and expected: faulty part of {ancestors:?} and {descendants:?}"
+    );
     verdict.answer
 }
 
-/// What the words of a ticket mean.
+/// Returns what the words of a ticket mean.
 pub fn meaning(ticket: &raw::Ticket) -> Ticket {
     Ticket {
         relation: if ticket.relation == 0 { Relation::Inside } else { Relation::Directly },
@@ -47,26 +55,43 @@ pub fn meaning(ticket: &raw::Ticket) -> Ticket {
     }
 }
 
-/// The ticket that comes back from this page: as it was, with another place if something was written.
+/// Returns the ticket that comes back from this page: as it was, or with another place if something
+/// was written.
 fn ticket_after(ticket: raw::Ticket, page: &pages::Page) -> raw::Ticket {
     match page.place {
-        Some([document, first, second]) if !page.pairs.is_empty() => raw::Ticket { placed: 1, document, first, second, ..ticket },
+        Some([document, first, second]) if !page.pairs.is_empty() => {
+            raw::Ticket { placed: 1, document, first, second, ..ticket }
+        }
         _ => ticket,
     }
 }
 
-pub fn list(ancestors: &[u32], descendants: &[u32], ticket: raw::Ticket, out: &mut [u32]) -> Answer {
+pub fn list(
+    ancestors: &[u32],
+    descendants: &[u32],
+    ticket: raw::Ticket,
+    out: &mut [u32],
+) -> Answer {
     let page = pages::page(ancestors, descendants, &meaning(&ticket), out.len());
     let words = page.pairs.iter().map(pages::Pair::words).collect::<Vec<_>>().concat();
     let after = ticket_after(ticket, &page);
-    let expected = raw::Page { verdict: raw_verdict(page.verdict), done: page.done.into(), count: page.pairs.len(), ticket: after };
-    hold(&("page", ancestors, descendants, ticket), out, &words, expected, |out| raw::list(ancestors, descendants, ticket, out));
+    let expected = raw::Page {
+        verdict: raw_verdict(page.verdict),
+        done: page.done.into(),
+        count: page.pairs.len(),
+        ticket: after,
+    };
+    hold(&("page", ancestors, descendants, ticket), out, &words, expected, |out| {
+        raw::list(ancestors, descendants, ticket, out)
+    });
     page.verdict.answer
 }
 
 pub fn number(document: u32, marks: &[u32], out: &mut [u32]) -> Answer {
     let expected = marks::number(document, marks, out.len());
-    hold(&("number", document, marks), out, &expected.words, raw_written(&expected), |out| raw::number(document, marks, out));
+    hold(&("number", document, marks), out, &expected.words, raw_written(&expected), |out| {
+        raw::number(document, marks, out)
+    });
     expected.verdict.answer
 }
 
@@ -79,13 +104,17 @@ pub fn unnumber(table: &[u32], out: &mut [u32]) -> Answer {
 
 pub fn pick(table: &[u32], tag: u32, out: &mut [u32]) -> Answer {
     let expected = marks::pick(table, tag, out.len());
-    hold(&("pick", table, tag), out, &expected.words, raw_written(&expected), |out| raw::pick(table, tag, out));
+    hold(&("pick", table, tag), out, &expected.words, raw_written(&expected), |out| {
+        raw::pick(table, tag, out)
+    });
     expected.verdict.answer
 }
 
 pub fn links(list: &[u32], out: &mut [u32]) -> Answer {
     let expected = links::links(list, out.len());
-    hold(&("links", list), out, &expected.words, raw_written(&expected), |out| raw::links(list, out));
+    hold(&("links", list), out, &expected.words, raw_written(&expected), |out| {
+        raw::links(list, out)
+    });
     expected.verdict.answer
 }
 
@@ -99,21 +128,29 @@ pub fn book_check(book: &[u8]) -> Answer {
 pub fn book_body(book: &[u8], tag: u32) -> Answer {
     let books::Body { verdict, from, bytes } = books::body(book, tag);
     let expected = raw::Body { verdict: raw_verdict(verdict), from, bytes };
-    assert_eq!(raw::book_body(book, tag), expected, "given and expected: tag {tag} in the book {book:?}");
+    assert_eq!(
+        raw::book_body(book, tag),
+        expected,
+        "given and expected: tag {tag} in the book {book:?}"
+    );
     verdict.answer
 }
 
 pub fn book_write(entries: &[u32], nodes: &[u32], out: &mut [u8]) -> Answer {
     let expected = books::write(entries, nodes, out.len());
-    hold(&("write", entries, nodes), out, &expected.words, raw_written(&expected), |out| raw::book_write(entries, nodes, out));
+    hold(&("write", entries, nodes), out, &expected.words, raw_written(&expected), |out| {
+        raw::book_write(entries, nodes, out)
+    });
     expected.verdict.answer
 }
 
-/// The output holds a name's bytes at least.
+/// Checks the name of a number. The output has room for a name's bytes at least.
 pub fn name(number: u32, out: &mut [u8]) {
     extern "C" {
         fn belfry_name(answer: u32, out: *mut u8);
     }
     assert_eq!(raw::name(number), row(number), "given and expected: name of {number}");
-    hold(&("name", number), out, &row(number), (), |out| unsafe { belfry_name(number, out.as_mut_ptr()) });
+    hold(&("name", number), out, &row(number), (), |out| unsafe {
+        belfry_name(number, out.as_mut_ptr())
+    });
 }

@@ -1,4 +1,5 @@
-//! Each function of the C interface with a random case of it: what it is asked is made, lent where the ground says, and held against the model.
+//! Each function of the C interface with a random case of it: what it is asked is made, lent where
+//! the ground says, and held against the model.
 
 use crate::asking;
 use crate::ground::Ground;
@@ -21,7 +22,7 @@ pub struct Function {
 }
 
 impl Function {
-    /// Runs so many cases, and fails unless each answer came that the function can give.
+    /// Runs `cases` cases, and fails unless each answer came that the function can give.
     pub fn hold(&self, first_seed: u64, cases: u64, ground: Ground) {
         let mut tally = Tally::default();
         each_case(first_seed, cases, |random| tally.count((self.case)(random, ground)));
@@ -29,7 +30,8 @@ impl Function {
     }
 }
 
-pub const CHECK: Function = Function { case: check, answers: &[Taken, Ragged, Long, Level, Span, Order, Cross, Depth] };
+pub const CHECK: Function =
+    Function { case: check, answers: &[Taken, Ragged, Long, Level, Span, Order, Cross, Depth] };
 
 fn check(random: &mut Random, ground: Ground) -> Answer {
     let list = ground.lend(&lists::list(random));
@@ -59,10 +61,16 @@ fn list(random: &mut Random, ground: Ground) -> Answer {
     let ticket = tickets::made_up(random, &ancestors, &descendants);
     let pairs = pairs(asking::meaning(&ticket).relation, &nodes(&ancestors), &nodes(&descendants));
     let words = random.around(pairs.len() * PAIR_WORDS);
-    asking::list(&ground.lend(&ancestors), &ground.lend(&descendants), ticket, &mut ground.room(words))
+    asking::list(
+        &ground.lend(&ancestors),
+        &ground.lend(&descendants),
+        ticket,
+        &mut ground.room(words),
+    )
 }
 
-pub const NUMBER: Function = Function { case: number, answers: &[Taken, Long, Room, Mark, Stray, Deep, Unclosed] };
+pub const NUMBER: Function =
+    Function { case: number, answers: &[Taken, Long, Room, Mark, Stray, Deep, Unclosed] };
 
 fn number(random: &mut Random, ground: Ground) -> Answer {
     let (document, marks) = (random.word(), marks::marks(random));
@@ -70,7 +78,8 @@ fn number(random: &mut Random, ground: Ground) -> Answer {
     asking::number(document, &ground.lend(&marks), &mut ground.room(random.around(needed)))
 }
 
-pub const UNNUMBER: Function = Function { case: unnumber, answers: &[Taken, Ragged, Long, Room, Table] };
+pub const UNNUMBER: Function =
+    Function { case: unnumber, answers: &[Taken, Ragged, Long, Room, Table] };
 
 fn unnumber(random: &mut Random, ground: Ground) -> Answer {
     let table = marks::table(random);
@@ -83,11 +92,15 @@ pub const PICK: Function = Function { case: pick, answers: &[Taken, Ragged, Long
 fn pick(random: &mut Random, ground: Ground) -> Answer {
     let table = marks::table(random);
     let tag = marks::tag(random, &table);
-    let needed = NODE_WORDS * table.chunks_exact(ROW_WORDS).filter(|row| row[NODE_WORDS] == tag).count();
+    let needed =
+        NODE_WORDS * table.chunks_exact(ROW_WORDS).filter(|row| row[NODE_WORDS] == tag).count();
     asking::pick(&ground.lend(&table), tag, &mut ground.room(random.around(needed)))
 }
 
-pub const LINKS: Function = Function { case: links, answers: &[Taken, Ragged, Long, Level, Span, Order, Cross, Depth, Room] };
+pub const LINKS: Function = Function {
+    case: links,
+    answers: &[Taken, Ragged, Long, Level, Span, Order, Cross, Depth, Room],
+};
 
 fn links(random: &mut Random, ground: Ground) -> Answer {
     let list = lists::list(random);
@@ -95,13 +108,17 @@ fn links(random: &mut Random, ground: Ground) -> Answer {
     asking::links(&ground.lend(&list), &mut ground.room(random.around(needed)))
 }
 
-pub const BOOK_CHECK: Function = Function { case: book_check, answers: &[Taken, Level, Span, Order, Cross, Depth, Contents] };
+pub const BOOK_CHECK: Function =
+    Function { case: book_check, answers: &[Taken, Level, Span, Order, Cross, Depth, Contents] };
 
 fn book_check(random: &mut Random, ground: Ground) -> Answer {
     asking::book_check(&ground.lend(&books::book(random)))
 }
 
-pub const BOOK_BODY: Function = Function { case: book_body, answers: &[Taken, Level, Span, Order, Cross, Depth, Contents, Absent] };
+pub const BOOK_BODY: Function = Function {
+    case: book_body,
+    answers: &[Taken, Level, Span, Order, Cross, Depth, Contents, Absent],
+};
 
 fn book_body(random: &mut Random, ground: Ground) -> Answer {
     let book = books::book(random);
@@ -109,15 +126,23 @@ fn book_body(random: &mut Random, ground: Ground) -> Answer {
     asking::book_body(&ground.lend(&book), tag)
 }
 
-pub const BOOK_WRITE: Function = Function { case: book_write, answers: &[Taken, Ragged, Level, Span, Order, Cross, Depth, Room, Contents] };
+pub const BOOK_WRITE: Function = Function {
+    case: book_write,
+    answers: &[Taken, Ragged, Level, Span, Order, Cross, Depth, Room, Contents],
+};
 
 fn book_write(random: &mut Random, ground: Ground) -> Answer {
     let (entries, nodes) = books::wanted(random);
     let needed = contents_end(entries.len() / WANTED_WORDS) + NUMBER_BYTES * nodes.len();
-    asking::book_write(&ground.lend(&entries), &ground.lend(&nodes), &mut ground.room(random.around(needed.min(MOST))))
+    asking::book_write(
+        &ground.lend(&entries),
+        &ground.lend(&nodes),
+        &mut ground.room(random.around(needed.min(MOST))),
+    )
 }
 
-/// Names of numbers that have one and of numbers that have none. The output is a name's bytes long, or longer.
+/// Checks names of numbers that have one and of numbers that have none. The output is a name's
+/// bytes long, or longer.
 pub fn name(random: &mut Random, ground: Ground) {
     let number = if random.one_in(2) { random.small(20) } else { random.word() };
     asking::name(number, &mut ground.room(NAME_BYTES + 4 * random.below(2)));

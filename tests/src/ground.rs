@@ -1,4 +1,5 @@
-//! Where the buffers of a call lie: anywhere, or right beside memory that nobody may touch, so that a word too far ends the process.
+//! Where the buffers of a call lie: anywhere, or right beside memory that nobody may touch, so that
+//! a word too far ends the process.
 
 use crate::paint::Word;
 use std::mem::size_of;
@@ -11,12 +12,12 @@ pub enum Ground {
     Heap,
     /// The buffer's last word is the last before the guard.
     BeforeGuard,
-    /// The buffer's first word is the first behind the guard.
+    /// The buffer's first word is the first after the guard.
     AfterGuard,
 }
 
 impl Ground {
-    /// A copy of the words there. Beside a guard it can't be written.
+    /// Returns a copy of the words there. Beside a guard it can't be written.
     pub fn lend<T: Word>(self, words: &[T]) -> Lent<T> {
         match self {
             Ground::Heap => Lent::Heap(words.to_vec()),
@@ -29,7 +30,7 @@ impl Ground {
         }
     }
 
-    /// An output of so many words there.
+    /// Returns an output of `count` words there.
     pub fn room<T: Word>(self, count: usize) -> Lent<T> {
         match self {
             Ground::Heap => Lent::Heap(vec![T::default(); count]),
@@ -50,7 +51,9 @@ impl<T> Deref for Lent<T> {
     fn deref(&self) -> &[T] {
         match self {
             Lent::Heap(words) => words,
-            Lent::Guarded(guarded) => unsafe { slice::from_raw_parts(guarded.first, guarded.count) },
+            Lent::Guarded(guarded) => unsafe {
+                slice::from_raw_parts(guarded.first, guarded.count)
+            },
         }
     }
 }
@@ -59,7 +62,9 @@ impl<T> DerefMut for Lent<T> {
     fn deref_mut(&mut self) -> &mut [T] {
         match self {
             Lent::Heap(words) => words,
-            Lent::Guarded(guarded) => unsafe { slice::from_raw_parts_mut(guarded.first, guarded.count) },
+            Lent::Guarded(guarded) => unsafe {
+                slice::from_raw_parts_mut(guarded.first, guarded.count)
+            },
         }
     }
 }
@@ -73,7 +78,14 @@ const PRIVATE_AND_ANONYMOUS: i32 = 0x22;
 const GUARD: usize = 1 << 16;
 
 extern "C" {
-    fn mmap(address: *mut u8, bytes: usize, protection: i32, flags: i32, file: i32, offset: i64) -> *mut u8;
+    fn mmap(
+        address: *mut u8,
+        bytes: usize,
+        protection: i32,
+        flags: i32,
+        file: i32,
+        offset: i64,
+    ) -> *mut u8;
     fn mprotect(address: *mut u8, bytes: usize, protection: i32) -> i32;
     fn munmap(address: *mut u8, bytes: usize) -> i32;
 }
@@ -90,7 +102,8 @@ impl<T> Guarded<T> {
     fn new(count: usize, ground: Ground) -> Guarded<T> {
         let bytes = count * size_of::<T>();
         let between = (bytes / GUARD + 1) * GUARD;
-        let base = unsafe { mmap(null_mut(), between + 2 * GUARD, NOTHING, PRIVATE_AND_ANONYMOUS, -1, 0) };
+        let base =
+            unsafe { mmap(null_mut(), between + 2 * GUARD, NOTHING, PRIVATE_AND_ANONYMOUS, -1, 0) };
         assert_ne!(base as isize, -1, "no memory for {bytes} bytes");
         let skipped = if let Ground::BeforeGuard = ground { between - bytes } else { 0 };
         let first = unsafe { base.add(GUARD + skipped) }.cast();

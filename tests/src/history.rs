@@ -1,12 +1,12 @@
-//! A listing that is followed from page to page, and held against demand 3 alone: when an accepted
-//! call says done, every pair that stood unaltered in every accepted call has been handed out, once;
-//! no document and two starts come twice; each pair stood in the lists of the call that handed it
-//! out; a call that isn't done fills its room; and a refused call counts for nothing. Besides, the
-//! pairs come in the order that was asked for.
+//! A listing that is followed from page to page, and held against demand 3 alone. When an accepted
+//! call says done, every pair that stood unaltered in every accepted call has been handed out,
+//! once. No document and two starts come twice. Each pair stood in the lists of the call that
+//! handed it out. A call that isn't done fills its room, and a refused call counts for nothing. The
+//! pairs also come in the order that was asked for.
 //!
-//! There is no model of paging here: what a call handed out, and whether it was accepted and done, is
-//! taken from the call. A listing from a made-up ticket is held against the same words, of the pairs
-//! past that ticket's place.
+//! There is no model of paging here: what a call handed out, and whether it was accepted and done,
+//! is taken from the call. A listing from a made-up ticket is held against the same words, of the
+//! pairs past that ticket's place.
 
 use crate::asking::meaning;
 use crate::model::nodes::{nodes, Node};
@@ -26,9 +26,11 @@ impl Lists {
         self.ancestors.contains(&pair.ancestor) && self.descendants.contains(&pair.descendant)
     }
 
-    /// Whether nodes of the pair's starts stand in the lists, be they these or others.
+    /// Tells whether nodes of the pair's starts stand in the lists, be they these or others.
     fn hold_starts(&self, pair: &Pair) -> bool {
-        let stands = |list: &[Node], node: &Node| list.iter().any(|other| (other.document, other.start) == (node.document, node.start));
+        let stands = |list: &[Node], node: &Node| {
+            list.iter().any(|other| (other.document, other.start) == (node.document, node.start))
+        };
         stands(&self.ancestors, &pair.ancestor) && stands(&self.descendants, &pair.descendant)
     }
 }
@@ -52,7 +54,16 @@ pub struct History {
 
 impl History {
     pub fn from(ticket: Ticket) -> History {
-        History { first_ticket: ticket, ticket, standing: None, handed_out: Vec::new(), done: 0, pages: 0, refused: 0, altered: 0 }
+        History {
+            first_ticket: ticket,
+            ticket,
+            standing: None,
+            handed_out: Vec::new(),
+            done: 0,
+            pages: 0,
+            refused: 0,
+            altered: 0,
+        }
     }
 
     /// Makes the next call, with an output of `room` words, and returns its answer. If it was
@@ -61,13 +72,21 @@ impl History {
         let [coat, _] = u32::COATS;
         let mut out = vec![coat; room];
         let page = raw::list(ancestors, descendants, self.ticket, &mut out);
-        assert!(out[PAIR_WORDS * page.count..].iter().all(|&word| word == coat), "altered after {} pairs", page.count);
+        assert!(
+            out[PAIR_WORDS * page.count..].iter().all(|&word| word == coat),
+            "altered after {} pairs",
+            page.count
+        );
         if page.verdict.answer != 0 {
             assert_eq!((page.count, page.done, page.ticket), (0, 0, self.ticket), "a refused call");
             self.refused += 1;
             return page;
         }
-        assert!(page.done == 1 || page.count == room / PAIR_WORDS, "not done, and {} pairs in a room of {room} words", page.count);
+        assert!(
+            page.done == 1 || page.count == room / PAIR_WORDS,
+            "not done, and {} pairs in a room of {room} words",
+            page.count
+        );
         let lists = Lists { ancestors: nodes(ancestors), descendants: nodes(descendants) };
         self.take(&lists, &out[..PAIR_WORDS * page.count]);
         self.keep_standing(&lists);
@@ -79,23 +98,31 @@ impl History {
         page
     }
 
-    /// Whether a pair has the relation that the first ticket asks for, and lies past its place.
+    /// Tells whether a pair has the relation that the first ticket asks for, and lies past its
+    /// place.
     fn is_asked_for(&self, pair: &Pair) -> bool {
         let asked = meaning(&self.first_ticket);
         pair.has(asked.relation) && asked.place.map_or(true, |place| pair.key(asked.order) > place)
     }
 
-    /// Takes what a call handed out: pairs that stood in its own lists and were asked for, in order,
-    /// and no document and two starts again.
+    /// Takes what a call handed out: pairs that stood in its own lists and were asked for, in
+    /// order, and no document and two starts again.
     fn take(&mut self, lists: &Lists, words: &[u32]) {
         let order = meaning(&self.first_ticket).order;
-        let starts = |pair: &Pair| (pair.ancestor.document, pair.ancestor.start, pair.descendant.start);
+        let starts =
+            |pair: &Pair| (pair.ancestor.document, pair.ancestor.start, pair.descendant.start);
         for two in nodes(words).chunks(2) {
             let pair = Pair { ancestor: two[0], descendant: two[1] };
             assert!(lists.hold(&pair), "handed out, and not in the lists: {pair:?}");
             assert!(self.is_asked_for(&pair), "handed out, and not asked for: {pair:?}");
-            assert!(self.handed_out.iter().all(|earlier| starts(earlier) != starts(&pair)), "twice: {pair:?}");
-            assert!(self.handed_out.last().map_or(true, |last| last.key(order) < pair.key(order)), "out of order: {pair:?}");
+            assert!(
+                self.handed_out.iter().all(|earlier| starts(earlier) != starts(&pair)),
+                "twice: {pair:?}"
+            );
+            assert!(
+                self.handed_out.last().map_or(true, |last| last.key(order) < pair.key(order)),
+                "out of order: {pair:?}"
+            );
             self.handed_out.push(pair);
         }
         self.pages += usize::from(!words.is_empty());
@@ -105,15 +132,18 @@ impl History {
     /// accepted call they are all that are asked for.
     fn keep_standing(&mut self, lists: &Lists) {
         let mut standing = self.standing.take().unwrap_or_else(|| {
-            let all = pairs(meaning(&self.first_ticket).relation, &lists.ancestors, &lists.descendants);
+            let all =
+                pairs(meaning(&self.first_ticket).relation, &lists.ancestors, &lists.descendants);
             all.into_iter().filter(|pair| self.is_asked_for(pair)).collect()
         });
-        self.altered += standing.iter().filter(|pair| !lists.hold(pair) && lists.hold_starts(pair)).count();
+        self.altered +=
+            standing.iter().filter(|pair| !lists.hold(pair) && lists.hold_starts(pair)).count();
         standing.retain(|pair| lists.hold(pair));
         self.standing = Some(standing);
     }
 
-    /// A call said done: every pair that stood unaltered has been handed out, once.
+    /// Checks at a call that said done that every pair that stood unaltered has been handed out,
+    /// once.
     fn hold_done(&self) {
         for pair in self.standing.iter().flatten() {
             let times = self.handed_out.iter().filter(|handed_out| *handed_out == pair).count();

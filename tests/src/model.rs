@@ -1,5 +1,6 @@
-//! What docs/SCOPE.md says, told again in the plainest way: every node is held against every other, and nothing is carried along from one node to the
-//! next. It calls nothing of the library and was written from docs/SCOPE.md alone.
+//! What docs/SCOPE.md says, told again in the plainest way: every node is held against every other,
+//! and nothing is carried along from one node to the next. It calls nothing of the library and was
+//! written from docs/SCOPE.md alone.
 
 pub mod answers;
 pub mod books;

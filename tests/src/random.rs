@@ -3,7 +3,8 @@
 use crate::telling::Telling;
 
 /// Words at which arithmetic on 32 bits, or a comparison of halves, would go wrong.
-pub const EDGES: [u32; 9] = [0, 1, 2, 65_535, 65_536, (1 << 31) - 1, 1 << 31, u32::MAX - 1, u32::MAX];
+pub const EDGES: [u32; 9] =
+    [0, 1, 2, 65_535, 65_536, (1 << 31) - 1, 1 << 31, u32::MAX - 1, u32::MAX];
 
 /// A generator of the kind xorshift64*.
 pub struct Random {
@@ -11,7 +12,8 @@ pub struct Random {
 }
 
 impl Random {
-    /// Neighbouring seeds are spread first, so that their numbers have nothing in common.
+    /// Makes a generator. Neighbouring seeds are spread first, so that their numbers have nothing
+    /// in common.
     pub fn new(seed: u64) -> Random {
         let mut random = Random { state: seed.wrapping_mul(0x9E37_79B9_7F4A_7C15) | 1 };
         for _ in 0..4 {
@@ -27,12 +29,12 @@ impl Random {
         (self.state.wrapping_mul(0x2545_F491_4F6C_DD1D) >> 32) as u32
     }
 
-    /// A number from 0 up to the limit, which is left out.
+    /// Returns a number from 0 up to the limit, which is left out.
     pub fn small(&mut self, limit: u32) -> u32 {
         ((u64::from(self.any()) * u64::from(limit)) >> 32) as u32
     }
 
-    /// The same for lengths.
+    /// Returns the same for lengths.
     pub fn below(&mut self, limit: usize) -> usize {
         self.small(limit as u32) as usize
     }
@@ -45,7 +47,7 @@ impl Random {
         among[self.below(among.len())]
     }
 
-    /// Any word, a small one, or one of the edges.
+    /// Returns any word, a small one, or one of the edges.
     pub fn word(&mut self) -> u32 {
         match self.below(4) {
             0 => self.any(),
@@ -54,7 +56,7 @@ impl Random {
         }
     }
 
-    /// A word that differs from this one a little, high up or wholly.
+    /// Returns a word that differs from this one a little, high up or wholly.
     pub fn other_than(&mut self, word: u32) -> u32 {
         match self.below(4) {
             0 => word.wrapping_add(1),
@@ -64,7 +66,7 @@ impl Random {
         }
     }
 
-    /// Mostly one of these words, if there are any, and now and then another.
+    /// Returns mostly one of these words, if there are any, and now and then another.
     pub fn mostly_of(&mut self, words: &[u32]) -> u32 {
         if words.is_empty() || self.one_in(8) {
             self.word()
@@ -73,7 +75,8 @@ impl Random {
         }
     }
 
-    /// The length of an output for a result of this length: just as long, one less, one more, shorter, or longer.
+    /// Returns the length of an output for a result of this length: just as long, one less, one
+    /// more, shorter, or longer.
     pub fn around(&mut self, needed: usize) -> usize {
         match self.below(8) {
             0 => needed.saturating_sub(1),

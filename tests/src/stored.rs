@@ -1,5 +1,5 @@
-//! The cases of `tests/cases`, each with what it must answer stored below it: how they are read, and
-//! how an answer is written there.
+//! The cases of `tests/cases`, each with what it must answer stored below it: how they are read,
+//! and how an answer is written there.
 
 use crate::telling::Telling;
 use belfrychest::raw;
@@ -56,7 +56,12 @@ pub fn number(text: &str) -> usize {
 
 /// Returns the words of a case: parts with commas between them, each of which is numbers or a run.
 pub fn words(text: &str) -> Vec<u32> {
-    text.split(',').flat_map(|part| part.split_once('*').map_or_else(|| numbers(part), |(count, item)| run(number(count), item))).collect()
+    text.split(',')
+        .flat_map(|part| {
+            part.split_once('*')
+                .map_or_else(|| numbers(part), |(count, item)| run(number(count), item))
+        })
+        .collect()
 }
 
 /// Returns the words of a run of `count` items: the first, and each next one with the words after a
@@ -64,7 +69,10 @@ pub fn words(text: &str) -> Vec<u32> {
 fn run(count: usize, text: &str) -> Vec<u32> {
     let (first, step) = text.split_once('+').unwrap_or((text, ""));
     let (mut item, step) = (numbers(first), numbers(step));
-    assert!(step.is_empty() || step.len() == item.len(), "a step of other words than the item: {text}");
+    assert!(
+        step.is_empty() || step.len() == item.len(),
+        "a step of other words than the item: {text}"
+    );
     let mut words = Vec::with_capacity(count * item.len());
     for _ in 0..count {
         words.extend(&item);

@@ -14,7 +14,7 @@ use outside::model::printing::printed;
 const DOCUMENT: u32 = 5;
 const BOOK: &[u8] = include_bytes!("../../examples/figure.book");
 
-/// A list of document 5 from (start, end, level).
+/// Returns a list of document 5 from (start, end, level).
 fn list(nodes: &[[u32; 3]]) -> Vec<u32> {
     nodes.iter().flat_map(|&[start, end, level]| [DOCUMENT, start, end, level]).collect()
 }
@@ -31,13 +31,22 @@ fn ticket(relation: u32, order: u32) -> Ticket {
     Ticket { relation, order, ..FRESH }
 }
 
-/// The starts of the pairs of one page, whether it was done, and the ticket for the next.
-fn page(ancestors: &[u32], descendants: &[u32], ticket: Ticket, room: usize) -> (Vec<[u32; 2]>, bool, Ticket) {
+/// Returns the starts of the pairs of one page, whether it was done, and the ticket for the next.
+fn page(
+    ancestors: &[u32],
+    descendants: &[u32],
+    ticket: Ticket,
+    room: usize,
+) -> (Vec<[u32; 2]>, bool, Ticket) {
     let mut out = vec![0; room * PAIR_WORDS];
     asking::list(ancestors, descendants, ticket, &mut out);
     let page = raw::list(ancestors, descendants, ticket, &mut out);
     assert_eq!(page.verdict.answer, Taken as u32);
-    let starts = out.chunks(PAIR_WORDS).take(page.count).map(|pair| [pair[1], pair[NODE_WORDS + 1]]).collect();
+    let starts = out
+        .chunks(PAIR_WORDS)
+        .take(page.count)
+        .map(|pair| [pair[1], pair[NODE_WORDS + 1]])
+        .collect();
     (starts, page.done == 1, page.ticket)
 }
 
@@ -49,14 +58,25 @@ fn draws(nodes: &[[u32; 3]], answer: Answer, index: u32) {
 
 #[test]
 fn marks_number_to_the_table_and_come_back() {
-    let rows = [[5, 1, 11, 1, 1], [5, 2, 10, 2, 2], [5, 3, 7, 3, 2], [5, 4, 6, 4, 3], [5, 5, 5, 5, 65_536], [5, 8, 9, 3, 3]].concat();
+    let rows = [
+        [5, 1, 11, 1, 1],
+        [5, 2, 10, 2, 2],
+        [5, 3, 7, 3, 2],
+        [5, 4, 6, 4, 3],
+        [5, 5, 5, 5, 65_536],
+        [5, 8, 9, 3, 3],
+    ]
+    .concat();
     let mut out = vec![0; rows.len()];
     assert_eq!(asking::number(DOCUMENT, &FIGURE, &mut out), Taken);
     assert_eq!(raw::number(DOCUMENT, &FIGURE, &mut out).count, rows.len() / ROW_WORDS);
     assert_eq!(out, rows);
     let mut back = [0; FIGURE.len()];
     assert_eq!(asking::unnumber(&rows, &mut back), Taken);
-    assert_eq!(raw::unnumber(&rows, &mut back), raw::Unnumbered { answer: 0, document: DOCUMENT, count: FIGURE.len() });
+    assert_eq!(
+        raw::unnumber(&rows, &mut back),
+        raw::Unnumbered { answer: 0, document: DOCUMENT, count: FIGURE.len() }
+    );
     assert_eq!(back, FIGURE);
     for (tag, nodes) in [(2, zones()), (3, samples())] {
         let mut picked = vec![0; nodes.len()];

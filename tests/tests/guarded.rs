@@ -1,5 +1,6 @@
-//! Every function with each of its buffers right before memory that can't be touched, and then right behind it; inputs can't be written besides.
-//! A word too far would end the process. The answers are held against the model as everywhere.
+//! Every function with each of its buffers right before memory that can't be touched, and then
+//! right after it. Inputs can't be written either. A word too far would end the process. The
+//! answers are held against the model as everywhere.
 
 use outside::cases::{self, Function};
 use outside::ground::{Ground, Lent};
@@ -47,7 +48,7 @@ fn right_behind_a_guard() {
 /// The system's number for memory that it can't read or write on behalf of the process.
 const BAD_ADDRESS: Option<i32> = Some(14);
 
-/// A byte beside a buffer. Nobody but the system is asked to read it.
+/// Returns a byte beside a buffer. Nobody but the system is asked to read it.
 fn beside(buffer: &Lent<u8>, places: isize) -> &[u8] {
     unsafe { slice::from_raw_parts(buffer.as_ptr().offset(places), 1) }
 }
@@ -58,8 +59,14 @@ fn guards_guard() {
     let before = Ground::BeforeGuard.lend(&[1_u8, 2, 3]);
     let mut behind = Ground::AfterGuard.lend(&[1_u8, 2, 3]);
     assert_eq!(near.write(&before).expect("three bytes are sent"), 3);
-    assert_eq!(near.write(beside(&before, 3)).expect_err("a guard is read").raw_os_error(), BAD_ADDRESS);
-    assert_eq!(near.write(beside(&behind, -1)).expect_err("a guard is read").raw_os_error(), BAD_ADDRESS);
+    assert_eq!(
+        near.write(beside(&before, 3)).expect_err("a guard is read").raw_os_error(),
+        BAD_ADDRESS
+    );
+    assert_eq!(
+        near.write(beside(&behind, -1)).expect_err("a guard is read").raw_os_error(),
+        BAD_ADDRESS
+    );
     assert_eq!(far.read(&mut behind).expect_err("an input is written").raw_os_error(), BAD_ADDRESS);
     let mut out = Ground::BeforeGuard.room(3);
     assert_eq!(far.read(&mut out).expect("three bytes are received"), 3);

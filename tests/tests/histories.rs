@@ -1,5 +1,6 @@
-//! Listings that are followed from page to page while both lists are edited, some calls are refused,
-//! and other tickets are used in between. Each is held against demand 3 (`outside::history`).
+//! Listings that are followed from page to page while both lists are edited, some calls are
+//! refused, and other tickets are used in between. Each is held against demand 3
+//! (`outside::history`).
 
 use belfrychest::raw::{Page, Ticket};
 use outside::history::{History, Lists};
@@ -30,12 +31,14 @@ fn call(history: &mut History, lists: &Lists, room: usize) -> Page {
     history.call(&words(&lists.ancestors), &words(&lists.descendants), room)
 }
 
-/// The lists after no edit, one or two, which may damage them. All nodes of the documents are there to be put in.
+/// Returns the lists after no edit, one or two, which may damage them. All nodes of the documents
+/// are there to be put in.
 fn edited(random: &mut Random, lists: &Lists, all: &[Node]) -> Lists {
     let mut lists = lists.clone();
     for _ in 0..random.pick(&[0, 0, 0, 1, 1, 2]) {
         let Lists { ancestors, descendants } = &mut lists;
-        let (list, other) = if random.one_in(2) { (ancestors, descendants) } else { (descendants, ancestors) };
+        let (list, other) =
+            if random.one_in(2) { (ancestors, descendants) } else { (descendants, ancestors) };
         match random.below(8) {
             0 => damage(random, list),
             1 | 2 if !list.is_empty() => drop(list.remove(random.below(list.len()))),
@@ -63,12 +66,14 @@ fn alter(random: &mut Random, list: &mut [Node], other: &mut [Node]) {
 
 /// Puts a node where the order wants it.
 fn put_in(list: &mut Vec<Node>, node: Node) {
-    let place = list.partition_point(|earlier| (earlier.document, earlier.start) < (node.document, node.start));
+    let place = list
+        .partition_point(|earlier| (earlier.document, earlier.start) < (node.document, node.start));
     list.insert(place, node);
 }
 
-/// A listing that is followed through edits until it is done, or further: the first lists are sound, a refused edit is undone, and the last call has
-/// room for all. Another ticket is used now and then in between, on the same lists.
+/// Follows a listing through edits until it is done, or further. The first lists are sound, a
+/// refused edit is undone, and the last call has room for all. Another ticket is used now and then
+/// in between, on the same lists.
 fn follow(random: &mut Random, first_ticket: impl Fn(Ticket) -> Ticket) -> History {
     let all = family(random, SIZE);
     let mut lists = Lists { ancestors: some_of(random, &all), descendants: some_of(random, &all) };
@@ -86,23 +91,32 @@ fn follow(random: &mut Random, first_ticket: impl Fn(Ticket) -> Ticket) -> Histo
     }
     let enough = PAIR_WORDS * (lists.ancestors.len() * lists.descendants.len() + 1);
     let last = call(&mut history, &lists, enough);
-    assert_eq!((last.verdict.answer, last.done), (0, 1), "accepted lists, and room for all their pairs");
+    assert_eq!(
+        (last.verdict.answer, last.done),
+        (0, 1),
+        "accepted lists, and room for all their pairs"
+    );
     history
 }
 
-/// Follows listings of one relation and one order from fresh tickets, and then from made-up ones. Fails unless many had more than five pages, a
-/// refused call, a pair that was altered.
+/// Follows listings of one relation and one order from fresh tickets, and then from made-up ones.
+/// Fails unless many had more than five pages, a refused call, a pair that was altered.
 fn hold(relation: u32, order: u32) {
     let fresh_seeds = SEEDS + u64::from(2 * relation + order) * (FRESH + MADE_UP);
     let mut seen = [0; 3];
-    for (first_seed, listings, placed) in [(fresh_seeds, FRESH, 0), (fresh_seeds + FRESH, MADE_UP, 1)] {
+    for (first_seed, listings, placed) in
+        [(fresh_seeds, FRESH, 0), (fresh_seeds + FRESH, MADE_UP, 1)]
+    {
         each_case(first_seed, listings, |random| {
             let history = follow(random, |made_up| Ticket { relation, order, placed, ..made_up });
             let is_of_kind = [history.pages > 5, history.refused > 0, history.altered > 0];
             (0..seen.len()).for_each(|kind| seen[kind] += u64::from(is_of_kind[kind]));
         });
     }
-    assert!(seen.iter().all(|&times| times > LEAST), "histories of more than five pages, refused, altered: {seen:?}");
+    assert!(
+        seen.iter().all(|&times| times > LEAST),
+        "histories of more than five pages, refused, altered: {seen:?}"
+    );
 }
 
 #[test]

@@ -1,4 +1,5 @@
-//! Both sides of every limit. What is too large for the model, which tries all pairs, is known from how the case is put together.
+//! Both sides of every limit. What is too large for the model, which tries all pairs, is known from
+//! how the case is put together.
 
 use belfrychest::raw::{self, Ticket};
 use outside::asking::{self, raw_verdict, TAKEN};
@@ -21,12 +22,12 @@ use outside::tally::Tally;
 /// The greatest level, as a number of nodes.
 const DEEPEST: usize = MOST_LEVEL as usize;
 
-/// A document of so many marks: a root with texts.
+/// Returns a document of `marks` marks: a root with texts.
 fn document(marks: usize) -> Vec<u32> {
     [vec![1], vec![TEXT; marks - 2], vec![CLOSE]].concat()
 }
 
-/// So many words, which make neither nodes nor marks of a sound list.
+/// Returns `words` words, which make neither nodes nor marks of a sound list.
 fn fives(words: usize) -> Vec<u32> {
     vec![5; words]
 }
@@ -41,7 +42,9 @@ fn draws(list: &[u32], answer: Answer) {
     let verdict = |number| raw::Verdict { answer: answer as u32, list: number, index: 0 };
     assert_eq!(raw::check(list), verdict(0));
     hold(&answer, &mut [0; 12], &[], refused(answer), |out| raw::links(list, out));
-    for (ancestors, descendants, number) in [(list, &other[..], ANCESTORS), (&other, list, DESCENDANTS), (list, list, ANCESTORS)] {
+    for (ancestors, descendants, number) in
+        [(list, &other[..], ANCESTORS), (&other, list, DESCENDANTS), (list, list, ANCESTORS)]
+    {
         assert_eq!(raw::check_two(ancestors, descendants), verdict(number));
         let part = raw::Part { verdict: verdict(number), from: 0, words: 0 };
         assert_eq!(raw::faulty(ancestors, descendants), part);
@@ -70,17 +73,28 @@ fn links_of_the_longest_list() {
     let expected: Vec<u32> = (0..MOST as u32).flat_map(|index| [NONE, NONE, next(index)]).collect();
     let taken = raw::Written { count: MOST, ..refused(Taken) };
     for longer in 0..=LINK_WORDS {
-        hold(&longer, &mut vec![0; expected.len() + longer], &expected, taken, |out| raw::links(&list, out));
+        hold(&longer, &mut vec![0; expected.len() + longer], &expected, taken, |out| {
+            raw::links(&list, out)
+        });
     }
-    hold(&"one word less", &mut vec![0; expected.len() - 1], &[], refused(Room), |out| raw::links(&list, out));
+    hold(&"one word less", &mut vec![0; expected.len() - 1], &[], refused(Room), |out| {
+        raw::links(&list, out)
+    });
 }
 
-/// The words of all pairs of a nest and of the texts in it, in descendant order or in ancestor order.
+/// Returns the words of all pairs of a nest and of the texts in it, in descendant order or in
+/// ancestor order.
 fn all_pairs(zones: &[Node], texts: &[Node], order: u32) -> Vec<u32> {
     let pair = |zone: &Node, text: &Node| [zone.words(), text.words()].concat();
     match order {
-        0 => texts.iter().flat_map(|text| zones.iter().flat_map(move |zone| pair(zone, text))).collect(),
-        _ => zones.iter().flat_map(|zone| texts.iter().flat_map(move |text| pair(zone, text))).collect(),
+        0 => texts
+            .iter()
+            .flat_map(|text| zones.iter().flat_map(move |zone| pair(zone, text)))
+            .collect(),
+        _ => zones
+            .iter()
+            .flat_map(|zone| texts.iter().flat_map(move |text| pair(zone, text)))
+            .collect(),
     }
 }
 
@@ -95,7 +109,9 @@ fn pairs_of_the_deepest_nest_with_the_longest_list() {
         let given = Ticket { order, ..FRESH };
         let ticket = Ticket { placed: 1, document: 5, first, second, ..given };
         let page = raw::Page { verdict: TAKEN, done: 1, count, ticket };
-        hold(&order, &mut vec![0; expected.len()], &expected, page, |out| raw::list(&ancestors, &descendants, given, out));
+        hold(&order, &mut vec![0; expected.len()], &expected, page, |out| {
+            raw::list(&ancestors, &descendants, given, out)
+        });
         let mut one_less = vec![0; expected.len() - 1];
         let page = raw::list(&ancestors, &descendants, given, &mut one_less);
         assert_eq!((page.done, page.count), (0, count - 1));
@@ -105,7 +121,15 @@ fn pairs_of_the_deepest_nest_with_the_longest_list() {
 
 #[test]
 fn levels() {
-    for (level, answer) in [(0, Level), (1, Taken), (63, Taken), (64, Taken), (65, Level), (1 << 31, Level), (u32::MAX, Level)] {
+    for (level, answer) in [
+        (0, Level),
+        (1, Taken),
+        (63, Taken),
+        (64, Taken),
+        (65, Level),
+        (1 << 31, Level),
+        (u32::MAX, Level),
+    ] {
         assert_eq!(asking::check(&[5, 1, 1, level]), answer);
         assert_eq!(asking::links(&[5, 1, 9, level], &mut [0; 3]), answer);
     }
@@ -147,7 +171,8 @@ fn marks_of_a_document() {
 
 #[test]
 fn depth_of_a_document() {
-    let chain = |depth: usize, within: &[u32]| [&vec![1; depth], within, &vec![CLOSE; depth]].concat();
+    let chain =
+        |depth: usize, within: &[u32]| [&vec![1; depth], within, &vec![CLOSE; depth]].concat();
     numbers_both_ways(&chain(DEEPEST, &[]));
     numbers_both_ways(&chain(DEEPEST - 1, &[TEXT]));
     numbers_both_ways(&chain(1, &chain(DEEPEST - 1, &[]).repeat(32)));
@@ -158,10 +183,24 @@ fn depth_of_a_document() {
 
 #[test]
 fn tags_of_marks() {
-    for (tag, answer) in [(1, Taken), (TEXT - 1, Taken), (TEXT, Stray), (TEXT + 1, Mark), (1 << 31, Mark), (u32::MAX, Mark)] {
+    for (tag, answer) in [
+        (1, Taken),
+        (TEXT - 1, Taken),
+        (TEXT, Stray),
+        (TEXT + 1, Mark),
+        (1 << 31, Mark),
+        (u32::MAX, Mark),
+    ] {
         assert_eq!(asking::number(7, &[tag, CLOSE], &mut [0; 5]), answer);
     }
-    for (tag, answer) in [(0, Table), (1, Taken), (TEXT - 1, Taken), (TEXT, Table), (TEXT + 1, Table), (u32::MAX, Table)] {
+    for (tag, answer) in [
+        (0, Table),
+        (1, Taken),
+        (TEXT - 1, Taken),
+        (TEXT, Table),
+        (TEXT + 1, Table),
+        (u32::MAX, Table),
+    ] {
         assert_eq!(asking::unnumber(&[7, 1, 2, 1, tag], &mut [0; 2]), answer);
     }
 }
@@ -182,16 +221,24 @@ fn rows_of_a_table() {
     assert_eq!(asking::unnumber(&[], &mut out), Table);
     for (rows, answer) in [(MOST, Taken), (MOST + 1, Long)] {
         assert_eq!(asking::pick(&table(rows), TEXT, &mut vec![0; NODE_WORDS * (rows - 1)]), answer);
-        assert_eq!(asking::pick(&fives(ROW_WORDS * rows), 5, &mut vec![0; NODE_WORDS * rows]), answer);
+        assert_eq!(
+            asking::pick(&fives(ROW_WORDS * rows), 5, &mut vec![0; NODE_WORDS * rows]),
+            answer
+        );
     }
     assert_eq!(asking::pick(&table(MOST), TEXT, &mut vec![0; NODE_WORDS * (MOST - 1) - 1]), Room);
     assert_eq!(asking::pick(&fives(ROW_WORDS * (MOST + 1) + 1), 5, &mut out), Ragged);
 }
 
-/// The answers of a call with each room from none up to some words more than a result of this length needs: ROOM as long as it doesn't fit.
+/// Makes a call with each room from none up to some words more than a result of this length needs.
+/// It must answer ROOM as long as the result doesn't fit.
 fn fits_from(needed: usize, call: impl Fn(usize) -> Answer) {
     for room in 0..needed + 10 {
-        assert_eq!(call(room), if room < needed { Room } else { Taken }, "room {room} where {needed} are needed");
+        assert_eq!(
+            call(room),
+            if room < needed { Room } else { Taken },
+            "room {room} where {needed} are needed"
+        );
     }
 }
 
@@ -203,8 +250,12 @@ fn rooms_of_results() {
     fits_from(2 * NODE_WORDS, |room| asking::pick(&table, 2, &mut vec![0; room]));
     fits_from(0, |room| asking::pick(&table, 9, &mut vec![0; room]));
     let zones = words(&nest(7));
-    fits_from(links::links(&zones, usize::MAX).words.len(), |room| asking::links(&zones, &mut vec![0; room]));
-    fits_from(contents_end(2) + 7 * NODE_BYTES, |room| asking::book_write(&[1, 3, 2, 4], &zones, &mut vec![0; room]));
+    fits_from(links::links(&zones, usize::MAX).words.len(), |room| {
+        asking::links(&zones, &mut vec![0; room])
+    });
+    fits_from(contents_end(2) + 7 * NODE_BYTES, |room| {
+        asking::book_write(&[1, 3, 2, 4], &zones, &mut vec![0; room])
+    });
     fits_from(contents_end(0), |room| asking::book_write(&[], &[], &mut vec![0; room]));
 }
 
@@ -219,8 +270,12 @@ fn rooms_of_pages() {
 
 #[test]
 fn lists_of_a_book() {
-    let book = |lists: usize| (0..lists as u32).map(|tag| (tag, texts(tag as usize % 3))).collect::<Vec<_>>();
-    for (lists, answer) in [(0, Taken), (1, Taken), (MOST_LISTS, Taken), (MOST_LISTS + 1, Contents), (300, Contents)] {
+    let book = |lists: usize| {
+        (0..lists as u32).map(|tag| (tag, texts(tag as usize % 3))).collect::<Vec<_>>()
+    };
+    for (lists, answer) in
+        [(0, Taken), (1, Taken), (MOST_LISTS, Taken), (MOST_LISTS + 1, Contents), (300, Contents)]
+    {
         let book = book(lists);
         assert_eq!(asking::book_check(&bytes(&book)), answer);
         let (entries, nodes) = parts(&book);
@@ -231,16 +286,27 @@ fn lists_of_a_book() {
 #[test]
 fn tags_of_a_book() {
     let some = texts(2);
-    for (tags, answer) in
-        [([0, u32::MAX], Taken), ([0, 1], Taken), ([1, 1], Contents), ([u32::MAX, 0], Contents), ([1 << 31, (1 << 31) - 1], Contents)]
-    {
+    for (tags, answer) in [
+        ([0, u32::MAX], Taken),
+        ([0, 1], Taken),
+        ([1, 1], Contents),
+        ([u32::MAX, 0], Contents),
+        ([1 << 31, (1 << 31) - 1], Contents),
+    ] {
         let book = bytes(&tags.map(|tag| (tag, some.clone())));
         assert_eq!(asking::book_check(&book), answer);
         for tag in [0, 1, 2, 1 << 31, u32::MAX] {
             let held = if tags.contains(&tag) { Taken } else { Absent };
             assert_eq!(asking::book_body(&book, tag), if answer == Taken { held } else { answer });
         }
-        assert_eq!(asking::book_write(&[tags[0], 2, tags[1], 2], &words(&[some.clone(), some.clone()].concat()), &mut [0; 100]), answer);
+        assert_eq!(
+            asking::book_write(
+                &[tags[0], 2, tags[1], 2],
+                &words(&[some.clone(), some.clone()].concat()),
+                &mut [0; 100]
+            ),
+            answer
+        );
     }
 }
 
@@ -252,19 +318,29 @@ fn nodes_of_a_book() {
     let size = contents_end(MOST_LISTS) + MOST_LISTS * MOST * NODE_BYTES;
     assert_eq!(book.len(), size);
     assert_eq!(raw::book_check(&book), raw::Book { verdict: TAKEN, lists: MOST_LISTS as u32 });
-    let last = raw::Body { verdict: TAKEN, from: size - MOST * NODE_BYTES, bytes: MOST * NODE_BYTES };
+    let last =
+        raw::Body { verdict: TAKEN, from: size - MOST * NODE_BYTES, bytes: MOST * NODE_BYTES };
     assert_eq!(raw::book_body(&book, MOST_LISTS as u32 - 1), last);
     let (entries, nodes) = parts(&lists);
     let taken = raw::Written { count: size, ..refused(Taken) };
     hold(&"all", &mut vec![0; size], &book, taken, |out| raw::book_write(&entries, &nodes, out));
-    hold(&"one byte less", &mut vec![0; size - 1], &[], refused(Room), |out| raw::book_write(&entries, &nodes, out));
+    hold(&"one byte less", &mut vec![0; size - 1], &[], refused(Room), |out| {
+        raw::book_write(&entries, &nodes, out)
+    });
 }
 
 #[test]
 fn counts_of_a_book() {
     let too_many = bytes(&[(1, texts(MOST + 1))]);
     assert_eq!(asking::book_check(&too_many), Contents);
-    assert_eq!(asking::book_write(&[1, MOST as u32 + 1], &words(&texts(MOST + 1)), &mut vec![0; too_many.len()]), Contents);
+    assert_eq!(
+        asking::book_write(
+            &[1, MOST as u32 + 1],
+            &words(&texts(MOST + 1)),
+            &mut vec![0; too_many.len()]
+        ),
+        Contents
+    );
     let one = bytes(&[(1, texts(1))]);
     let count_of_the_first = contents_end(1) - NUMBER_BYTES;
     for more in [0, 1 << 28, 1 << 29, 15 << 28] {
@@ -279,8 +355,16 @@ fn counts_of_a_book() {
 /// Counts that add up to the nodes only where sums wrap at 32 bits.
 #[test]
 fn counts_that_wrap() {
-    for counts in [[u32::MAX, 2], [1 << 31, 1 + (1 << 31)], [2, u32::MAX], [u32::MAX - MOST as u32 + 2, MOST as u32]] {
-        assert_eq!(asking::book_write(&[1, counts[0], 2, counts[1]], &words(&texts(1)), &mut [0; 100]), Contents);
+    for counts in [
+        [u32::MAX, 2],
+        [1 << 31, 1 + (1 << 31)],
+        [2, u32::MAX],
+        [u32::MAX - MOST as u32 + 2, MOST as u32],
+    ] {
+        assert_eq!(
+            asking::book_write(&[1, counts[0], 2, counts[1]], &words(&texts(1)), &mut [0; 100]),
+            Contents
+        );
     }
 }
 
@@ -288,7 +372,8 @@ fn counts_that_wrap() {
 fn greatest_and_least_numbers() {
     let mut tally = Tally::default();
     let edges = [0, 1, 1 << 31, u32::MAX - 1, u32::MAX];
-    let spans: Vec<[u32; 2]> = edges.iter().flat_map(|&start| edges.map(|end| [start, end])).collect();
+    let spans: Vec<[u32; 2]> =
+        edges.iter().flat_map(|&start| edges.map(|end| [start, end])).collect();
     for (x, y) in spans.iter().flat_map(|x| spans.iter().map(move |y| (x, y))) {
         for documents in [[0, 0], [u32::MAX, u32::MAX], [0, u32::MAX], [1 << 31, 0]] {
             let outer = [documents[0], x[0], x[1], 1];

@@ -23,8 +23,10 @@ fn ask(book: &[u8]) -> Answer {
 
 /// Fails unless the lists of an accepted book are written to the same bytes again.
 fn comes_back(book: &[u8], entries: &[Entry]) {
-    let wanted: Vec<u32> = entries.iter().flat_map(|entry| [entry.tag, entry.count as u32]).collect();
-    let nodes: Vec<u32> = entries.iter().flat_map(|entry| words(&body_nodes(book, entry))).collect();
+    let wanted: Vec<u32> =
+        entries.iter().flat_map(|entry| [entry.tag, entry.count as u32]).collect();
+    let nodes: Vec<u32> =
+        entries.iter().flat_map(|entry| words(&body_nodes(book, entry))).collect();
     let mut written = vec![0; book.len()];
     assert_eq!(asking::book_write(&wanted, &nodes, &mut written), Taken);
     assert_eq!(written, book);

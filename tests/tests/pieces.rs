@@ -1,5 +1,5 @@
-//! `Pieces` against the model, which knows nothing of pieces: the lists are cut so small that most
-//! have many pieces, and what is refused and where, each page and each listing must be those of the
+//! `Pieces` against the model, which knows nothing of pieces. The lists are cut so small that most
+//! have many pieces. What is refused and where, each page and each listing must be those of the
 //! whole lists.
 
 use belfrychest::{nodes, words, Node, Page, Pair, Pieces, Place, Refusal, Ticket};
@@ -37,7 +37,7 @@ struct Cut {
 }
 
 impl Cut {
-    /// The lists of these words, as far as they make whole nodes that a call takes.
+    /// Makes a cut of the lists of these words, as far as they make whole nodes that a call takes.
     fn new(random: &mut Random, ancestors: &[u32], descendants: &[u32]) -> Cut {
         let [ancestors, descendants] = [ancestors, descendants].map(|list| {
             let whole = (list.len() / NODE_WORDS).min(MOST);
@@ -46,7 +46,7 @@ impl Cut {
         Cut { ancestors, descendants, size: random.pick(&SIZES) }
     }
 
-    /// Small lists of every kind, or lists of some length with one fault at most.
+    /// Makes small lists of every kind, or lists of some length with one fault at most.
     fn random(random: &mut Random) -> Cut {
         if random.one_in(2) {
             let (ancestors, descendants) = two_lists(random);
@@ -68,12 +68,12 @@ impl Cut {
         Pieces::of_size(&self.ancestors, &self.descendants, self.size)
     }
 
-    /// What the model says of the whole lists.
+    /// Returns what the model says of the whole lists.
     fn verdict(&self) -> Verdict {
         check_two(words(&self.ancestors), words(&self.descendants))
     }
 
-    /// The model's page of the whole lists.
+    /// Returns the model's page of the whole lists.
     fn page(&self, ticket: Ticket, room: usize) -> pages::Page {
         let (ancestors, descendants) = (words(&self.ancestors), words(&self.descendants));
         pages::page(ancestors, descendants, &meaning(&ticket.into()), pages::PAIR_WORDS * room)
@@ -117,7 +117,7 @@ fn pair_words(pairs: &[pages::Pair]) -> Vec<u32> {
     pairs.iter().map(pages::Pair::words).collect::<Vec<_>>().concat()
 }
 
-/// The refusal that a verdict of the model is in the binding.
+/// Returns the refusal that a verdict of the model is in the binding.
 fn refused(verdict: Verdict) -> Option<Refusal> {
     let answer = belfrychest::Answer::from_number(verdict.answer as u32);
     match verdict.answer {
@@ -130,7 +130,8 @@ fn refused(verdict: Verdict) -> Option<Refusal> {
     }
 }
 
-/// Whether no piece alone, and no node with the one right before it, shows the verdict's fault.
+/// Tells whether no piece alone, and no node with the one right before it, shows the verdict's
+/// fault.
 fn is_hidden(cut: &Cut, verdict: Verdict) -> bool {
     let list = if verdict.list == 0 { &cut.ancestors } else { &cut.descendants };
     let alone = list.chunks(cut.size).all(|piece| belfrychest::check(piece).is_ok());
@@ -182,7 +183,7 @@ fn listings_and_meeting_pieces_are_those_of_the_whole() {
     });
 }
 
-/// The words of all pairs of some pieces, each two joined by themselves, in order.
+/// Returns the words of all pairs of some pieces, each two joined by themselves, in order.
 fn joined(meeting: &[(&[Node], &[Node])], fresh: Ticket) -> Vec<u32> {
     let Ticket { relation, order, .. } = fresh;
     let list = |two: &(&[Node], &[Node])| belfrychest::listing(two.0, two.1, relation, order);

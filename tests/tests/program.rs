@@ -1,4 +1,5 @@
-//! The printing program as a process, on a thousand books: its whole standard output and its exit status against the model's text.
+//! The printing program as a process, on a thousand books: its whole standard output and its exit
+//! status against the model's text.
 
 use outside::making::books::book;
 use outside::making::lists::{nest, texts};
@@ -15,7 +16,7 @@ use std::process::{Command, Stdio};
 /// Seeds that no other test has.
 const SEEDS: u64 = 1 << 43;
 
-/// The program, run by the emulator where there is one.
+/// Returns the program, run by the emulator where there is one.
 fn program() -> Command {
     let path = env::var("BELFRYCHEST_PROGRAM").expect("BELFRYCHEST_PROGRAM names the program");
     let emulator = env::var("BELFRYCHEST_EMULATOR").unwrap_or_default();
@@ -27,9 +28,15 @@ fn program() -> Command {
     command
 }
 
-/// Fails unless the program prints of these bytes what the model prints. They are handed over in pieces of this length.
+/// Fails unless the program prints of these bytes what the model prints. They are handed over in
+/// pieces of this length.
 fn hold_in_pieces(book: &[u8], piece: usize) {
-    let mut child = program().stdin(Stdio::piped()).stdout(Stdio::piped()).stderr(Stdio::piped()).spawn().expect("the program starts");
+    let mut child = program()
+        .stdin(Stdio::piped())
+        .stdout(Stdio::piped())
+        .stderr(Stdio::piped())
+        .spawn()
+        .expect("the program starts");
     let mut input = child.stdin.take().expect("the input is a pipe");
     let sent = book.chunks(piece).try_for_each(|bytes| input.write_all(bytes));
     assert!(sent.is_ok() || book.len() > MOST_BYTES, "the program doesn't read on");
@@ -44,7 +51,7 @@ fn hold(book: &[u8]) {
     hold_in_pieces(book, book.len().max(1));
 }
 
-/// Runs the program on so many random books of which this is true.
+/// Runs the program on `books` random books of which this is true.
 fn hold_random(first_seed: u64, books: u64, wanted: impl Fn(Result<Vec<Pair>, Answer>) -> bool) {
     each_case(SEEDS + first_seed, books, |random| {
         let mut drawn = book(random);
@@ -81,8 +88,12 @@ fn books_that_are_none_or_have_few_lists() {
 
 #[test]
 fn the_books_of_the_examples() {
-    let figure = (&include_bytes!("../../examples/figure.book")[..], include_str!("../../examples/figure.out"));
-    let farm = (&include_bytes!("../../examples/farm.book")[..], include_str!("../../examples/farm.out"));
+    let figure = (
+        &include_bytes!("../../examples/figure.book")[..],
+        include_str!("../../examples/figure.out"),
+    );
+    let farm =
+        (&include_bytes!("../../examples/farm.book")[..], include_str!("../../examples/farm.out"));
     for (book, text) in [figure, farm] {
         assert_eq!(printed(book), text);
         hold(book);
@@ -109,7 +120,9 @@ fn books_of_many_pages() {
 fn books_as_long_as_may_be() {
     let longest = bytes(&[(2, nest(1)), (3, texts(3_835)), (4, vec![]), (5, vec![]), (6, vec![])]);
     assert_eq!(longest.len(), MOST_BYTES);
-    for length in [MOST_BYTES - 1, MOST_BYTES, MOST_BYTES + 1, MOST_BYTES + 2, 1 << 16, 1 << 17, 1 << 20] {
+    for length in
+        [MOST_BYTES - 1, MOST_BYTES, MOST_BYTES + 1, MOST_BYTES + 2, 1 << 16, 1 << 17, 1 << 20]
+    {
         let mut book = longest.clone();
         book.resize(length, 0);
         hold(&book);
@@ -119,9 +132,13 @@ fn books_as_long_as_may_be() {
 
 #[test]
 fn numbers_of_one_digit_and_of_ten() {
-    for (first, last) in [(0, 9), (9, 100), (99, 1_000), (999_999_999, 1_000_000_010), (u32::MAX - 5, u32::MAX)] {
+    for (first, last) in
+        [(0, 9), (9, 100), (99, 1_000), (999_999_999, 1_000_000_010), (u32::MAX - 5, u32::MAX)]
+    {
         let zone = Node { document: last, start: first, end: last, level: 1 };
-        let within: Vec<Node> = (first + 1..first + 4).map(|start| Node { document: last, start, end: start, level: 2 }).collect();
+        let within: Vec<Node> = (first + 1..first + 4)
+            .map(|start| Node { document: last, start, end: start, level: 2 })
+            .collect();
         let book = bytes(&[(0, vec![zone]), (u32::MAX, within)]);
         assert_eq!(joined(&book).map(|pairs| pairs.len()), Ok(3));
         hold(&book);

@@ -1,4 +1,5 @@
-//! Every refusal, at every place where it can be drawn. What must be answered is known from how each case is put together.
+//! Every refusal, at every place where it can be drawn. What must be answered is known from how
+//! each case is put together.
 
 use belfrychest::raw::{self, Ticket};
 use outside::asking::{self, raw_verdict};
@@ -19,14 +20,17 @@ const NODES: usize = 40;
 /// The words of an output that stays as it was; no multiple of a pair's or a link's.
 const ROOM: usize = 29;
 
-/// A zone, and inside it, side by side, the other nodes, with space between them and between their levels.
+/// Returns a zone, and inside it, side by side, the other nodes, with space between them and
+/// between their levels.
 fn sound(count: usize) -> Vec<Node> {
-    let inner = |place: u32| Node { document: 5, start: 10 * place + 10, end: 10 * place + 15, level: 4 };
+    let inner =
+        |place: u32| Node { document: 5, start: 10 * place + 10, end: 10 * place + 15, level: 4 };
     let zone = Node { document: 5, start: 10, end: 10 * count as u32 + 10, level: 2 };
     [zone].into_iter().chain((1..count as u32).map(inner)).collect()
 }
 
-/// An answer, and an edit of the node at an index of the list above that draws it there and nowhere before.
+/// An answer, and an edit of the node at an index of the list above that draws it there and nowhere
+/// before.
 type Fault = (Answer, fn(&mut [Node], usize));
 
 /// The faults that any node can have.
@@ -52,7 +56,8 @@ const BEHIND_THE_FIRST: [Fault; 7] = [
     (Depth, |list, index| list[index].level = 1),
 ];
 
-/// Runs the test on each list of so many nodes that has a fault at this index, with the fault's answer.
+/// Runs the test on each list of `count` nodes that has a fault at this index, with the fault's
+/// answer.
 fn each_fault(count: usize, index: usize, test: impl Fn(&[Node], Answer)) {
     let faults = ANYWHERE.iter().chain(BEHIND_THE_FIRST.iter().filter(|_| index > 0));
     for (answer, put) in faults {
@@ -62,7 +67,8 @@ fn each_fault(count: usize, index: usize, test: impl Fn(&[Node], Answer)) {
     }
 }
 
-/// The same for each index of a list of forty nodes, and for the first and the last of the longest list.
+/// Does the same for each index of a list of forty nodes, and for the first and the last of the
+/// longest list.
 fn each_fault_anywhere(test: impl Fn(&[Node], Answer, usize)) {
     for index in 0..NODES {
         each_fault(NODES, index, |list, answer| test(list, answer, index));
@@ -72,16 +78,23 @@ fn each_fault_anywhere(test: impl Fn(&[Node], Answer, usize)) {
     }
 }
 
-/// Fails unless all calls of two lists refuse these with this verdict, show the part at the faulty node, give the ticket back and write nothing.
+/// Fails unless all calls of two lists refuse these with this verdict, show the part at the faulty
+/// node, give the ticket back and write nothing.
 fn refuses_two(ancestors: &[Node], descendants: &[Node], verdict: Verdict, part: [usize; 2]) {
     let (ancestors, descendants) = (words(ancestors), words(descendants));
     let expected = raw_verdict(verdict);
     assert_eq!(raw::check_two(&ancestors, &descendants), expected);
-    assert_eq!(raw::faulty(&ancestors, &descendants), raw::Part { verdict: expected, from: part[0], words: part[1] });
-    let odd = Ticket { relation: 7, order: u32::MAX, placed: 3, document: 5, first: 20, second: 10 };
+    assert_eq!(
+        raw::faulty(&ancestors, &descendants),
+        raw::Part { verdict: expected, from: part[0], words: part[1] }
+    );
+    let odd =
+        Ticket { relation: 7, order: u32::MAX, placed: 3, document: 5, first: 20, second: 10 };
     for ticket in [FRESH, odd, Ticket { order: 1, ..FRESH }, Ticket { placed: 1, ..FRESH }] {
         let page = raw::Page { verdict: expected, done: 0, count: 0, ticket };
-        hold(&verdict, &mut [0; ROOM], &[], page, |out| raw::list(&ancestors, &descendants, ticket, out));
+        hold(&verdict, &mut [0; ROOM], &[], page, |out| {
+            raw::list(&ancestors, &descendants, ticket, out)
+        });
     }
 }
 
@@ -119,7 +132,8 @@ fn any_list_of_a_book() {
     });
 }
 
-/// Fails unless a book of these lists is refused with this verdict when it is opened, when any tag is looked for in it, and when it is to be written.
+/// Fails unless a book of these lists is refused with this verdict. It is opened, each tag is
+/// looked for in it, and it is to be written.
 fn refuses_book(lists: &[Tagged], verdict: Verdict) {
     let book = bytes(lists);
     let expected = raw_verdict(verdict);
@@ -129,14 +143,21 @@ fn refuses_book(lists: &[Tagged], verdict: Verdict) {
     }
     let (entries, nodes) = parts(lists);
     let refused = raw::Written { verdict: expected, count: 0 };
-    hold(&verdict, &mut vec![0; book.len()], &[], refused, |out| raw::book_write(&entries, &nodes, out));
+    hold(&verdict, &mut vec![0; book.len()], &[], refused, |out| {
+        raw::book_write(&entries, &nodes, out)
+    });
 }
 
 /// Lists that differ in one word of one node, so that the node is at odds with the one that it was.
 #[test]
 fn two_lists_at_odds() {
-    let edits: [fn(&mut Node); 5] =
-        [|node| node.start -= 1, |node| node.start += 1, |node| node.end -= 1, |node| node.end += 1, |node| node.level += 1];
+    let edits: [fn(&mut Node); 5] = [
+        |node| node.start -= 1,
+        |node| node.start += 1,
+        |node| node.end -= 1,
+        |node| node.end += 1,
+        |node| node.level += 1,
+    ];
     let places = (0..NODES).map(|index| (NODES, index)).chain([(MOST, MOST - 1)]);
     for ((count, index), edit) in places.flat_map(|place| edits.map(|edit| (place, edit))) {
         let mut edited = sound(count);
@@ -171,7 +192,8 @@ fn any_mark() {
 #[test]
 fn any_mark_too_deep() {
     let deepest = MOST_LEVEL as usize;
-    let sound: Vec<u32> = [vec![1; deepest - 1], vec![TEXT; NODES], vec![CLOSE; deepest - 1]].concat();
+    let sound: Vec<u32> =
+        [vec![1; deepest - 1], vec![TEXT; NODES], vec![CLOSE; deepest - 1]].concat();
     for place in deepest - 1..deepest - 1 + NODES {
         for mark in [1, TEXT] {
             draws(&[&sound[..place], &[1, mark, CLOSE, CLOSE], &sound[place..]].concat(), Deep);
@@ -206,9 +228,14 @@ fn any_number_of_the_contents() {
         for number in [was - 1, was + 1, was ^ 1 << 28, was ^ 1 << 31] {
             let mut damaged = book.clone();
             damaged[place..place + NUMBER_BYTES].copy_from_slice(&number.to_le_bytes());
-            let tags_ascend = (place == first_tag && number < was) || (place == last_tag && number > was);
+            let tags_ascend =
+                (place == first_tag && number < was) || (place == last_tag && number > was);
             let answer = if tags_ascend { Taken } else { Contents };
-            assert_eq!(asking::book_check(&damaged), answer, "the number at byte {place} is {number}");
+            assert_eq!(
+                asking::book_check(&damaged),
+                answer,
+                "the number at byte {place} is {number}"
+            );
         }
     }
 }

@@ -29,7 +29,9 @@ fn two(ancestors: &[u32], descendants: &[u32]) -> String {
 
 fn lines(case: &Case) -> Vec<String> {
     match two_lists(case.given) {
-        Some((first, second)) => vec![two(&first, &second), format!("swapped: {}", two(&second, &first))],
+        Some((first, second)) => {
+            vec![two(&first, &second), format!("swapped: {}", two(&second, &first))]
+        }
         None => vec![one(&words(case.given))],
     }
 }

@@ -48,14 +48,25 @@ fn table(table: &[u32], room: usize) -> String {
         assert_eq!(asking::number(back.document, marks, &mut again), Taken, "numbered again");
         assert_eq!(again, table, "numbered again");
     }
-    format!("{}, document {}, marks {}:{}", answer(back.answer), back.document, back.count, shown(marks))
+    format!(
+        "{}, document {}, marks {}:{}",
+        answer(back.answer),
+        back.document,
+        back.count,
+        shown(marks)
+    )
 }
 
 fn pick(tag: u32, table: &[u32], room: usize) -> String {
     let mut out = vec![0; room];
     asking::pick(table, tag, &mut out);
     let written = raw::pick(table, tag, &mut out);
-    format!("{}, nodes {}:{}", answer(written.verdict.answer), written.count, shown(&out[..NODE_WORDS * written.count]))
+    format!(
+        "{}, nodes {}:{}",
+        answer(written.verdict.answer),
+        written.count,
+        shown(&out[..NODE_WORDS * written.count])
+    )
 }
 
 fn links(list: &[u32], room: usize) -> String {
@@ -87,10 +98,16 @@ fn changes(document: u32, marks: &[u32]) -> Vec<String> {
     let table = &out[..ROW_WORDS * count];
     let tried = |place: usize| {
         let word = table[place];
-        let letters = [word.wrapping_add(1), word.wrapping_sub(1), 0, TEXT].map(|other| letter(table, place, other, marks.len()));
+        let letters = [word.wrapping_add(1), word.wrapping_sub(1), 0, TEXT]
+            .map(|other| letter(table, place, other, marks.len()));
         format!(" {}", letters.iter().collect::<String>())
     };
-    let row = |row: usize| format!("row {row}:{}", (ROW_WORDS * row..ROW_WORDS * (row + 1)).map(tried).collect::<String>());
+    let row = |row: usize| {
+        format!(
+            "row {row}:{}",
+            (ROW_WORDS * row..ROW_WORDS * (row + 1)).map(tried).collect::<String>()
+        )
+    };
     [format!("rows {count}")].into_iter().chain((0..count).map(row)).collect()
 }
 

@@ -16,8 +16,11 @@ const ALL_SHOWN: usize = 40;
 /// Returns the ticket that a run's line describes: the relation, the order, and the place.
 fn ticket(text: &str) -> Ticket {
     let parts: Vec<&str> = text.split_whitespace().collect();
-    let chosen = |word: &str, among: [&str; 2]| among.iter().position(|name| *name == word).expect("a relation or an order") as u32;
-    let (relation, order) = (chosen(parts[0], ["inside", "directly"]), chosen(parts[1], ["descendant", "ancestor"]));
+    let chosen = |word: &str, among: [&str; 2]| {
+        among.iter().position(|name| *name == word).expect("a relation or an order") as u32
+    };
+    let (relation, order) =
+        (chosen(parts[0], ["inside", "directly"]), chosen(parts[1], ["descendant", "ancestor"]));
     if parts[2..] == ["fresh"] {
         return Ticket { relation, order, ..FRESH };
     }
@@ -51,7 +54,9 @@ fn by_starts(pair: &Pair) -> String {
 /// Returns the pairs of a page, and of many the first and the last.
 fn shown(pairs: &[Pair]) -> String {
     match pairs {
-        [first, .., last] if pairs.len() > ALL_SHOWN => format!("{} to{}", by_starts(first), by_starts(last)),
+        [first, .., last] if pairs.len() > ALL_SHOWN => {
+            format!("{} to{}", by_starts(first), by_starts(last))
+        }
         _ => pairs.iter().map(by_starts).collect(),
     }
 }
@@ -64,15 +69,27 @@ fn call(history: &mut History, text: &str) -> String {
     let page = history.call(&ancestors, &descendants, room);
     let pairs = &history.handed_out[history.handed_out.len() - page.count..];
     let done = if page.done == 1 { "done" } else { "not done" };
-    let verdict = format!("answer {} list {} index {}", page.verdict.answer, page.verdict.list, page.verdict.index);
-    format!("{verdict}, pairs {}{}, {done}, ticket {}", page.count, shown(pairs), described(&page.ticket))
+    let verdict = format!(
+        "answer {} list {} index {}",
+        page.verdict.answer, page.verdict.list, page.verdict.index
+    );
+    format!(
+        "{verdict}, pairs {}{}, {done}, ticket {}",
+        page.count,
+        shown(pairs),
+        described(&page.ticket)
+    )
 }
 
 fn lines(case: &Case) -> Vec<String> {
     let mut history = History::from(ticket(case.given));
     let mut lines: Vec<String> = case.calls.iter().map(|text| call(&mut history, text)).collect();
     let stood = history.standing.iter().flatten().count();
-    lines.push(format!("run: done {}, stood {stood}, handed out {}", history.done, history.handed_out.len()));
+    lines.push(format!(
+        "run: done {}, stood {stood}, handed out {}",
+        history.done,
+        history.handed_out.len()
+    ));
     lines
 }
 

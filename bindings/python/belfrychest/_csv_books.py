@@ -34,7 +34,7 @@ class CsvList(NamedTuple):
 
     @property
     def words(self) -> Words:
-        """The list as the library takes it."""
+        """Returns the list as the library takes it."""
         return words(self.nodes)
 
 

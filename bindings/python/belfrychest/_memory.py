@@ -29,8 +29,8 @@ else:
 
 
 class Kind(NamedTuple):
-    """What memory has to hold: the letters of its format, the bytes of a number, what an error
-    calls it, how many numbers an item has, and what an item is called.
+    """What memory has to hold: the letters of its format, the bytes of a number, its name in
+    errors, the numbers of an item, and an item's name.
     """
 
     letters: str

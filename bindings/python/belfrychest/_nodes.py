@@ -45,7 +45,7 @@ class Link(NamedTuple):
 def words(items: Iterable[Iterable[Any]]) -> Words:
     """Returns the numbers of all items in one array, ready to be lent.
 
-    The items are nodes, pairs, rows, links, or other tuples of numbers, each of the same length: a
+    The items are nodes, pairs, rows, links, or other tuples of numbers, each of the same length. A
     ValueError tells of an item that isn't like the first, or of a number that isn't one of 32 bits.
     """
     out, size = array("I"), 0

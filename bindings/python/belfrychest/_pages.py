@@ -134,7 +134,7 @@ def page(ancestors: Buffer, descendants: Buffer, ticket: Ticket, out: Buffer) ->
     the ancestor's four, then the descendant's.
 
     The answer's ticket leads to the next page. A refusal is raised and counts for nothing: the
-    ticket given is still good. Every page checks both lists anew, so many small pages are slow:
+    ticket given is still good. Every page checks both lists anew, and many small pages are slow:
     give room for PAGE_PAIRS pairs.
     """
     require("ticket", ticket, Ticket)
@@ -158,9 +158,9 @@ def pairs(ancestors: Buffer, descendants: Buffer, *, relation: Relation = Relati
     Between two pairs the lists may be edited, and the next page sees it. When the listing ends,
     every pair that stood in the lists unaltered at each page has been handed out. Each pair handed
     out stood in the lists of its own page, and no two had the same document and the same two
-    starts. A node of which a word was changed is another node (docs/SCOPE.md, Listings and tickets).
-    A page that is refused raises `Refused` and ends the listing; to go on after a repair, call
-    `page` and keep its tickets.
+    starts. A node of which a word was changed is another node (docs/SCOPE.md, Listings and
+    tickets). A page that is refused raises `Refused` and ends the listing; to go on after a repair,
+    call `page` and keep its tickets.
     """
     return turned(lambda ticket, out: page(ancestors, descendants, ticket, out),
                   Ticket.fresh(relation=relation, order=order), room)

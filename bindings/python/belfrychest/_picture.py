@@ -76,8 +76,9 @@ class _Bar(NamedTuple):
 
 
 class _Grid(NamedTuple):
-    """Where a panel's nodes are: the place of each position, counted from 0, and its width; the
-    lane of each node; the upper border of each level; the height of a lane; and the panel's.
+    """Where a panel's nodes are. It has the place of each position, counted from 0, its width, and
+    the lane of each node. It also has the upper border of each level and the heights of a lane and
+    of the panel.
     """
 
     places: Dict[int, int]

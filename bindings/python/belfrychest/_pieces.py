@@ -2,16 +2,16 @@
 
 It is proved of the whole lists (crates/demands/proofs/Pieces.antt):
 
-- A list draws none of the answers 3 to 7 exactly when each piece is accepted, the first node of
-  each piece comes after the last node of the piece before it, and the check of two takes every two
-  pieces. Two lists draw none of 3 to 8 exactly when this holds for both, and the check of two takes
-  every ancestor piece with every descendant piece.
+- A list draws none of the answers 3 to 7 exactly when three things hold. Each piece is accepted.
+  The first node of each piece comes after the last node of the piece before it. The check of two
+  takes every two pieces. Two lists draw none of 3 to 8 exactly when this holds for both, and the
+  check of two takes every ancestor piece with every descendant piece.
 - The pairs of two lists are those of every ancestor piece with every descendant piece.
 - Two pieces without a common document pass the check of two, and have no pair.
 
 So this rule says whether lists are refused, and which pairs they have. Which answer and which index
-a refusal gives isn't proved; the archive is asked for them too, with fewer nodes, and the tests
-hold them against its answers for short lists that aren't cut.
+a refusal gives isn't proved. The archive is asked for them too, with fewer nodes. The tests hold
+them against its answers for short lists that aren't cut.
 """
 from array import array
 from bisect import bisect_left, bisect_right
@@ -115,7 +115,7 @@ class _Cut:
 
 def _sound_after(earlier: memoryview, later: memoryview) -> int:
     """Returns how many nodes of the later piece come before the first that is at odds with the
-    earlier piece: the most, from the piece's start, that the check of two takes.
+    earlier piece. They are the most, from the piece's start, that the check of two takes.
     """
     sound, most = 0, len(later) // NODE_WORDS
     asked = most
@@ -137,7 +137,7 @@ def _cut(what: str, buffer: Buffer, size: int) -> Iterator[_Cut]:
 
 def _groups(ancestors: _Cut, descendants: _Cut, ticket: Ticket) -> Iterator[List[Meeting]]:
     """Groups the pieces that meet. A group has one leading piece, of the descendants in descendant
-    order and of the ancestors in ancestor order; so all pairs of a group come before those of the
+    order and of the ancestors in ancestor order. So all pairs of a group come before those of the
     next. Leading pieces that the ticket has passed are left out.
     """
     leads = ticket.order == Order.ANCESTOR
@@ -149,7 +149,7 @@ def _groups(ancestors: _Cut, descendants: _Cut, ticket: Ticket) -> Iterator[List
 
 
 def _is_passed(leading: memoryview, ticket: Ticket) -> bool:
-    """Whether all pairs that a leading piece can have come before the ticket's place."""
+    """Tells whether all pairs that a leading piece can have come before the ticket's place."""
     document, start, *_ = leading[-NODE_WORDS:]
     return ticket.placed and (document, start) < (ticket.document, ticket.first)
 

@@ -1,9 +1,9 @@
 """What a book holds and, where it is refused, where its fault is.
 
 Nothing is judged here. The library says which answer a book draws, and at which node. The node that
-this one is at odds with, its partner, is found by asking the library again with fewer nodes, and
-the faulty entry of the contents by asking it with fewer entries. Only the bytes of a refused book
-are read by hand, since the library shows none of them.
+this one is at odds with, its partner, is found by asking the library again with fewer nodes. The
+faulty entry of the contents is found by asking it with fewer entries. Only the bytes of a refused
+book are read by hand, since the library shows none of them.
 """
 import struct
 from dataclasses import dataclass, replace

@@ -1,5 +1,5 @@
-//! The farm of docs/SCOPE.md, two zones and two samples: all its pairs, then a check with the samples
-//! in the wrong order, which is refused.
+//! The farm of docs/SCOPE.md, two zones and two samples. Prints all its pairs, and then the refusal
+//! of a check with the samples in the wrong order.
 use belfrychest::{check_two, Listing, Node, Order, Pair, Refusal, Relation, PAGE_PAIRS};
 
 fn main() -> Result<(), Refusal> {

@@ -9,7 +9,7 @@ use std::fmt;
 const UNKNOWN_HINT: &str =
     "Link the archive that this crate was made for: it gives no such answer.";
 
-/// The answers of the table.
+/// Returns the answers of the table.
 const fn known() -> [Answer; ROWS.len()] {
     let mut answers = [Answer::Taken; ROWS.len()];
     let mut number = 0;

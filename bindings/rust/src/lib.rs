@@ -12,10 +12,13 @@
 //! use belfrychest::{listing, Node, Order, Relation};
 //!
 //! let node = |start, end, level| Node { document: 5, start, end, level };
+//!
 //! let zones = [node(2, 10, 2), node(3, 7, 3)];
 //! let samples = [node(4, 6, 4), node(8, 9, 3)];
+//!
 //! let pairs = listing(&zones, &samples, Relation::Inside, Order::Descendant)?;
 //! let starts: Vec<_> = pairs.iter().map(|p| (p.ancestor.start, p.descendant.start)).collect();
+//!
 //! assert_eq!(starts, [(2, 4), (3, 4), (2, 8)]);
 //! # Ok::<(), belfrychest::Refusal>(())
 //! ```

@@ -6,7 +6,7 @@ use crate::raw::{self, words, words_mut};
 use crate::table::Answer;
 use crate::ticket::Ticket;
 
-/// What a page call hands out besides its pairs.
+/// What a page call hands out with its pairs.
 #[derive(Clone, Copy, Debug, PartialEq, Eq)]
 pub struct Page {
     /// How many pairs were written, from the output's first place on.

@@ -1,11 +1,11 @@
 //! Lists of more nodes than a call takes, cut into pieces.
 //!
 //! The rule is a theorem (`crates/demands/proofs/Pieces.antt`). A whole list draws none of LEVEL to
-//! DEPTH exactly when each piece draws none, the first node of each piece stands after the last one
-//! of the piece before, and the check of two takes every earlier piece with every later one. The
-//! pairs of two whole lists are those of every ancestor piece with every descendant piece. Two
-//! pieces without a common document need no call. The library is asked for all of this, and nothing
-//! is judged anew.
+//! DEPTH exactly when three things hold. Each piece draws none. The first node of each piece stands
+//! after the last one of the piece before. The check of two takes every earlier piece with every
+//! later one. The pairs of two whole lists are those of every ancestor piece with every descendant
+//! piece. Two pieces without a common document need no call. The library is asked for all of this,
+//! and nothing is judged anew.
 
 use crate::answer::Refusal;
 use crate::limits::{ANCESTORS, DESCENDANTS, MOST_NODES, PAGE_PAIRS};
@@ -17,9 +17,9 @@ use std::iter::from_fn;
 
 /// Two lists of any number of nodes, cut into pieces of [`MOST_NODES`].
 ///
-/// It does what the calls on two lists do, as they would without that limit: the same refusals,
-/// with the index of the faulty node in the whole list, the same pages for the same tickets, the
-/// same listing. LONG is never given. The pieces are parts of the lent lists; only results are
+/// It does what the calls on two lists would do without that limit. It gives the same refusals,
+/// with the index of the faulty node in the whole list, the same pages for the same tickets, and
+/// the same listing. LONG is never given. The pieces are parts of the lent lists; only results are
 /// copied.
 ///
 /// The work grows with the number of pieces of one list times that of the other, as far as the
@@ -141,8 +141,8 @@ impl<'a> Pieces<'a> {
         Ok(())
     }
 
-    /// Whether a piece draws nothing after nodes that draw nothing: by itself, at the border, and
-    /// with each of the pieces before it.
+    /// Tells whether a piece draws nothing after nodes that draw nothing: by itself, at the border,
+    /// and with each of the pieces before it.
     fn follows(&self, before: &[Node], piece: &[Node]) -> bool {
         let border: Vec<Node> = before.last().into_iter().chain(piece.first()).copied().collect();
         let mut earlier = before.chunks(self.size).filter(|earlier| meet(earlier, piece));
@@ -158,7 +158,7 @@ impl<'a> Pieces<'a> {
     }
 
     /// Returns the refusal of a node after nodes that draw nothing. The check of one is asked with
-    /// the node alone and with each part of those before it; of its answers the lowest counts, as
+    /// the node alone and with each part of those before it. Of its answers the lowest counts, as
     /// it does at a node of one list.
     fn refusal_at(&self, before: &[Node], node: Node) -> Refusal {
         let parts = before.chunks(self.size.max(2) - 1).chain([&[][..]]);
@@ -219,14 +219,14 @@ impl<'a> Pieces<'a> {
     }
 }
 
-/// Whether two pieces may have a document in common. Both are in order and have a node.
+/// Tells whether two pieces may have a document in common. Both are in order and have a node.
 fn meet(x: &[Node], y: &[Node]) -> bool {
     let first = |piece: &[Node]| piece.first().map(|node| node.document);
     let last = |piece: &[Node]| piece.last().map(|node| node.document);
     first(x) <= last(y) && first(y) <= last(x)
 }
 
-/// Whether every pair that a leading piece has comes before the place.
+/// Tells whether every pair that a leading piece has comes before the place.
 fn is_passed(leading: &[Node], place: Place) -> bool {
     match (leading.last(), place) {
         (Some(last), Place::After { document, first, .. }) => {

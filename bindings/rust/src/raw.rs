@@ -3,9 +3,9 @@
 //! answers.
 //!
 //! All unsafe code of this crate is here, and it is sound for one reason throughout. A slice is
-//! passed as its address and its length: the address is never null and is aligned, even for an
-//! empty slice; the archive reads and writes no more than the length says and keeps no address; and
-//! an output that is lent mutably overlaps nothing else that is lent. A slice of items that are
+//! passed as its address and its length. The address is never null and is aligned, even for an
+//! empty slice. The archive reads and writes no more than the length says and keeps no address. An
+//! output that is lent mutably overlaps nothing else that is lent. A slice of items that are
 //! [`OfWords`] is the slice of their words.
 //!
 //! Every call first holds the archive's version against [`VERSION`], and panics where they differ,
@@ -165,13 +165,13 @@ fn hold_version() {
     );
 }
 
-/// What `belfry_check` answers for a list.
+/// Returns what `belfry_check` answers for a list.
 pub fn check(list: &[u32]) -> Verdict {
     hold_version();
     unsafe { belfry_check(list.as_ptr(), list.len()) }
 }
 
-/// What `belfry_check_two` answers for two lists.
+/// Returns what `belfry_check_two` answers for two lists.
 pub fn check_two(ancestors: &[u32], descendants: &[u32]) -> Verdict {
     hold_version();
     unsafe {
@@ -184,7 +184,7 @@ pub fn check_two(ancestors: &[u32], descendants: &[u32]) -> Verdict {
     }
 }
 
-/// What `belfry_faulty` answers for two lists.
+/// Returns what `belfry_faulty` answers for two lists.
 pub fn faulty(ancestors: &[u32], descendants: &[u32]) -> Part {
     hold_version();
     unsafe {
@@ -192,7 +192,7 @@ pub fn faulty(ancestors: &[u32], descendants: &[u32]) -> Part {
     }
 }
 
-/// The page that `belfry_list` writes and answers.
+/// Returns the page that `belfry_list` writes and answers.
 pub fn list(ancestors: &[u32], descendants: &[u32], ticket: Ticket, out: &mut [u32]) -> Page {
     hold_version();
     unsafe {
@@ -208,43 +208,43 @@ pub fn list(ancestors: &[u32], descendants: &[u32], ticket: Ticket, out: &mut [u
     }
 }
 
-/// The table that `belfry_number` writes and answers.
+/// Returns the table that `belfry_number` writes and answers.
 pub fn number(document: u32, marks: &[u32], out: &mut [u32]) -> Written {
     hold_version();
     unsafe { belfry_number(document, marks.as_ptr(), marks.len(), out.as_mut_ptr(), out.len()) }
 }
 
-/// The marks that `belfry_unnumber` writes and answers.
+/// Returns the marks that `belfry_unnumber` writes and answers.
 pub fn unnumber(table: &[u32], out: &mut [u32]) -> Unnumbered {
     hold_version();
     unsafe { belfry_unnumber(table.as_ptr(), table.len(), out.as_mut_ptr(), out.len()) }
 }
 
-/// The nodes that `belfry_pick` writes and answers.
+/// Returns the nodes that `belfry_pick` writes and answers.
 pub fn pick(table: &[u32], tag: u32, out: &mut [u32]) -> Written {
     hold_version();
     unsafe { belfry_pick(table.as_ptr(), table.len(), tag, out.as_mut_ptr(), out.len()) }
 }
 
-/// The links that `belfry_links` writes and answers.
+/// Returns the links that `belfry_links` writes and answers.
 pub fn links(list: &[u32], out: &mut [u32]) -> Written {
     hold_version();
     unsafe { belfry_links(list.as_ptr(), list.len(), out.as_mut_ptr(), out.len()) }
 }
 
-/// What `belfry_book_check` answers for a book.
+/// Returns what `belfry_book_check` answers for a book.
 pub fn book_check(book: &[u8]) -> Book {
     hold_version();
     unsafe { belfry_book_check(book.as_ptr(), book.len()) }
 }
 
-/// Where `belfry_book_body` finds a tag's list.
+/// Returns where `belfry_book_body` finds a tag's list.
 pub fn book_body(book: &[u8], tag: u32) -> Body {
     hold_version();
     unsafe { belfry_book_body(book.as_ptr(), book.len(), tag) }
 }
 
-/// The book that `belfry_book_write` writes and answers.
+/// Returns the book that `belfry_book_write` writes and answers.
 pub fn book_write(entries: &[u32], nodes: &[u32], out: &mut [u8]) -> Written {
     hold_version();
     unsafe {
@@ -259,7 +259,7 @@ pub fn book_write(entries: &[u32], nodes: &[u32], out: &mut [u8]) -> Written {
     }
 }
 
-/// The eight bytes that `belfry_name` writes.
+/// Returns the eight bytes that `belfry_name` writes.
 pub fn name(answer: u32) -> [u8; 8] {
     hold_version();
     let mut out = [0; 8];
@@ -280,7 +280,7 @@ unsafe impl OfWords for Row {}
 unsafe impl OfWords for Link {}
 unsafe impl OfWords for Entry {}
 
-/// How many words an item has.
+/// Returns how many words an item has.
 const fn words_of<T: OfWords>() -> usize {
     size_of::<T>() / size_of::<u32>()
 }

@@ -29,17 +29,17 @@ const TURNED: [Node; 3] = [SAMPLES[1], SAMPLES[0], node(5, 5, 5)];
 /// A node that crosses the farm's first zone.
 const CROSSING: [Node; 1] = [node(4, 12, 3)];
 
-/// The refusal by an answer that has no place.
+/// Returns the refusal by an answer that has no place.
 fn refusal(answer: Answer) -> Refusal {
     Refusal { answer, list: None, index: None }
 }
 
-/// The refusal of a node.
+/// Returns the refusal of a node.
 fn refusal_at(answer: Answer, list: usize, index: usize) -> Refusal {
     Refusal { answer, list: Some(list), index: Some(index) }
 }
 
-/// An output that begins with these items and goes on with nines.
+/// Returns an output that begins with these items and goes on with nines.
 fn painted<T: raw::OfWords>(items: &[T], paint: T, length: usize) -> Vec<T> {
     let mut out = items.to_vec();
     out.resize(length, paint);
@@ -54,8 +54,8 @@ fn starts(pair: Pair) -> (u32, u32) {
     (pair.ancestor.start, pair.descendant.start)
 }
 
-/// The name and the number of a line of the C header that defines a number, as a macro or as an
-/// enumerator.
+/// Returns the name and the number of a line of the C header that defines a number, as a macro or
+/// as an enumerator.
 fn header_number(line: &str) -> Option<(String, u32)> {
     let defined = line.strip_prefix("#define ").unwrap_or(line).trim_start();
     let mut words = defined.strip_prefix("BELFRY_")?.split_whitespace().filter(|word| *word != "=");
@@ -64,8 +64,8 @@ fn header_number(line: &str) -> Option<(String, u32)> {
     Some((name, number))
 }
 
-/// The numbers that the C header defines, by name without BELFRY_; macros that are made of others
-/// are not among them.
+/// Returns the numbers that the C header defines, by name without BELFRY_. Macros that are made of
+/// others are not among them.
 fn header_numbers() -> BTreeMap<String, u32> {
     include_str!("../../c/belfrychest.h").lines().filter_map(header_number).collect()
 }
@@ -114,7 +114,7 @@ fn the_archive_is_of_this_version() {
     assert_eq!(version(), VERSION);
 }
 
-/// This many nodes, side by side.
+/// Returns `count` nodes, side by side.
 fn siblings(count: usize) -> Vec<Node> {
     (0..count as u32).map(|start| node(start, start, 1)).collect()
 }
@@ -230,14 +230,14 @@ fn tickets_are_six_words() {
     assert_eq!(Ticket::from_words([0, 0, 0, 7, 8, 9]), fresh);
 }
 
-/// The lists of the sample farm in examples/farm.book: zones and samples.
+/// Returns the lists of the sample farm in examples/farm.book: zones and samples.
 fn sample_farm() -> (Vec<Node>, Vec<Node>) {
     let book = include_bytes!("../../../examples/farm.book");
     let list = |tag| body_nodes(book_body(book, tag).expect("the farm has the tag"));
     (list(2), list(3))
 }
 
-/// All pairs by page calls with room for this many pairs.
+/// Returns all pairs by page calls with room for `room` pairs.
 fn paged(lists: &(Vec<Node>, Vec<Node>), fresh: Ticket, room: usize) -> Vec<Pair> {
     let (zones, samples) = lists;
     let (mut out, mut found) = (vec![PAIR_PAINT; room], Vec::new());

@@ -7,10 +7,14 @@ static const belfry_verdict refused = {99, 0, 0};
 extern "C" {
 
 #ifdef FAKE_VERSION
-uint32_t belfry_version(void) { return FAKE_VERSION; }
+uint32_t belfry_version(void) {
+    return FAKE_VERSION;
+}
 #endif
 
-belfry_verdict belfry_check(const uint32_t *, size_t) { return refused; }
+belfry_verdict belfry_check(const uint32_t *, size_t) {
+    return refused;
+}
 belfry_verdict belfry_check_two(const uint32_t *, size_t, const uint32_t *, size_t) {
     return refused;
 }
@@ -30,9 +34,15 @@ belfry_unnumbered belfry_unnumber(const uint32_t *, size_t, uint32_t *, size_t) 
 belfry_result belfry_pick(const uint32_t *, size_t, uint32_t, uint32_t *, size_t) {
     return {refused, 0};
 }
-belfry_result belfry_links(const uint32_t *, size_t, uint32_t *, size_t) { return {refused, 0}; }
-belfry_book belfry_book_check(const uint8_t *, size_t) { return {refused, 0}; }
-belfry_body belfry_book_body(const uint8_t *, size_t, uint32_t) { return {refused, 0, 0}; }
+belfry_result belfry_links(const uint32_t *, size_t, uint32_t *, size_t) {
+    return {refused, 0};
+}
+belfry_book belfry_book_check(const uint8_t *, size_t) {
+    return {refused, 0};
+}
+belfry_body belfry_book_body(const uint8_t *, size_t, uint32_t) {
+    return {refused, 0, 0};
+}
 belfry_result belfry_book_write(const uint32_t *, size_t, const uint32_t *, size_t, uint8_t *,
                                 size_t) {
     return {refused, 0};

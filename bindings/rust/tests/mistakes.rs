@@ -13,7 +13,8 @@ fn refusal(answer: Answer) -> Refusal {
     Refusal { answer, list: None, index: None }
 }
 
-/// A field of 4,500 zones side by side, which is a zone itself, and a sample in each of them.
+/// Returns a field of 4,500 zones side by side, which is a zone itself, and a sample in each of
+/// them.
 fn field() -> (Vec<Node>, Vec<Node>) {
     let starts = || (1..=4_500).map(|number| 10 * number);
     let zones = starts().map(|start| node(start, start + 9, 2));
@@ -84,7 +85,8 @@ fn pieces_of_other_documents_do_not_meet() {
     assert_eq!(documents, [(5, 5), (9, 9)]);
 }
 
-/// What the pieces of a field say of its zones after a change, while each piece alone is taken.
+/// Returns what the pieces of a field say of its zones after a change, while each piece alone is
+/// taken.
 fn refused_after(change: impl Fn(&mut Vec<Node>)) -> Refusal {
     let (mut zones, samples) = field();
     change(&mut zones);

@@ -6,8 +6,8 @@ use crate::model::books::{bytes, contents_end, numbers, Tagged, MOST_LISTS, WANT
 use crate::model::nodes::{words, Node, NODE_WORDS};
 use crate::random::Random;
 
-/// Lists under tags, mostly ascending; the nodes of all are of one family, so that two of them mostly agree. Now and then there are as many lists as
-/// a book may have, or one more.
+/// Returns lists under tags, mostly ascending. The nodes of all are of one family, so that two of
+/// them mostly agree. Now and then there are as many lists as a book may have, or one more.
 pub fn lists(random: &mut Random) -> Vec<Tagged> {
     let all = any_family(random);
     let count = if random.one_in(20) { MOST_LISTS - 1 + random.below(3) } else { random.below(5) };
@@ -35,7 +35,7 @@ fn damage_list(random: &mut Random, (tag, nodes): &mut Tagged) {
     }
 }
 
-/// The bytes of a book, mostly sound.
+/// Returns the bytes of a book, mostly sound.
 pub fn book(random: &mut Random) -> Vec<u8> {
     let lists = lists(random);
     let mut book = bytes(&lists);
@@ -61,7 +61,7 @@ fn damage_bytes(random: &mut Random, book: &mut Vec<u8>, contents_end: usize) {
     }
 }
 
-/// A tag that the book mostly has.
+/// Returns a tag that the book mostly has.
 pub fn tag(random: &mut Random, book: &[u8]) -> u32 {
     let numbers = numbers(book);
     let lists = numbers.first().map_or(0, |&lists| lists as usize);
@@ -69,14 +69,14 @@ pub fn tag(random: &mut Random, book: &[u8]) -> u32 {
     random.mostly_of(&tags)
 }
 
-/// The entries and the nodes that a book of these lists is written from.
+/// Returns the entries and the nodes that a book of these lists is written from.
 pub fn parts(lists: &[Tagged]) -> (Vec<u32>, Vec<u32>) {
     let entries = lists.iter().flat_map(|(tag, nodes)| [*tag, nodes.len() as u32]).collect();
     let nodes: Vec<Node> = lists.iter().flat_map(|(_, nodes)| nodes).copied().collect();
     (entries, words(&nodes))
 }
 
-/// Entries and nodes to write a book from, mostly sound.
+/// Returns entries and nodes to write a book from, mostly sound.
 pub fn wanted(random: &mut Random) -> (Vec<u32>, Vec<u32>) {
     let lists = lists(random);
     let (mut entries, nodes) = parts(&lists);

@@ -14,13 +14,15 @@ const SMALL: usize = 12;
 /// A size of documents in which zones hold more samples than a search passes in one stride.
 const LARGE: usize = 80;
 
-/// Fewer than this many nodes of one document that are nested or apart, with positions from 0 on. Levels may jump.
+/// Returns fewer than `size` nodes of one document that are nested or apart, with positions from 0
+/// on. Levels may jump.
 fn shape(random: &mut Random, size: usize) -> Vec<Node> {
     let mut nodes: Vec<Node> = Vec::with_capacity(size);
     let mut open: Vec<usize> = Vec::with_capacity(size);
     let mut position = 0;
     for _ in 0..random.below(size) {
-        let level = open.last().map_or(0, |&index| nodes[index].level) + 1 + u32::from(random.one_in(6));
+        let level =
+            open.last().map_or(0, |&index| nodes[index].level) + 1 + u32::from(random.one_in(6));
         let text = Node { document: 0, start: position, end: position, level };
         match random.below(5) {
             0 | 1 => close(&mut nodes, open.pop(), position),
@@ -46,8 +48,8 @@ fn close(nodes: &mut [Node], index: Option<usize>, position: u32) {
     }
 }
 
-/// Puts nodes of one document somewhere among the 32-bit numbers: at the beginning, at the end, at both, in the middle or all over; and their levels
-/// at the beginning or at the end.
+/// Puts nodes of one document somewhere among the 32-bit numbers: at the beginning, at the end, at
+/// both, in the middle or all over. Their levels lie at the beginning or at the end.
 fn settle(random: &mut Random, document: u32, nodes: &mut [Node]) {
     let last = nodes.iter().map(|node| node.end).max().unwrap_or(0);
     let deepest = nodes.iter().map(|node| node.level).max().unwrap_or(0);
@@ -64,11 +66,17 @@ fn settle(random: &mut Random, document: u32, nodes: &mut [Node]) {
         _ => position * (u32::MAX / (last + 1)),
     };
     for node in nodes {
-        *node = Node { document, start: place(node.start), end: place(node.end), level: node.level + raised };
+        *node = Node {
+            document,
+            start: place(node.start),
+            end: place(node.end),
+            level: node.level + raised,
+        };
     }
 }
 
-/// The nodes of some whole documents, fewer than this many of each. Any part of them is an accepted list, and any two parts agree.
+/// Returns the nodes of some whole documents, fewer than `size` of each. Any part of them is an
+/// accepted list, and any two parts agree.
 pub fn family(random: &mut Random, size: usize) -> Vec<Node> {
     let mut nodes = Vec::new();
     for document in DOCUMENTS {
@@ -81,8 +89,8 @@ pub fn family(random: &mut Random, size: usize) -> Vec<Node> {
     nodes
 }
 
-/// A nest of as many zones as there are levels, or a few less, with a text between any two on the way in and now and then on the way out. It is
-/// a family too.
+/// Returns a nest of as many zones as there are levels, or a few less. A text lies between any two
+/// on the way in, and now and then on the way out. It is a family too.
 fn deep_family(random: &mut Random) -> Vec<Node> {
     let zones = MOST_LEVEL - random.small(4);
     let text = |start: u32, level: u32| Node { document: 5, start, end: start, level };
@@ -100,7 +108,7 @@ fn deep_family(random: &mut Random) -> Vec<Node> {
     nodes
 }
 
-/// Mostly a small family, now and then a large or a deep one.
+/// Returns mostly a small family, now and then a large or a deep one.
 pub fn any_family(random: &mut Random) -> Vec<Node> {
     match random.below(200) {
         0 => deep_family(random),
@@ -109,27 +117,36 @@ pub fn any_family(random: &mut Random) -> Vec<Node> {
     }
 }
 
-/// So many zones of document 5, each inside the one before.
+/// Returns `count` zones of document 5, each inside the one before.
 pub fn nest(count: usize) -> Vec<Node> {
-    (0..count as u32).map(|depth| Node { document: 5, start: depth, end: 10_000 - depth, level: 1 + depth }).collect()
+    (0..count as u32)
+        .map(|depth| Node { document: 5, start: depth, end: 10_000 - depth, level: 1 + depth })
+        .collect()
 }
 
-/// So many texts of document 5, side by side inside all those zones.
+/// Returns `count` texts of document 5, side by side inside all those zones.
 pub fn texts(count: usize) -> Vec<Node> {
-    (100..100 + count as u32).map(|start| Node { document: 5, start, end: start, level: MOST_LEVEL }).collect()
+    (100..100 + count as u32)
+        .map(|start| Node { document: 5, start, end: start, level: MOST_LEVEL })
+        .collect()
 }
 
-/// Some of the nodes, in their order.
+/// Returns some of the nodes, in their order.
 pub fn some_of(random: &mut Random, nodes: &[Node]) -> Vec<Node> {
     nodes.iter().copied().filter(|_| random.below(8) < 5).collect()
 }
 
-/// Nodes of small numbers, mostly in order, that may lie to each other in any way.
+/// Returns nodes of small numbers, mostly in order, that may lie to each other in any way.
 fn wild(random: &mut Random) -> Vec<Node> {
     let mut nodes = Vec::new();
     for _ in 0..random.below(5) {
         let (document, start) = (random.pick(&DOCUMENTS[1..3]), random.small(12));
-        nodes.push(Node { document, start, end: start + random.small(6), level: 1 + random.small(3) });
+        nodes.push(Node {
+            document,
+            start,
+            end: start + random.small(6),
+            level: 1 + random.small(3),
+        });
     }
     if !random.one_in(6) {
         nodes.sort_by_key(|node| (node.document, node.start));
@@ -159,7 +176,7 @@ pub fn damage(random: &mut Random, nodes: &mut Vec<Node>) {
     }
 }
 
-/// Nodes that are mostly an accepted list.
+/// Returns nodes that are mostly an accepted list.
 fn mostly_sound(random: &mut Random, mut nodes: Vec<Node>) -> Vec<u32> {
     while random.one_in(4) {
         damage(random, &mut nodes);

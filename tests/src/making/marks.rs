@@ -10,7 +10,8 @@ pub const FIGURE: [u32; 11] = [1, 2, 2, 3, TEXT, CLOSE, CLOSE, 3, CLOSE, CLOSE, 
 /// Tags of elements, the least and the greatest among them.
 const TAGS: [u32; 4] = [1, 2, 3, TEXT - 1];
 
-/// Accepted marks, unless they go deeper than any may. Now and then they go just about that deep.
+/// Returns accepted marks, unless they go deeper than any may. Now and then they go just about that
+/// deep.
 fn sound(random: &mut Random) -> Vec<u32> {
     let chain = if random.one_in(80) { 60 + random.below(6) } else { 1 };
     let within = random.below(12);
@@ -73,7 +74,7 @@ fn damage_table(random: &mut Random, table: &mut Vec<u32>) {
     }
 }
 
-/// A table that accepted marks mostly have.
+/// Returns a table that accepted marks mostly have.
 pub fn table(random: &mut Random) -> Vec<u32> {
     let document = random.word();
     let marks = sound(random);
@@ -84,7 +85,7 @@ pub fn table(random: &mut Random) -> Vec<u32> {
     misfit(random, table, ROW_WORDS)
 }
 
-/// A tag that the table mostly has.
+/// Returns a tag that the table mostly has.
 pub fn tag(random: &mut Random, table: &[u32]) -> u32 {
     let tags: Vec<u32> = table.chunks_exact(ROW_WORDS).map(|row| row[ROW_WORDS - 1]).collect();
     random.mostly_of(&tags)

@@ -27,12 +27,12 @@ pub struct Entry {
     pub count: usize,
 }
 
-/// Where the contents of so many lists end.
+/// Returns where the contents of `lists` lists end.
 pub fn contents_end(lists: usize) -> usize {
     NUMBER_BYTES + ENTRY_BYTES * lists
 }
 
-/// The bytes of a book that holds these lists, whether it keeps the rules or not.
+/// Returns the bytes of a book that holds these lists, whether it keeps the rules or not.
 pub fn bytes(lists: &[Tagged]) -> Vec<u8> {
     let mut numbers = vec![lists.len() as u32];
     let mut offset = contents_end(lists.len());
@@ -46,35 +46,48 @@ pub fn bytes(lists: &[Tagged]) -> Vec<u8> {
     numbers.into_iter().map(u32::to_le_bytes).collect::<Vec<_>>().concat()
 }
 
-/// The whole numbers that the bytes make.
+/// Returns the whole numbers that the bytes make.
 pub fn numbers(bytes: &[u8]) -> Vec<u32> {
-    bytes.chunks_exact(NUMBER_BYTES).map(|number| u32::from_le_bytes(number.try_into().expect("four bytes"))).collect()
+    bytes
+        .chunks_exact(NUMBER_BYTES)
+        .map(|number| u32::from_le_bytes(number.try_into().expect("four bytes")))
+        .collect()
 }
 
-/// The entries of a book whose contents break no rule.
+/// Returns the entries of a book whose contents break no rule.
 fn contents(book: &[u8]) -> Option<Vec<Entry>> {
     let numbers = numbers(book);
     let lists = *numbers.first()? as usize;
     if lists > MOST_LISTS || book.len() < contents_end(lists) {
         return None;
     }
-    let read = |place: usize| Entry { tag: numbers[place], offset: numbers[place + 1] as usize, count: numbers[place + 2] as usize };
+    let read = |place: usize| Entry {
+        tag: numbers[place],
+        offset: numbers[place + 1] as usize,
+        count: numbers[place + 2] as usize,
+    };
     let entries: Vec<Entry> = (0..lists).map(|list| read(1 + 3 * list)).collect();
-    let body_end = |lists_before: usize| contents_end(lists) + entries[..lists_before].iter().map(|entry| NODE_BYTES * entry.count).sum::<usize>();
+    let body_end = |lists_before: usize| {
+        contents_end(lists)
+            + entries[..lists_before].iter().map(|entry| NODE_BYTES * entry.count).sum::<usize>()
+    };
     let tags_ascend = entries.windows(2).all(|two| two[0].tag < two[1].tag);
     let counts_fit = entries.iter().all(|entry| entry.count <= MOST);
-    let laid = (0..lists).all(|list| entries[list].offset == body_end(list)) && book.len() == body_end(lists);
+    let laid = (0..lists).all(|list| entries[list].offset == body_end(list))
+        && book.len() == body_end(lists);
     (tags_ascend && counts_fit && laid).then_some(entries)
 }
 
-/// The nodes of a list that lies in a book.
+/// Returns the nodes of a list that lies in a book.
 pub fn body_nodes(book: &[u8], entry: &Entry) -> Vec<Node> {
     nodes(&numbers(&book[entry.offset..entry.offset + NODE_BYTES * entry.count]))
 }
 
-/// The first fault in lists, the answer with the list's number and the node's index.
+/// Returns the first fault in lists, the answer with the list's number and the node's index.
 fn list_fault<'a>(lists: impl Iterator<Item = &'a Vec<Node>>) -> Option<Verdict> {
-    let faults = lists.enumerate().map(|(list, nodes)| first_fault(nodes).map(|(answer, index)| Verdict { answer, list: list as u32, index }));
+    let faults = lists.enumerate().map(|(list, nodes)| {
+        first_fault(nodes).map(|(answer, index)| Verdict { answer, list: list as u32, index })
+    });
     faults.flatten().next()
 }
 
@@ -90,7 +103,8 @@ pub fn check(book: &[u8]) -> Opened {
     match contents(book) {
         None => refused(Verdict::of(Answer::Contents)),
         Some(entries) => {
-            let bodies: Vec<Vec<Node>> = entries.iter().map(|entry| body_nodes(book, entry)).collect();
+            let bodies: Vec<Vec<Node>> =
+                entries.iter().map(|entry| body_nodes(book, entry)).collect();
             let taken = Verdict::of(Answer::Taken);
             list_fault(bodies.iter()).map_or(Opened { verdict: taken, entries }, refused)
         }
@@ -117,13 +131,15 @@ pub fn body(book: &[u8], tag: u32) -> Body {
     }
 }
 
-/// The lists that (tag, count) entries make of the nodes, if the entries break no rule.
+/// Returns the lists that (tag, count) entries make of the nodes, if the entries break no rule.
 fn wanted(entries: &[u32], nodes: &[u32]) -> Option<Vec<Tagged>> {
-    let entries: Vec<(u32, usize)> = entries.chunks(WANTED_WORDS).map(|entry| (entry[0], entry[1] as usize)).collect();
+    let entries: Vec<(u32, usize)> =
+        entries.chunks(WANTED_WORDS).map(|entry| (entry[0], entry[1] as usize)).collect();
     let tags_ascend = entries.windows(2).all(|two| two[0].0 < two[1].0);
     let counts_fit = entries.iter().all(|&(_, count)| count <= MOST);
     let all: usize = entries.iter().map(|&(_, count)| count).sum();
-    if entries.len() > MOST_LISTS || !tags_ascend || !counts_fit || NODE_WORDS * all != nodes.len() {
+    if entries.len() > MOST_LISTS || !tags_ascend || !counts_fit || NODE_WORDS * all != nodes.len()
+    {
         return None;
     }
     let mut left = nodes.chunks(NODE_WORDS).map(node);

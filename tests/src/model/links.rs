@@ -9,10 +9,14 @@ pub const LINK_WORDS: usize = 3;
 /// Says that there is no such node.
 pub const NONE: u32 = u32::MAX;
 
-/// The index of the innermost node that contains the node of this index: one that contains it, and has none inside that contains it too.
+/// Returns the index of the innermost node that contains the node of this index: one that contains
+/// it, and has none inside that contains it too.
 fn parent(nodes: &[Node], index: usize) -> Option<usize> {
-    let containers: Vec<usize> = (0..nodes.len()).filter(|&other| inside(&nodes[index], &nodes[other])).collect();
-    containers.iter().copied().find(|&candidate| !containers.iter().any(|&other| inside(&nodes[other], &nodes[candidate])))
+    let containers: Vec<usize> =
+        (0..nodes.len()).filter(|&other| inside(&nodes[index], &nodes[other])).collect();
+    containers.iter().copied().find(|&candidate| {
+        !containers.iter().any(|&other| inside(&nodes[other], &nodes[candidate]))
+    })
 }
 
 pub fn links(list: &[u32], room: usize) -> Written<u32> {
@@ -23,9 +27,14 @@ pub fn links(list: &[u32], room: usize) -> Written<u32> {
     let nodes = nodes(list);
     let parents: Vec<Option<usize>> = (0..nodes.len()).map(|index| parent(&nodes, index)).collect();
     let first_child = |index: usize| parents.iter().position(|&other| other == Some(index));
-    let is_next = |index: usize, other: usize| parents[other] == parents[index] && nodes[other].document == nodes[index].document;
+    let is_next = |index: usize, other: usize| {
+        parents[other] == parents[index] && nodes[other].document == nodes[index].document
+    };
     let next = |index: usize| (index + 1..nodes.len()).find(|&other| is_next(index, other));
     let triple = |index: usize| [parents[index], first_child(index), next(index)];
-    let words = (0..nodes.len()).flat_map(triple).map(|link| link.map_or(NONE, |index| index as u32)).collect();
+    let words = (0..nodes.len())
+        .flat_map(triple)
+        .map(|link| link.map_or(NONE, |index| index as u32))
+        .collect();
     Written::within(room, nodes.len(), words)
 }

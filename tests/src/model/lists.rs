@@ -7,7 +7,7 @@ use super::MOST;
 /// The greatest level.
 pub const MOST_LEVEL: u32 = 64;
 
-/// The first of the answers 3 to 7 that applies to a node after those before it.
+/// Returns the first of the answers 3 to 7 that applies to a node after those before it.
 fn fault(before: &[Node], node: &Node) -> Option<Answer> {
     let crosses = |e: &Node| e.document == node.document && e.end >= node.start && !inside(node, e);
     let not_lower = |e: &Node| inside(node, e) && e.level >= node.level;
@@ -15,7 +15,10 @@ fn fault(before: &[Node], node: &Node) -> Option<Answer> {
         Some(Answer::Level)
     } else if node.end < node.start {
         Some(Answer::Span)
-    } else if before.last().map_or(false, |last| (node.document, node.start) <= (last.document, last.start)) {
+    } else if before
+        .last()
+        .map_or(false, |last| (node.document, node.start) <= (last.document, last.start))
+    {
         Some(Answer::Order)
     } else if before.iter().any(crosses) {
         Some(Answer::Cross)
@@ -26,12 +29,14 @@ fn fault(before: &[Node], node: &Node) -> Option<Answer> {
     }
 }
 
-/// The first faulty node's answer and index.
+/// Returns the first faulty node's answer and index.
 pub fn first_fault(nodes: &[Node]) -> Option<(Answer, u32)> {
-    (0..nodes.len()).find_map(|index| fault(&nodes[..index], &nodes[index]).map(|answer| (answer, index as u32)))
+    (0..nodes.len()).find_map(|index| {
+        fault(&nodes[..index], &nodes[index]).map(|answer| (answer, index as u32))
+    })
 }
 
-/// The check of the list that has this number.
+/// Checks the list that has this number.
 pub fn check_as(list: u32, words: &[u32]) -> Verdict {
     if words.len() % NODE_WORDS != 0 {
         return Verdict { answer: Answer::Ragged, list, index: 0 };
@@ -39,14 +44,19 @@ pub fn check_as(list: u32, words: &[u32]) -> Verdict {
     if words.len() / NODE_WORDS > MOST {
         return Verdict { answer: Answer::Long, list, index: 0 };
     }
-    first_fault(&nodes(words)).map_or(Verdict::of(Answer::Taken), |(answer, index)| Verdict { answer, list, index })
+    first_fault(&nodes(words)).map_or(Verdict::of(Answer::Taken), |(answer, index)| Verdict {
+        answer,
+        list,
+        index,
+    })
 }
 
 pub fn check(words: &[u32]) -> Verdict {
     check_as(ANCESTORS, words)
 }
 
-/// Whether two nodes of one document are neither identical, nor apart, nor one inside the other where the inner one's level is higher.
+/// Tells whether two nodes of one document are neither identical, nor apart, nor one inside the
+/// other where the inner one's level is higher.
 fn at_odds(x: &Node, y: &Node) -> bool {
     let fits_into = |inner: &Node, outer: &Node| inside(inner, outer) && inner.level > outer.level;
     x.document == y.document && x != y && !apart(x, y) && !fits_into(x, y) && !fits_into(y, x)
@@ -62,7 +72,8 @@ pub fn check_two(ancestors: &[u32], descendants: &[u32]) -> Verdict {
     Verdict::of(if joint { Answer::Joint } else { Answer::Taken })
 }
 
-/// A verdict on two lists, and the part at the faulty node: the place of its first word in the list that the verdict names, and its length in words.
+/// A verdict on two lists, and the part at the faulty node: the place of its first word in the list
+/// that the verdict names, and its length in words.
 #[derive(Clone, Copy, Debug, PartialEq, Eq)]
 pub struct Part {
     pub verdict: Verdict,

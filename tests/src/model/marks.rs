@@ -12,7 +12,7 @@ pub const TEXT: u32 = 65_536;
 /// The words of a row: a node's and the tag.
 pub const ROW_WORDS: usize = NODE_WORDS + 1;
 
-/// How many elements are open before each mark, and behind the last.
+/// Returns how many elements are open before each mark, and after the last.
 fn open_elements(marks: &[u32]) -> Vec<i64> {
     let mut open = Vec::with_capacity(marks.len() + 1);
     open.push(0);
@@ -27,7 +27,8 @@ fn open_elements(marks: &[u32]) -> Vec<i64> {
     open
 }
 
-/// The answer that a mark draws at this place of the marks, with so many elements open; those before it draw none.
+/// Returns the answer that a mark draws at this place of the marks, with `open` elements open.
+/// Those before it draw none.
 fn fault(mark: u32, place: usize, open: i64) -> Option<Answer> {
     let outside = open == 0;
     if mark > TEXT {
@@ -41,7 +42,7 @@ fn fault(mark: u32, place: usize, open: i64) -> Option<Answer> {
     }
 }
 
-/// The check of marks, as far as ROOM.
+/// Checks marks, as far as ROOM.
 fn check(marks: &[u32]) -> Answer {
     if marks.len() > MOST {
         return Answer::Long;
@@ -52,10 +53,14 @@ fn check(marks: &[u32]) -> Answer {
     first.unwrap_or(if unclosed { Answer::Unclosed } else { Answer::Taken })
 }
 
-/// The words of the table of accepted marks: a row for each opening and each text.
+/// Returns the words of the table of accepted marks: a row for each opening and each text.
 fn table(document: u32, marks: &[u32]) -> Vec<u32> {
     let open = open_elements(marks);
-    let close_of = |place: usize| (place..marks.len()).find(|&later| open[later + 1] == open[place]).expect("accepted marks close");
+    let close_of = |place: usize| {
+        (place..marks.len())
+            .find(|&later| open[later + 1] == open[place])
+            .expect("accepted marks close")
+    };
     let row = |place: usize| {
         let end = if marks[place] == TEXT { place } else { close_of(place) };
         [document, place as u32 + 1, end as u32 + 1, open[place] as u32 + 1, marks[place]]
@@ -76,7 +81,7 @@ pub fn number(document: u32, marks: &[u32], room: usize) -> Written<u32> {
     Written::within(room, rows.len() / ROW_WORDS, rows)
 }
 
-/// The answer of the words of a table that aren't whole rows, or too many.
+/// Returns the answer of the words of a table that aren't whole rows, or too many.
 fn row_fault(table: &[u32]) -> Option<Answer> {
     if table.len() % ROW_WORDS != 0 {
         Some(Answer::Ragged)
@@ -87,8 +92,9 @@ fn row_fault(table: &[u32]) -> Option<Answer> {
     }
 }
 
-/// The accepted marks that have this table, if there are any. No others than these can have it: they end where the root, the first row, closes; each
-/// row's tag stands at its start, and all the rest are closes.
+/// Returns the accepted marks that have this table, if there are any. No others than these can have
+/// it: they end where the root, the first row, closes. Each row's tag stands at its start, and all
+/// the rest are closes.
 fn marks_of(rows: &[u32]) -> Option<Vec<u32>> {
     let document = *rows.first()?;
     let length = rows[2] as usize;
@@ -127,6 +133,11 @@ pub fn pick(table: &[u32], tag: u32, room: usize) -> Written<u32> {
     if let Some(answer) = row_fault(table) {
         return Written::refused(Verdict::of(answer));
     }
-    let picked: Vec<u32> = table.chunks(ROW_WORDS).filter(|row| row[NODE_WORDS] == tag).flat_map(|row| &row[..NODE_WORDS]).copied().collect();
+    let picked: Vec<u32> = table
+        .chunks(ROW_WORDS)
+        .filter(|row| row[NODE_WORDS] == tag)
+        .flat_map(|row| &row[..NODE_WORDS])
+        .copied()
+        .collect();
     Written::within(room, picked.len() / NODE_WORDS, picked)
 }

@@ -21,7 +21,7 @@ pub fn node(words: &[u32]) -> Node {
     Node { document: words[0], start: words[1], end: words[2], level: words[3] }
 }
 
-/// The whole nodes that the words make.
+/// Returns the whole nodes that the words make.
 pub fn nodes(words: &[u32]) -> Vec<Node> {
     words.chunks_exact(NODE_WORDS).map(node).collect()
 }
@@ -34,17 +34,17 @@ pub fn words(nodes: &[Node]) -> Vec<u32> {
     words
 }
 
-/// Whether y is inside x.
+/// Tells whether y is inside x.
 pub fn inside(y: &Node, x: &Node) -> bool {
     y.document == x.document && x.start < y.start && y.end < x.end
 }
 
-/// Whether y is directly inside x.
+/// Tells whether y is directly inside x.
 pub fn directly_inside(y: &Node, x: &Node) -> bool {
     inside(y, x) && u64::from(y.level) == u64::from(x.level) + 1
 }
 
-/// Whether two nodes of one document are apart.
+/// Tells whether two nodes of one document are apart.
 pub fn apart(x: &Node, y: &Node) -> bool {
     x.end < y.start || y.end < x.start
 }

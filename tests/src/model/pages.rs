@@ -45,14 +45,17 @@ impl Pair {
     }
 
     pub fn words(&self) -> [u32; PAIR_WORDS] {
-        let [[a, b, c, d], [e, f, g, h]] = [self.ancestor, self.descendant].map(|node| node.words());
+        let [[a, b, c, d], [e, f, g, h]] =
+            [self.ancestor, self.descendant].map(|node| node.words());
         [a, b, c, d, e, f, g, h]
     }
 }
 
-/// Every pair of an ancestor and a descendant that has the relation, in no particular order.
+/// Returns every pair of an ancestor and a descendant that has the relation, in no particular
+/// order.
 pub fn pairs(relation: Relation, ancestors: &[Node], descendants: &[Node]) -> Vec<Pair> {
-    let with_all = |&ancestor: &Node| descendants.iter().map(move |&descendant| Pair { ancestor, descendant });
+    let with_all =
+        |&ancestor: &Node| descendants.iter().map(move |&descendant| Pair { ancestor, descendant });
     ancestors.iter().flat_map(with_all).filter(|pair| pair.has(relation)).collect()
 }
 
@@ -73,7 +76,7 @@ pub struct Page {
     pub place: Option<Key>,
 }
 
-/// The page of two lists past a ticket's place, into an output of so many words.
+/// Returns the page of two lists past a ticket's place, into an output of `words` words.
 pub fn page(ancestors: &[u32], descendants: &[u32], ticket: &Ticket, words: usize) -> Page {
     let verdict = check_two(ancestors, descendants);
     if verdict.answer != Answer::Taken {

@@ -8,7 +8,8 @@ use super::pages::{page, Order, Pair, Relation, Ticket};
 /// The most bytes that the program reads.
 pub const MOST_BYTES: usize = 61_440;
 
-/// The pairs of a book's first list with its second, in the order in which the program prints them, or the refusal.
+/// Returns the pairs of a book's first list with its second, in the order in which the program
+/// prints them, or the refusal.
 pub fn joined(book: &[u8]) -> Result<Vec<Pair>, Answer> {
     if book.len() > MOST_BYTES {
         return Err(Answer::Long);
@@ -29,9 +30,11 @@ pub fn joined(book: &[u8]) -> Result<Vec<Pair>, Answer> {
     }
 }
 
-/// The program's whole output.
+/// Returns the program's whole output.
 pub fn printed(book: &[u8]) -> String {
-    let line = |pair: &Pair| format!("{} {} {}\n", pair.ancestor.document, pair.ancestor.start, pair.descendant.start);
+    let line = |pair: &Pair| {
+        format!("{} {} {}\n", pair.ancestor.document, pair.ancestor.start, pair.descendant.start)
+    };
     match joined(book) {
         Ok(pairs) => pairs.iter().map(line).chain([format!("pairs {}\n", pairs.len())]).collect(),
         Err(answer) => format!("refused {} {}\n", answer as u32, NAMES[answer as usize]),
