@@ -1,8 +1,13 @@
 /* Belfrychest for C99 and C++: it pairs every zone with the samples under it, and loses none.
  *
- * A node is four numbers: document, start, end, level. A list is an array of nodes. A listing joins
- * two lists: the ancestors (zones) and the descendants (samples). docs/SCOPE.md says what each
- * number means; this header says what a caller has to know of each call.
+ * A node is four numbers: document, start, end, level. A list is an array of nodes, sorted by
+ * document and start. A listing joins two lists: the ancestors (zones) and the descendants
+ * (samples).
+ *
+ * Node y is inside node x when both are of one document, x.start < y.start and y.end < x.end. It is
+ * directly inside when also y.level == x.level + 1. A node isn't inside itself, and nothing is
+ * inside a text, which ends where it starts. docs/SCOPE.md of the repository has all the rules;
+ * this header says what a caller has to know of each call.
  *
  * What the library does can be called in two ways:
  *
@@ -29,6 +34,10 @@
  *   counts, lengths and places in the answer are 0.
  * - It allocates nothing and keeps nothing, neither an address nor a state. So calls may run at the
  *   same time, as long as none of them writes what another is lent.
+ * - Nobody else writes what a call is lent before it returns, neither a thread nor a signal
+ *   handler.
+ * - There is enough stack. What a call takes has a bound, a few thousand bytes: docs/SPEED.md of the
+ *   repository gives it.
  */
 #ifndef BELFRYCHEST_H
 #define BELFRYCHEST_H

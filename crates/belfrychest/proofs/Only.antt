@@ -39,27 +39,27 @@ name-only κs a r r′ s s′ p q = only p q
 
 pub list-only : (κs : _) (a : _) (r r′ : _) (s s′ : _) → list.Post κs a r s → list.Post κs a r′ s′
     → (now (s .1 .1 .1 .0) ≡ now (s′ .1 .1 .1 .0)) × (r ≡ r′)
-list-only κs a r r′ s s′ p q = (only (p .1) (q .1), only (p .0) (q .0))
+list-only κs a r r′ s s′ p q = (only (p .output) (q .output), only (p .answer) (q .answer))
 
 pub number-only : (κs : _) (a : _) (r r′ : _) (s s′ : _) → number.Post κs a r s → number.Post κs a r′ s′
     → (now (s .1 .1 .0) ≡ now (s′ .1 .1 .0)) × (r ≡ r′)
-number-only κs a r r′ s s′ p q = (only (p .1) (q .1), only (p .0) (q .0))
+number-only κs a r r′ s s′ p q = (only (p .output) (q .output), only (p .answer) (q .answer))
 
 pub unnumber-only : (κs : _) (a : _) (r r′ : _) (s s′ : _) → unnumber.Post κs a r s → unnumber.Post κs a r′ s′
     → (now (s .1 .0) ≡ now (s′ .1 .0)) × (r ≡ r′)
-unnumber-only κs a r r′ s s′ p q = (only (p .1) (q .1), only (p .0) (q .0))
+unnumber-only κs a r r′ s s′ p q = (only (p .output) (q .output), only (p .answer) (q .answer))
 
 pub pick-only : (κs : _) (a : _) (r r′ : _) (s s′ : _) → pick.Post κs a r s → pick.Post κs a r′ s′
     → (now (s .1 .1 .0) ≡ now (s′ .1 .1 .0)) × (r ≡ r′)
-pick-only κs a r r′ s s′ p q = (only (p .1) (q .1), only (p .0) (q .0))
+pick-only κs a r r′ s s′ p q = (only (p .output) (q .output), only (p .answer) (q .answer))
 
 pub links-only : (κs : _) (a : _) (r r′ : _) (s s′ : _) → links.Post κs a r s → links.Post κs a r′ s′
     → (now (s .1 .0) ≡ now (s′ .1 .0)) × (r ≡ r′)
-links-only κs a r r′ s s′ p q = (only (p .1) (q .1), only (p .0) (q .0))
+links-only κs a r r′ s s′ p q = (only (p .output) (q .output), only (p .answer) (q .answer))
 
 pub book-write-only : (κs : _) (a : _) (r r′ : _) (s s′ : _) → book-write.Post κs a r s → book-write.Post κs a r′ s′
     → (now (s .1 .1 .0) ≡ now (s′ .1 .1 .0)) × (r ≡ r′)
-book-write-only κs a r r′ s s′ p q = (only (p .1) (q .1), only (p .0) (q .0))
+book-write-only κs a r r′ s s′ p q = (only (p .output) (q .output), only (p .answer) (q .answer))
 
 pub version-only : (κs : _) (a : _) (r r′ : _) (s s′ : _) → version.Post κs a r s → version.Post κs a r′ s′ → r ≡ r′
 version-only κs a r r′ s s′ p q = only p q

@@ -29,8 +29,10 @@ pub extern "C" fn belfry_book_body(book: &[u8], tag: u32) -> Found
 // Writes the book of `entries` and `nodes` into `out`, and returns what `write_book` returns.
 #[no_mangle]
 pub extern "C" fn belfry_book_write(entries: &[u32], nodes: &[u32], out: &mut [u8]) -> Counted
-    ensures { λ r. ⌜ (r ≡ writtenOf (now (entries .entry)) (now (nodes .entry)) (now (out .entry)))
-        × (now (out .exit) ≡ writtenOutput (now (entries .entry)) (now (nodes .entry)) (now (out .entry))) ⌝ }
+    ensures { λ r. ⌜ record {
+      answer : r ≡ writtenOf (now (entries .entry)) (now (nodes .entry)) (now (out .entry));
+      output : now (out .exit) ≡ writtenOutput (now (entries .entry)) (now (nodes .entry)) (now (out .entry));
+    } ⌝ }
 {
     write_book(entries, nodes, out)
 }

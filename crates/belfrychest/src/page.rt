@@ -57,8 +57,10 @@ pub extern "C" fn belfry_list(
     words: TicketWords,
     out: &mut [u32],
 ) -> BelfryPage
-    ensures { λ r. ⌜ (r ≡ shownPage words (pageOf (now (ancestors .entry)) (now (descendants .entry)) (ticketOf words) (now (out .entry))))
-        × (now (out .exit) ≡ outputAfter (now (ancestors .entry)) (now (descendants .entry)) (ticketOf words) (now (out .entry))) ⌝ }
+    ensures { λ r. ⌜ record {
+      answer : r ≡ shownPage words (pageOf (now (ancestors .entry)) (now (descendants .entry)) (ticketOf words) (now (out .entry)));
+      output : now (out .exit) ≡ outputAfter (now (ancestors .entry)) (now (descendants .entry)) (ticketOf words) (now (out .entry));
+    } ⌝ }
 {
     let asked = ticket_of(words);
     shown_page(words, next_page(ancestors, descendants, asked, out))

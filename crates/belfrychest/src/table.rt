@@ -12,8 +12,10 @@ ghost use Rattle.marks.specs.Outcome.{numberOutcome, numberOutput, unnumberOutc
 // Numbers `marks` as `document` and writes the table into `out`, as `number` does.
 #[no_mangle]
 pub extern "C" fn belfry_number(document: u32, marks: &[u32], out: &mut [u32]) -> Counted
-    ensures { λ r. ⌜ (r ≡ numberOutcome document (now (marks .entry)) (now (out .entry)))
-        × (now (out .exit) ≡ numberOutput document (now (marks .entry)) (now (out .entry))) ⌝ }
+    ensures { λ r. ⌜ record {
+      answer : r ≡ numberOutcome document (now (marks .entry)) (now (out .entry));
+      output : now (out .exit) ≡ numberOutput document (now (marks .entry)) (now (out .entry));
+    } ⌝ }
 {
     number(document, marks, out)
 }
@@ -21,8 +23,10 @@ pub extern "C" fn belfry_number(document: u32, marks: &[u32], out: &mut [u32]) -
 // Writes the marks of `table` into `out`, as `unnumber` does.
 #[no_mangle]
 pub extern "C" fn belfry_unnumber(table: &[u32], out: &mut [u32]) -> Unnumbered
-    ensures { λ r. ⌜ (r ≡ unnumberOutcome (now (table .entry)) (now (out .entry)))
-        × (now (out .exit) ≡ unnumberOutput (now (table .entry)) (now (out .entry))) ⌝ }
+    ensures { λ r. ⌜ record {
+      answer : r ≡ unnumberOutcome (now (table .entry)) (now (out .entry));
+      output : now (out .exit) ≡ unnumberOutput (now (table .entry)) (now (out .entry));
+    } ⌝ }
 {
     unnumber(table, out)
 }
@@ -30,8 +34,10 @@ pub extern "C" fn belfry_unnumber(table: &[u32], out: &mut [u32]) -> Unnumbered
 // Picks the nodes with `tag` out of `table` and writes them into `out`, as `pick` does.
 #[no_mangle]
 pub extern "C" fn belfry_pick(table: &[u32], tag: u32, out: &mut [u32]) -> Counted
-    ensures { λ r. ⌜ (r ≡ pickOutcome (now (table .entry)) tag (now (out .entry)))
-        × (now (out .exit) ≡ pickOutput (now (table .entry)) tag (now (out .entry))) ⌝ }
+    ensures { λ r. ⌜ record {
+      answer : r ≡ pickOutcome (now (table .entry)) tag (now (out .entry));
+      output : now (out .exit) ≡ pickOutput (now (table .entry)) tag (now (out .entry));
+    } ⌝ }
 {
     pick(table, tag, out)
 }
@@ -39,8 +45,10 @@ pub extern "C" fn belfry_pick(table: &[u32], tag: u32, out: &mut [u32]) -> Count
 // Links the nodes of `list` and writes the links into `out`, as `link_list` does.
 #[no_mangle]
 pub extern "C" fn belfry_links(list: &[u32], out: &mut [u32]) -> Counted
-    ensures { λ r. ⌜ (r ≡ linkedOf (now (list .entry)) (now (out .entry)))
-        × (now (out .exit) ≡ linksOutput (now (list .entry)) (now (out .entry))) ⌝ }
+    ensures { λ r. ⌜ record {
+      answer : r ≡ linkedOf (now (list .entry)) (now (out .entry));
+      output : now (out .exit) ≡ linksOutput (now (list .entry)) (now (out .entry));
+    } ⌝ }
 {
     link_list(list, out)
 }

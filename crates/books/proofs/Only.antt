@@ -25,4 +25,4 @@ has-tag-only κs a r r′ s s′ p q = only p q
 
 pub tag-body-only : (κs : _) (a : _) (r r′ : _) (s s′ : _) → tag-body.Post κs a r s → tag-body.Post κs a r′ s′
     → (now r ≡ now r′) × (ptr r ≡ ptr r′)
-tag-body-only κs a r r′ s s′ p q = (only (p .0) (q .0), only (p .1) (q .1))
+tag-body-only κs a r r′ s s′ p q = (only (p .contents) (q .contents), only (p .place) (q .place))

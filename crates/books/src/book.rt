@@ -26,8 +26,10 @@ pub struct Opened {
 
 // Returns the body that `entry` names, as far as the book goes.
 pub(crate) fn body_of(book: &[u8], entry: Entry) -> &[u8]
-    ensures { λ r. ⌜ (now r ≡ bodyOf (now (book .entry)) entry)
-        × (ptr r ≡ bodyPlace (ptr (book .entry)) (now (book .entry)) entry) ⌝ }
+    ensures { λ r. ⌜ record {
+      contents : now r ≡ bodyOf (now (book .entry)) entry;
+      place : ptr r ≡ bodyPlace (ptr (book .entry)) (now (book .entry)) entry;
+    } ⌝ }
 {
     part_of(
         book,

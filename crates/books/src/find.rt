@@ -105,8 +105,10 @@ pub fn has_tag(book: &[u8], lists: u32, tag: u32) -> bool
 // of the very bytes that were lent. Where no list has the tag, that is the empty part at their
 // beginning. Nothing is checked again.
 pub fn tag_body(book: &[u8], lists: u32, tag: u32) -> &[u8]
-    ensures { λ r. ⌜ (now r ≡ tagBody (now (book .entry)) lists tag)
-        × (ptr r ≡ tagPlace (ptr (book .entry)) (now (book .entry)) lists tag) ⌝ }
+    ensures { λ r. ⌜ record {
+      contents : now r ≡ tagBody (now (book .entry)) lists tag;
+      place : ptr r ≡ tagPlace (ptr (book .entry)) (now (book .entry)) lists tag;
+    } ⌝ }
 {
     let position = tag_at(book, lists, tag);
     if lists as usize <= position {

@@ -31,7 +31,10 @@ const PAINT: u8 = 165;
 
 // Returns the lesser of `a` and `b`.
 fn lesser(a: usize, b: usize) -> usize
-    ensures { λ r. ⌜ (r ≤ a) × (r ≤ b) ⌝ }
+    ensures { λ r. ⌜ record {
+      first : r ≤ a;
+      second : r ≤ b;
+    } ⌝ }
 {
     if a < b {
         return a;

@@ -23,7 +23,7 @@ use Rattle.forest.proofs.LinkLaws.{links-length}
 module _ (list out : List ℕ) (v : Verdict) (q : v ≡ checkWords list) where
   -- what a call answers and leaves: a faulty list's verdict, ROOM, or the links
   abbrev Answers : Counted → List ℕ → Type 0
-  Answers r after = (r ≡ linkedOf list out) × (after ≡ linksOutput list out)
+  Answers r after = record { answer : r ≡ linkedOf list out; output : after ≡ linksOutput list out }
 
   pub refused : (v .answer ≡ TAKEN → ⊥) → Answers (counted v 0) out
   unfolding linkedOf linksOutput outputOf
@@ -32,10 +32,10 @@ module _ (list out : List ℕ) (v : Verdict) (q : v ≡ checkWords list) where
       let f : c .answer ≡ TAKEN → ⊥ = λ z. h (ap (λ w. w .answer) q ∙ z) in
       let a = answer-fault (c .answer) (linksIn list) out f in
       let n : answerOf (c .answer) (linksIn list) out ≡ TAKEN → ⊥ = λ z. f (sym a ∙ z) in
-      let k = if-refused (c .answer) (linksIn list) out (length (nodes list)) 0 n in (
-        ap (λ w. counted w 0) q ∙ λ t. counted (verdict (sym a t) (single list .0 t) (c .index)) (sym k t),
-        sym (if-refused (c .answer) (linksIn list) out (written (linksIn list) out) out n),
-      )
+      let k = if-refused (c .answer) (linksIn list) out (length (nodes list)) 0 n in record {
+        answer = ap (λ w. counted w 0) q ∙ λ t. counted (verdict (sym a t) (single list .0 t) (c .index)) (sym k t);
+        output = sym (if-refused (c .answer) (linksIn list) out (written (linksIn list) out) out n);
+      }
 
   module _ (h : v .answer ≡ TAKEN) where
     fault-none : checkWords list .answer ≡ TAKEN
@@ -47,10 +47,10 @@ module _ (list out : List ℕ) (v : Verdict) (q : v ≡ checkWords list) where
         let c = checkWords list in
         let a = answer-room (c .answer) (linksIn list) out fault-none (omega (arith, links-length list)) in
         let n : answerOf (c .answer) (linksIn list) out ≡ TAKEN → ⊥ = λ z. omega (arith, sym a ∙ z) in
-        let k = if-refused (c .answer) (linksIn list) out (length (nodes list)) 0 n in (
-          e ∙ λ t. counted (verdict (sym a t) ANCESTORS (sym (single list .1 fault-none) t)) (sym k t),
-          sym (if-refused (c .answer) (linksIn list) out (written (linksIn list) out) out n),
-        )
+        let k = if-refused (c .answer) (linksIn list) out (length (nodes list)) 0 n in record {
+          answer = e ∙ λ t. counted (verdict (sym a t) ANCESTORS (sym (single list .1 fault-none) t)) (sym k t);
+          output = sym (if-refused (c .answer) (linksIn list) out (written (linksIn list) out) out n);
+        }
 
     pub all-linked : count list ≤ length out / 3 → (n : ℕ) → n ≡ count list → (s : Counted) → s ≡ counted taken n → (after : List ℕ)
         → after ≡ written (linksIn list) out → Answers s after
@@ -58,7 +58,7 @@ module _ (list out : List ℕ) (v : Verdict) (q : v ≡ checkWords list) where
     all-linked l n r s e after w =
         let c = checkWords list in
         let a = answer-taken (c .answer) (linksIn list) out fault-none (omega (arith, links-length list)) in
-        let k = if-taken (c .answer) (linksIn list) out (length (nodes list)) 0 a in (
-          e ∙ λ t. counted (verdict (sym a t) ANCESTORS (sym (single list .1 fault-none) t)) ((r ∙ sym (k ∙ length-nodes list)) t),
-          w ∙ sym (if-taken (c .answer) (linksIn list) out (written (linksIn list) out) out a),
-        )
+        let k = if-taken (c .answer) (linksIn list) out (length (nodes list)) 0 a in record {
+          answer = e ∙ λ t. counted (verdict (sym a t) ANCESTORS (sym (single list .1 fault-none) t)) ((r ∙ sym (k ∙ length-nodes list)) t);
+          output = w ∙ sym (if-taken (c .answer) (linksIn list) out (written (linksIn list) out) out a);
+        }

@@ -9,4 +9,4 @@ use Rattle.forest.proofs.forest.link_list.Reads as link-list
 
 pub link-list-only : (κs : _) (a : _) (r r′ : _) (s s′ : _) → link-list.Post κs a r s → link-list.Post κs a r′ s′
     → (now (s .1 .0) ≡ now (s′ .1 .0)) × (r ≡ r′)
-link-list-only κs a r r′ s s′ p q = (only (p .1) (q .1), only (p .0) (q .0))
+link-list-only κs a r r′ s s′ p q = (only (p .output) (q .output), only (p .answer) (q .answer))

@@ -86,8 +86,10 @@ fn link_all(list: &[u32], out: &mut [u32])
 // Writes the links of the list's nodes into `out`, three words a node in list order. Returns the
 // list's verdict or ROOM, and the number of nodes linked. On refusal `out` stays as it was.
 pub fn link_list(list: &[u32], out: &mut [u32]) -> Counted
-    ensures { λ r. ⌜ (r ≡ linkedOf (now (list .entry)) (now (out .entry)))
-        × (now (out .exit) ≡ linksOutput (now (list .entry)) (now (out .entry))) ⌝ }
+    ensures { λ r. ⌜ record {
+      answer : r ≡ linkedOf (now (list .entry)) (now (out .entry));
+      output : now (out .exit) ≡ linksOutput (now (list .entry)) (now (out .entry));
+    } ⌝ }
 {
     let verdict = check_list(list);
     if verdict.answer != TAKEN {

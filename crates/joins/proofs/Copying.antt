@@ -33,15 +33,16 @@ tag-copied book lists tag body words e h = copied-whole body words h ∙ ap (λ 
 module _ (book : List ℕ) (lists ancestors descendants : ℕ) (first second : List ℕ) where
   -- what is returned, and the words on return, are as defined
   abbrev pub Answered : Lengths → List ℕ → List ℕ → Type 0
-  Answered r f s =
-      (r ≡ lengthsOf book lists ancestors descendants first second)
-      × (f ≡ firstAfter book lists ancestors descendants first second)
-      × (s ≡ secondAfter book lists ancestors descendants first second)
+  Answered r f s = record {
+    answer : r ≡ lengthsOf book lists ancestors descendants first second;
+    first-output : f ≡ firstAfter book lists ancestors descendants first second;
+    second-output : s ≡ secondAfter book lists ancestors descendants first second;
+  }
 
   refuses : (answer : ℕ) → copyAnswer book lists ancestors descendants first second ≡ answer → (answer ≡ TAKEN → ⊥)
       → (r : Lengths) → r ≡ refused answer → Answered r first second
   unfolding lengthsOf firstAfter secondAfter
-  refuses answer q h r e = rw (q, ne-eqb answer TAKEN h) (e, refl, refl)
+  refuses answer q h r e = rw (q, ne-eqb answer TAKEN h) (record { answer = e; first-output = refl; second-output = refl })
 
   -- one of the tags isn't there
   pub absent-first : hasTag book lists ancestors ≡ false → (r : Lengths) → r ≡ refused ABSENT → Answered r first second
@@ -87,4 +88,8 @@ module _ (book : List ℕ) (lists ancestors descendants : ℕ) (first second : L
               le-leb (length (tagWords book lists ancestors)) (length first) (omega arith),
               le-leb (length (tagWords book lists descendants)) (length second) (omega arith),
             )
-            ((λ i. lengths (e i) (l i) (m i)), tag-copied book lists ancestors a first p f, tag-copied book lists descendants d second q s)
+            (record {
+              answer = λ i. lengths (e i) (l i) (m i);
+              first-output = tag-copied book lists ancestors a first p f;
+              second-output = tag-copied book lists descendants d second q s;
+            })

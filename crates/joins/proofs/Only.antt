@@ -9,4 +9,4 @@ use Rattle.joins.proofs.copy.copy_lists.Reads as copy-lists
 
 pub copy-lists-only : (κs : _) (a : _) (r r′ : _) (s s′ : _) → copy-lists.Post κs a r s → copy-lists.Post κs a r′ s′
     → (r ≡ r′) × (now (s .1 .1 .1 .1 .0) ≡ now (s′ .1 .1 .1 .1 .0)) × (now (s .1 .1 .1 .1 .1 .0) ≡ now (s′ .1 .1 .1 .1 .1 .0))
-copy-lists-only κs a r r′ s s′ p q = (only (p .0) (q .0), only (p .1) (q .1), only (p .2) (q .2))
+copy-lists-only κs a r r′ s s′ p q = (only (p .answer) (q .answer), only (p .first-output) (q .first-output), only (p .second-output) (q .second-output))

@@ -41,9 +41,11 @@ pub fn copy_lists(
     first: &mut [u32],
     second: &mut [u32],
 ) -> Lengths
-    ensures { λ r. ⌜ (r ≡ lengthsOf (now (book .entry)) lists ancestors descendants (now (first .entry)) (now (second .entry)))
-        × (now (first .exit) ≡ firstAfter (now (book .entry)) lists ancestors descendants (now (first .entry)) (now (second .entry)))
-        × (now (second .exit) ≡ secondAfter (now (book .entry)) lists ancestors descendants (now (first .entry)) (now (second .entry))) ⌝ }
+    ensures { λ r. ⌜ record {
+      answer : r ≡ lengthsOf (now (book .entry)) lists ancestors descendants (now (first .entry)) (now (second .entry));
+      first-output : now (first .exit) ≡ firstAfter (now (book .entry)) lists ancestors descendants (now (first .entry)) (now (second .entry));
+      second-output : now (second .exit) ≡ secondAfter (now (book .entry)) lists ancestors descendants (now (first .entry)) (now (second .entry));
+    } ⌝ }
 {
     if !has_tag(book, lists, ancestors) {
         return refused_by(ABSENT);

@@ -2,16 +2,15 @@
 -- and that byte parts them.
 -- What would break it: A line longer than its room, or a field in another's place, would be caught
 -- here.
-use mathlib.Core.Path.{_≡_, sym, subst}
+use mathlib.Core.Path.{sym, subst}
 use mathlib.Core.List.{List, [], _∷_, _++_, append-assoc}
 use Prim.Native.Nat.{ℕ, _+_, _≤_, _<_}
 use native.Mathlib.Omega.{arith}
 use lib.ListN.{length, length-append}
-use lib.Seq.{sets}
 use Rattle.nodes.specs.declared.node.Node.{Node}
 use Rattle.lines.specs.Line.{BLANK, LINE-FEED, LINE-BYTES, decimal, pairWith, pairLine}
 use Rattle.lines.proofs.Digits.{digits-32, digits-64}
-use Rattle.lines.proofs.Putting.{Put, put-parted}
+use Rattle.lines.proofs.Putting.{Put, Told, put-parted}
 
 -- a 32-bit number and a byte take at most eleven bytes, a 64-bit one and a byte at most twenty-one
 pub field-32 : (n b : ℕ) → n < 4294967296 → length (decimal n ++ b ∷ []) ≤ 11
@@ -39,7 +38,7 @@ line-few x y p q r =
 
 -- a field is put after a byte that parts it from what was put before
 pub put-field : {before : List ℕ} {at : ℕ} {after : List ℕ} {to : ℕ} (us : List ℕ) (a : ℕ) → Put before at (us ++ a ∷ []) after to
-    → {after′ : List ℕ} {to′ : ℕ} (n b : ℕ) → (to′ ≡ to + length (decimal n ++ b ∷ [])) × (after′ ≡ sets after to (decimal n ++ b ∷ []))
+    → {after′ : List ℕ} {to′ : ℕ} (n b : ℕ) → Told after to (decimal n ++ b ∷ []) after′ to′
     → Put before at (us ++ a ∷ decimal n ++ b ∷ []) after′ to′
 put-field {before} {at} us a p {after′} {to′} n b e =
     subst (λ ws. Put before at ws after′ to′) (sym (append-assoc us (a ∷ decimal n) (b ∷ []))) (put-parted us a p (decimal n ++ b ∷ []) e)

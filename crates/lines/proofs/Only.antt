@@ -11,12 +11,12 @@ use Rattle.lines.proofs.line.put_total.Reads as put-total
 
 pub put-lines-only : (κs : _) (a : _) (r r′ : _) (s s′ : _) → put-lines.Post κs a r s → put-lines.Post κs a r′ s′
     → (now (s .1 .0) ≡ now (s′ .1 .0)) × (r ≡ r′)
-put-lines-only κs a r r′ s s′ p q = (only (p .1) (q .1), only (p .0) (q .0))
+put-lines-only κs a r r′ s s′ p q = (only (p .text) (q .text), only (p .length) (q .length))
 
 pub put-total-only : (κs : _) (a : _) (r r′ : _) (s s′ : _) → put-total.Post κs a r s → put-total.Post κs a r′ s′
     → (now (s .1 .0) ≡ now (s′ .1 .0)) × (r ≡ r′)
-put-total-only κs a r r′ s s′ p q = (only (p .1) (q .1), only (p .0) (q .0))
+put-total-only κs a r r′ s s′ p q = (only (p .text) (q .text), only (p .length) (q .length))
 
 pub put-refusal-only : (κs : _) (a : _) (r r′ : _) (s s′ : _) → put-refusal.Post κs a r s → put-refusal.Post κs a r′ s′
     → (now (s .1 .0) ≡ now (s′ .1 .0)) × (r ≡ r′)
-put-refusal-only κs a r r′ s s′ p q = (only (p .1) (q .1), only (p .0) (q .0))
+put-refusal-only κs a r r′ s s′ p q = (only (p .text) (q .text), only (p .length) (q .length))

@@ -15,26 +15,27 @@ pub record Put (before : List ℕ) (at : ℕ) (us after : List ℕ) (to : ℕ) :
   pub place : to ≡ at + length us
   pub shows : after ≡ sets before at us
 
--- the same, as a contract says it
-pub put-first : (before : List ℕ) (at : ℕ) (us : List ℕ) {after : List ℕ} {to : ℕ} → (to ≡ at + length us) × (after ≡ sets before at us)
-    → Put before at us after to
-put-first before at us e = record { place = e .0; shows = e .1 }
+-- the same as a contract says it, and back
+abbrev pub Told : List ℕ → ℕ → List ℕ → List ℕ → ℕ → Type 0
+Told before at us after to = record { next : to ≡ at + length us; text : after ≡ sets before at us }
 
-pub put-told : {before : List ℕ} {at : ℕ} {us after : List ℕ} {to : ℕ} → Put before at us after to
-    → (to ≡ at + length us) × (after ≡ sets before at us)
-put-told p = (p .place, p .shows)
+pub put-first : (before : List ℕ) (at : ℕ) (us : List ℕ) {after : List ℕ} {to : ℕ} → Told before at us after to → Put before at us after to
+put-first before at us e = record { place = e .next; shows = e .text }
+
+pub put-told : {before : List ℕ} {at : ℕ} {us after : List ℕ} {to : ℕ} → Put before at us after to → Told before at us after to
+put-told p = record { next = p .place; text = p .shows }
 
 -- the next text is put right after it
 pub put-next : {before : List ℕ} {at : ℕ} {us after : List ℕ} {to : ℕ} → Put before at us after to → (vs : List ℕ) {after′ : List ℕ} {to′ : ℕ}
-    → (to′ ≡ to + length vs) × (after′ ≡ sets after to vs) → Put before at (us ++ vs) after′ to′
+    → Told after to vs after′ to′ → Put before at (us ++ vs) after′ to′
 put-next {before} {at} {us} p vs e = record {
-  place = e .0 ∙ ap (λ k. k + length vs) (p .place) ∙ omega (arith, length-append us vs);
-  shows = e .1 ∙ (λ k. sets (p .shows k) (p .place k) vs) ∙ sets-more us vs before at (at + length us) refl;
+  place = e .next ∙ ap (λ k. k + length vs) (p .place) ∙ omega (arith, length-append us vs);
+  shows = e .text ∙ (λ k. sets (p .shows k) (p .place k) vs) ∙ sets-more us vs before at (at + length us) refl;
 }
 
 -- the next text is put right after a byte that parts the two
 pub put-parted : {before : List ℕ} {at : ℕ} {after : List ℕ} {to : ℕ} (us : List ℕ) (a : ℕ) → Put before at (us ++ a ∷ []) after to
-    → (vs : List ℕ) {after′ : List ℕ} {to′ : ℕ} → (to′ ≡ to + length vs) × (after′ ≡ sets after to vs) → Put before at (us ++ a ∷ vs) after′ to′
+    → (vs : List ℕ) {after′ : List ℕ} {to′ : ℕ} → Told after to vs after′ to′ → Put before at (us ++ a ∷ vs) after′ to′
 put-parted {before} {at} us a p vs {after′} {to′} e = subst (λ ws. Put before at ws after′ to′) (append-snoc us a vs) (put-next p vs e)
 
 -- a text and what lies after it may be stored in either order
@@ -55,6 +56,10 @@ pub sets-last-first : (ws : List ℕ) (at : ℕ) (us : List ℕ) (next : ℕ) (v
 sets-last-first ws at us next vs e = sets-apart ws at us next vs (omega arith) ∙ sets-more us vs ws at next e
 
 -- a text put at the beginning is what is written there
-pub put-written : (before us : List ℕ) {after : List ℕ} {to : ℕ} → to ≤ length before → Put before 0 us after to
-    → (to ≡ length us) × (after ≡ written us before)
-put-written before us h p = let place = p .place in (omega arith, p .shows ∙ sets-written us before (omega arith))
+abbrev pub Begins : List ℕ → List ℕ → List ℕ → ℕ → Type 0
+Begins before us after to = record { length : to ≡ length us; text : after ≡ written us before }
+
+pub put-written : (before us : List ℕ) {after : List ℕ} {to : ℕ} → to ≤ length before → Put before 0 us after to → Begins before us after to
+put-written before us h p =
+    let place = p .place in
+    record { length = omega arith; text = p .shows ∙ sets-written us before (omega arith) }

@@ -32,8 +32,10 @@ fn put_line(
     table: &[u8; TABLE_BYTES],
 ) -> usize
     requires { ⌜ (at + LINE-BYTES ≤ length (now text)) × Tabled (now table) ⌝ }
-    ensures { λ r. ⌜ (r ≡ at + length (pairLine (pairWith ancestor descendant)))
-        × (now (text .exit) ≡ sets (now (text .entry)) at (pairLine (pairWith ancestor descendant))) ⌝ }
+    ensures { λ r. ⌜ record {
+      next : r ≡ at + length (pairLine (pairWith ancestor descendant));
+      text : now (text .exit) ≡ sets (now (text .entry)) at (pairLine (pairWith ancestor descendant));
+    } ⌝ }
 {
     let mut to = put_field(text, at, ancestor.document as u64, b' ', table);
     to = put_field(text, to, ancestor.start as u64, b' ', table);
@@ -44,8 +46,10 @@ fn put_line(
 // puts as many as there is room for, however long they are. A pair is eight words, the ancestor's
 // and then the descendant's.
 pub fn put_lines(pairs: &[u32], text: &mut [u8]) -> usize
-    ensures { λ r. ⌜ (r ≡ length (linesFor (now (pairs .entry)) (now (text .entry))))
-        × (now (text .exit) ≡ written (linesFor (now (pairs .entry)) (now (text .entry))) (now (text .entry))) ⌝ }
+    ensures { λ r. ⌜ record {
+      length : r ≡ length (linesFor (now (pairs .entry)) (now (text .entry)));
+      text : now (text .exit) ≡ written (linesFor (now (pairs .entry)) (now (text .entry))) (now (text .entry));
+    } ⌝ }
 {
     let table = TWO_DIGITS;
     let room = text.len() / LINE_BYTES;
@@ -68,7 +72,10 @@ pub fn put_lines(pairs: &[u32], text: &mut [u8]) -> usize
 // Puts the line that says how many pairs there are at the beginning of `text`, and returns how many
 // bytes it has.
 pub fn put_total(count: u64, text: &mut [u8; NOTE_BYTES]) -> usize
-    ensures { λ r. ⌜ (r ≡ length (totalLine count)) × (now (text .exit) ≡ written (totalLine count) (now (text .entry))) ⌝ }
+    ensures { λ r. ⌜ record {
+      length : r ≡ length (totalLine count);
+      text : now (text .exit) ≡ written (totalLine count) (now (text .entry));
+    } ⌝ }
 {
     let table = TWO_DIGITS;
     let to = put_bytes(text, 0, b"pairs ");
@@ -78,7 +85,10 @@ pub fn put_total(count: u64, text: &mut [u8; NOTE_BYTES]) -> usize
 // Puts the line that says why nothing is listed at the beginning of `text`, and returns how many
 // bytes it has. It gives the answer's number and its name, which `answers` keeps in a table.
 pub fn put_refusal(answer: u32, text: &mut [u8; NOTE_BYTES]) -> usize
-    ensures { λ r. ⌜ (r ≡ length (refusalLine answer)) × (now (text .exit) ≡ written (refusalLine answer) (now (text .entry))) ⌝ }
+    ensures { λ r. ⌜ record {
+      length : r ≡ length (refusalLine answer);
+      text : now (text .exit) ≡ written (refusalLine answer) (now (text .entry));
+    } ⌝ }
 {
     let table = TWO_DIGITS;
     let mut to = put_bytes(text, 0, b"refused ");

@@ -22,7 +22,10 @@ pub(crate) const TWO_DIGITS: [u8; TABLE_BYTES] = *b"0001020304050607080910111213
 // Puts `byte` into `text` at `at`.
 pub(crate) fn put_byte(text: &mut [u8], at: usize, byte: u8) -> usize
     requires { ⌜ at < length (now text) ⌝ }
-    ensures { λ r. ⌜ (r ≡ at + 1) × (now (text .exit) ≡ sets (now (text .entry)) at (byte ∷ [])) ⌝ }
+    ensures { λ r. ⌜ record {
+      next : r ≡ at + 1;
+      text : now (text .exit) ≡ sets (now (text .entry)) at (byte ∷ []);
+    } ⌝ }
 {
     text[at] = byte;
     at + 1
@@ -31,7 +34,10 @@ pub(crate) fn put_byte(text: &mut [u8], at: usize, byte: u8) -> usize
 // Puts `bytes` into `text` at `at`.
 pub(crate) fn put_bytes(text: &mut [u8], at: usize, bytes: &[u8]) -> usize
     requires { ⌜ at + length (now bytes) ≤ length (now text) ⌝ }
-    ensures { λ r. ⌜ (r ≡ at + length (now (bytes .entry))) × (now (text .exit) ≡ sets (now (text .entry)) at (now (bytes .entry))) ⌝ }
+    ensures { λ r. ⌜ record {
+      next : r ≡ at + length (now (bytes .entry));
+      text : now (text .exit) ≡ sets (now (text .entry)) at (now (bytes .entry));
+    } ⌝ }
 {
     let mut index = 0;
     // Rests on answers: OutputLaws: sets-more.
@@ -73,7 +79,10 @@ fn put_two(text: &mut [u8], at: usize, number: u64, table: &[u8; TABLE_BYTES])
 // they belong, from the last two to the first one or two.
 fn put_decimal(text: &mut [u8], at: usize, number: u64, table: &[u8; TABLE_BYTES]) -> usize
     requires { ⌜ (at + length (decimal number) ≤ length (now text)) × Tabled (now table) ⌝ }
-    ensures { λ r. ⌜ (r ≡ at + length (decimal number)) × (now (text .exit) ≡ sets (now (text .entry)) at (decimal number)) ⌝ }
+    ensures { λ r. ⌜ record {
+      next : r ≡ at + length (decimal number);
+      text : now (text .exit) ≡ sets (now (text .entry)) at (decimal number);
+    } ⌝ }
 {
     let end = at + digit_count(number);
     let mut rest = number;
@@ -101,8 +110,10 @@ pub(crate) fn put_field(
     table: &[u8; TABLE_BYTES],
 ) -> usize
     requires { ⌜ (at + length (decimal number) < length (now text)) × Tabled (now table) ⌝ }
-    ensures { λ r. ⌜ (r ≡ at + length (decimal number ++ after ∷ []))
-        × (now (text .exit) ≡ sets (now (text .entry)) at (decimal number ++ after ∷ [])) ⌝ }
+    ensures { λ r. ⌜ record {
+      next : r ≡ at + length (decimal number ++ after ∷ []);
+      text : now (text .exit) ≡ sets (now (text .entry)) at (decimal number ++ after ∷ []);
+    } ⌝ }
 {
     let to = put_decimal(text, at, number, table);
     put_byte(text, to, after)
@@ -111,8 +122,10 @@ pub(crate) fn put_field(
 // Puts the word `letters` into `text` at `at`, without its blanks.
 pub(crate) fn put_unfilled(text: &mut [u8], at: usize, letters: &[u8]) -> usize
     requires { ⌜ at + length (now letters) ≤ length (now text) ⌝ }
-    ensures { λ r. ⌜ (r ≡ at + length (unfilled (now (letters .entry))))
-        × (now (text .exit) ≡ sets (now (text .entry)) at (unfilled (now (letters .entry)))) ⌝ }
+    ensures { λ r. ⌜ record {
+      next : r ≡ at + length (unfilled (now (letters .entry)));
+      text : now (text .exit) ≡ sets (now (text .entry)) at (unfilled (now (letters .entry)));
+    } ⌝ }
 {
     let mut to = at;
     let mut index = 0;

@@ -40,9 +40,9 @@ unfolding merge
 none-left xs ys i j h k = rw (ended xs i h, ended ys j k) refl
 
 -- what is drawn, in the terms of a function's result
-pub drawn-as : {xs ys : List ℕ} {i j : ℕ} {m n : Node} {f s first second : ℕ} → (n ≡ m) × (first ≡ f) × (second ≡ s)
+pub drawn-as : {xs ys : List ℕ} {i j : ℕ} {m n : Node} {f s first second : ℕ} → record { node : n ≡ m; first : first ≡ f; second : second ≡ s }
     → Drawn xs ys i j m f s → Drawn xs ys i j n first second
-drawn-as e d = rw (e .0, e .1, e .2) d
+drawn-as e d = rw (e .node, e .first, e .second) d
 
 module _ (xs ys : List ℕ) (i j : ℕ) (iₙ : Cut i xs) (jₙ : Cut j ys) where
   pub only-first : i < length xs → length ys ≤ j → Drawn xs ys i j (nodeFrom xs i) (i + 4) j

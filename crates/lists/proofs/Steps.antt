@@ -79,11 +79,11 @@ module _ (s : List Node) (n : Node) (i : ℕ) (ws : List ℕ) (r : Step) where
 -- the returns of `put_on_top`, where u words of the stack are left
 module _ (st : List ℕ) (u : ℕ) (n : Node) (i : ℕ) (ws : List ℕ) (r : Step) where
   abbrev Pushed : Type 0
-  Pushed = (r ≡ Reached (listPlace (i + 1) (u + 4))) × (opened (u + 4) ws ≡ n ∷ opened u st)
+  Pushed = record { answer : r ≡ Reached (listPlace (i + 1) (u + 4)); stack : opened (u + 4) ws ≡ n ∷ opened u st }
 
   pub passed-alone : u ≡ 0 → Pushed → SteppedOnto (opened u st) n i r ws
   unfolding firsts headFault
-  passed-alone z p = reach (headFault (opened u st) n) (opened u st) n i ws r u (rw z refl) (omega arith, omega arith) (p .0) (p .1)
+  passed-alone z p = reach (headFault (opened u st) n) (opened u st) n i ws r u (rw z refl) (omega arith, omega arith) (p .answer) (p .stack)
 
   module _ (e : Node) (some : 0 < u) (fits : Fits u) (top : e ≡ nodeAt st (u / 4 - 1)) (b : AfterHead n (opened u st)) where
     by-end : endsb n e ≡ insideb n e
@@ -108,7 +108,7 @@ module _ (st : List ℕ) (u : ℕ) (n : Node) (i : ℕ) (ws : List ℕ) (r : Ste
       unfolding headFault
       passed-on l m p =
           reach (headFault (opened u st) n) (opened u st) n i ws r u (head ∙ rw (sym by-end ∙ h, lt-ltb (e .level) (n .level) l) refl) m
-          (p .0) (p .1)
+          (p .answer) (p .stack)
 
 -- the first node of a document becomes the only one on the stack
 pub passed-first : (s : List Node) (n : Node) (i : ℕ) (ws : List ℕ) (r : Step) → Sound n → Chain s → firstb s n ≡ true

@@ -27,7 +27,11 @@ struct Next {
 // `second`.
 fn first_of(xs: &[u32], i: usize, second: usize) -> Next
     requires { ⌜ i + 3 < length (now xs) ⌝ }
-    ensures { λ r. ⌜ (r .node ≡ nodeFrom (now (xs .entry)) i) × (r .first ≡ i + NODE-WORDS) × (r .second ≡ second) ⌝ }
+    ensures { λ r. ⌜ record {
+      node : r .node ≡ nodeFrom (now (xs .entry)) i;
+      first : r .first ≡ i + NODE-WORDS;
+      second : r .second ≡ second;
+    } ⌝ }
 {
     Next {
         node: node_from(xs, i),
@@ -39,7 +43,11 @@ fn first_of(xs: &[u32], i: usize, second: usize) -> Next
 // Returns the node at word `j` of the second list, after which the first list stays at word `i`.
 fn second_of(ys: &[u32], i: usize, j: usize) -> Next
     requires { ⌜ j + 3 < length (now ys) ⌝ }
-    ensures { λ r. ⌜ (r .node ≡ nodeFrom (now (ys .entry)) j) × (r .first ≡ i) × (r .second ≡ j + NODE-WORDS) ⌝ }
+    ensures { λ r. ⌜ record {
+      node : r .node ≡ nodeFrom (now (ys .entry)) j;
+      first : r .first ≡ i;
+      second : r .second ≡ j + NODE-WORDS;
+    } ⌝ }
 {
     Next {
         node: node_from(ys, j),

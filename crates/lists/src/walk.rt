@@ -111,7 +111,10 @@ fn is_next(stack: &[u32; STACK_WORDS], used: usize, node: Node) -> bool
 // and is open too, so the first open one ends the search.
 fn left_open(stack: &[u32; STACK_WORDS], used: usize, node: Node) -> usize
     requires { ⌜ Fits used × InDocument (node .document) (opened used (now stack)) ⌝ }
-    ensures { λ r. ⌜ Fits r × (opened r (now (stack .entry)) ≡ unended node (opened used (now (stack .entry)))) ⌝ }
+    ensures { λ r. ⌜ record {
+      fits : Fits r;
+      left : opened r (now (stack .entry)) ≡ unended node (opened used (now (stack .entry)));
+    } ⌝ }
 {
     let mut left = used;
     // Rests on WalkLaws: top-ended, top-reaches, head-none.
@@ -139,8 +142,10 @@ fn put_open(stack: &mut [u32], left: usize, node: Node)
 // further.
 fn push(stack: &mut [u32; STACK_WORDS], index: usize, left: usize, node: Node) -> Step
     requires { ⌜ (index < 2 * MOST-NODES) × Fits (left + NODE-WORDS) ⌝ }
-    ensures { λ r. ⌜ (r ≡ Step.Reached (listPlace (index + 1) (left + NODE-WORDS)))
-        × (opened (left + NODE-WORDS) (now (stack .exit)) ≡ node ∷ opened left (now (stack .entry))) ⌝ }
+    ensures { λ r. ⌜ record {
+      answer : r ≡ Step.Reached (listPlace (index + 1) (left + NODE-WORDS));
+      stack : opened (left + NODE-WORDS) (now (stack .exit)) ≡ node ∷ opened left (now (stack .entry));
+    } ⌝ }
 {
     put_open(stack, left, node);
     Step::Reached(ListPlace {

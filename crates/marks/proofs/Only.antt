@@ -11,12 +11,12 @@ use Rattle.marks.proofs.unnumber.unnumber.Reads as unnumber
 
 pub number-only : (κs : _) (a : _) (r r′ : _) (s s′ : _) → number.Post κs a r s → number.Post κs a r′ s′
     → (now (s .1 .1 .0) ≡ now (s′ .1 .1 .0)) × (r ≡ r′)
-number-only κs a r r′ s s′ p q = (only (p .1) (q .1), only (p .0) (q .0))
+number-only κs a r r′ s s′ p q = (only (p .output) (q .output), only (p .answer) (q .answer))
 
 pub pick-only : (κs : _) (a : _) (r r′ : _) (s s′ : _) → pick.Post κs a r s → pick.Post κs a r′ s′
     → (now (s .1 .1 .0) ≡ now (s′ .1 .1 .0)) × (r ≡ r′)
-pick-only κs a r r′ s s′ p q = (only (p .1) (q .1), only (p .0) (q .0))
+pick-only κs a r r′ s s′ p q = (only (p .output) (q .output), only (p .answer) (q .answer))
 
 pub unnumber-only : (κs : _) (a : _) (r r′ : _) (s s′ : _) → unnumber.Post κs a r s → unnumber.Post κs a r′ s′
     → (now (s .1 .0) ≡ now (s′ .1 .0)) × (r ≡ r′)
-unnumber-only κs a r r′ s s′ p q = (only (p .1) (q .1), only (p .0) (q .0))
+unnumber-only κs a r r′ s s′ p q = (only (p .output) (q .output), only (p .answer) (q .answer))

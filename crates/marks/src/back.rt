@@ -68,7 +68,10 @@ pub(crate) fn keep_close(
     place: MarkPlace,
 ) -> MarkPlace
     requires { ⌜ place .depth < MOST-LEVELS ⌝ }
-    ensures { λ r. ⌜ (r ≡ beforeMark place CLOSE) × (now (closes .exit) ≡ closesBefore (now (closes .entry)) position (place .depth) CLOSE) ⌝ }
+    ensures { λ r. ⌜ record {
+      answer : r ≡ beforeMark place CLOSE;
+      closes : now (closes .exit) ≡ closesBefore (now (closes .entry)) position (place .depth) CLOSE;
+    } ⌝ }
 {
     let depth = place.depth;
     closes[depth] = position;

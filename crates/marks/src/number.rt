@@ -39,9 +39,11 @@ fn write_mark(
 ) -> MarkPlace
     requires { ⌜ (mark ≡ CLOSE → place .depth < MOST-LEVELS) × ((mark ≡ CLOSE → ⊥) → (0 < place .rows) × ((mark ≡ TEXT → ⊥) → 0 < place .depth))
         × (place .depth ≤ MOST-LEVELS) × (place .rows ≤ length (now out) / ROW-WORDS) ⌝ }
-    ensures { λ r. ⌜ (r ≡ beforeMark place mark)
-        × (now (closes .exit) ≡ closesBefore (now (closes .entry)) position (place .depth) mark)
-        × (now (out .exit) ≡ outputBefore document position (now (closes .entry)) place mark (now (out .entry))) ⌝ }
+    ensures { λ r. ⌜ record {
+      answer : r ≡ beforeMark place mark;
+      output : now (out .exit) ≡ outputBefore document position (now (closes .entry)) place mark (now (out .entry));
+      closes : now (closes .exit) ≡ closesBefore (now (closes .entry)) position (place .depth) mark;
+    } ⌝ }
 {
     if mark == CLOSE {
         return keep_close(closes, position, place);
@@ -76,8 +78,10 @@ fn write_rows(document: u32, marks: &[u32], rows: usize, out: &mut [u32])
 // Writes the rows of a document's nodes into `out`, in start order, and returns their number. On
 // refusal `out` stays as it was.
 pub fn number(document: u32, marks: &[u32], out: &mut [u32]) -> Counted
-    ensures { λ r. ⌜ (r ≡ numberOutcome document (now (marks .entry)) (now (out .entry)))
-        × (now (out .exit) ≡ numberOutput document (now (marks .entry)) (now (out .entry))) ⌝ }
+    ensures { λ r. ⌜ record {
+      answer : r ≡ numberOutcome document (now (marks .entry)) (now (out .entry));
+      output : now (out .exit) ≡ numberOutput document (now (marks .entry)) (now (out .entry));
+    } ⌝ }
 {
     if MOST_NODES < marks.len() {
         return wrote_nothing(LONG);

@@ -55,8 +55,10 @@ fn put_tag(table: &[u32], tag: u32, out: &mut [u32])
 // Writes the first four words of each row with the tag `tag` into `out`, in row order, and returns
 // the number of nodes. On refusal `out` stays as it was. The rows may be any.
 pub fn pick(table: &[u32], tag: u32, out: &mut [u32]) -> Counted
-    ensures { λ r. ⌜ (r ≡ pickOutcome (now (table .entry)) tag (now (out .entry)))
-        × (now (out .exit) ≡ pickOutput (now (table .entry)) tag (now (out .entry))) ⌝ }
+    ensures { λ r. ⌜ record {
+      answer : r ≡ pickOutcome (now (table .entry)) tag (now (out .entry));
+      output : now (out .exit) ≡ pickOutput (now (table .entry)) tag (now (out .entry));
+    } ⌝ }
 {
     let fault = row_fault(table);
     if fault != TAKEN {

@@ -208,8 +208,10 @@ fn put_tags(table: &[u32], out: &mut [u32])
 // Writes the marks of `table` into `out`, and returns their number and the document's. On refusal
 // `out` stays as it was.
 pub fn unnumber(table: &[u32], out: &mut [u32]) -> Unnumbered
-    ensures { λ r. ⌜ (r ≡ unnumberOutcome (now (table .entry)) (now (out .entry)))
-        × (now (out .exit) ≡ unnumberOutput (now (table .entry)) (now (out .entry))) ⌝ }
+    ensures { λ r. ⌜ record {
+      answer : r ≡ unnumberOutcome (now (table .entry)) (now (out .entry));
+      output : now (out .exit) ≡ unnumberOutput (now (table .entry)) (now (out .entry));
+    } ⌝ }
 {
     let fault = row_fault(table);
     if fault != TAKEN {

@@ -22,7 +22,7 @@ node-in-only κs a r r′ s s′ p q = only p q
 
 pub part-of-only : (κs : _) (a : _) (r r′ : _) (s s′ : _) → part-of.Post κs a r s → part-of.Post κs a r′ s′
     → (now r ≡ now r′) × (ptr r ≡ ptr r′)
-part-of-only κs a r r′ s s′ p q = (only (p .0) (q .0), only (p .1) (q .1))
+part-of-only κs a r r′ s s′ p q = (only (p .contents) (q .contents), only (p .place) (q .place))
 
 pub copy-numbers-only : (κs : _) (a : _) (r r′ : _) (s s′ : _) → copy-numbers.Post κs a r s → copy-numbers.Post κs a r′ s′
     → now (s .1 .0) ≡ now (s′ .1 .0)

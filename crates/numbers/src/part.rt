@@ -9,8 +9,10 @@ ghost use Rattle.numbers.specs.Part.{partOf, placeIn, copied};
 // Returns at most `count` of the bytes, from byte `from` on, as a part of the very bytes that were
 // lent. Where the bytes end before, the part ends there as well.
 pub fn part_of(bytes: &[u8], from: usize, count: usize) -> &[u8]
-    ensures { λ r. ⌜ (now r ≡ partOf (now (bytes .entry)) from count)
-        × (ptr r ≡ placeIn (ptr (bytes .entry)) (length (now (bytes .entry))) from) ⌝ }
+    ensures { λ r. ⌜ record {
+      contents : now r ≡ partOf (now (bytes .entry)) from count;
+      place : ptr r ≡ placeIn (ptr (bytes .entry)) (length (now (bytes .entry))) from;
+    } ⌝ }
 {
     if bytes.len() < from {
         return &bytes[..0];

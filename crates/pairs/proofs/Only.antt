@@ -9,4 +9,4 @@ use Rattle.pairs.proofs.page.next_page.Reads as next-page
 
 pub next-page-only : (κs : _) (a : _) (r r′ : _) (s s′ : _) → next-page.Post κs a r s → next-page.Post κs a r′ s′
     → (now (s .1 .1 .1 .0) ≡ now (s′ .1 .1 .1 .0)) × (r ≡ r′)
-next-page-only κs a r r′ s s′ p q = (only (p .1) (q .1), only (p .0) (q .0))
+next-page-only κs a r r′ s s′ p q = (only (p .output) (q .output), only (p .answer) (q .answer))

@@ -32,11 +32,11 @@ answered v count done t = record { verdict = v; count = count; done = done; tick
 module _ (as′ ds : List ℕ) (t : Ticket) (out : List ℕ) where
   -- a refused call answers nothing but the verdict
   pub page-refused : (v : Verdict) → v ≡ checkTwo as′ ds → (v .answer ≡ TAKEN → ⊥)
-      → (answered v 0 false t ≡ pageOf as′ ds t out) × (out ≡ outputAfter as′ ds t out)
+      → record { answer : answered v 0 false t ≡ pageOf as′ ds t out; output : out ≡ outputAfter as′ ds t out }
   unfolding pageOf outputAfter handedOut saysDone ticketAfter refusedb reached wordsIn written flatMap
   page-refused v q h =
       let r = ne-eqb (checkTwo as′ ds .answer) TAKEN (λ e. h (ap (λ w. w .answer) q ∙ e)) in
-      (ap (λ w. answered w 0 false t) q ∙ rw r refl, rw r refl)
+      record { answer = ap (λ w. answered w 0 false t) q ∙ rw r refl; output = rw r refl }
 
   module _ (taken : checkTwo as′ ds .answer ≡ TAKEN) where
     -- an accepted call hands out the first that remain, as many as fit, and is done if that is all
@@ -69,9 +69,9 @@ module _ (as′ ds : List ℕ) (t : Ticket) (out : List ℕ) where
 
       pub page-made : (v : Verdict) (u : Ticket) → v ≡ checkTwo as′ ds
           → u ≡ ticketAt (askedBy t) (placeReached (t .order) (t .place) (nodes out′) count)
-          → (answered v count done u ≡ pageOf as′ ds t out) × (out′ ≡ outputAfter as′ ds t out)
+          → record { answer : answered v count done u ≡ pageOf as′ ds t out; output : out′ ≡ outputAfter as′ ds t out }
       unfolding pageOf
       page-made v u q p =
           let e = all-shown in
           let w = place-read taken u (p ∙ ap (λ r. ticketAt (askedBy t) (placeReached (t .order) (t .place) (nodes (r .0)) (r .1))) e) in
-          (λ i. answered (q i) (e i .1) (e i .2) (w i), ap (λ r. r .0) e)
+          record { answer = λ i. answered (q i) (e i .1) (e i .2) (w i); output = ap (λ r. r .0) e }

@@ -26,24 +26,27 @@ use Rattle.pairs.proofs.Stretches.{stretch-ahead, served-as}
 
 -- what matches lies on the stack from r on up to the top
 abbrev Stretch : Relation → Node → List ℕ → ℕ → ℕ → Type 0
-Stretch relation d ws used r =
-    (r % 4 ≡ 0) × (r ≤ used) × (reverse (matches (asked relation Descendant) d (opened used ws)) ≡ stretch ws r used)
+Stretch relation d ws used r = record {
+  aligned : r % 4 ≡ 0;
+  within : r ≤ used;
+  matches : reverse (matches (asked relation Descendant) d (opened used ws)) ≡ stretch ws r used;
+}
 
 module _ (relation : Relation) (d : Node) (ws : List ℕ) (used : ℕ) where
   -- on an empty stack nothing matches
   pub match-none : used ≡ 0 → Stretch relation d ws used 0
   unfolding matches keep firsts
-  match-none q = (refl, omega arith, rw q refl)
+  match-none q = record { aligned = refl; within = omega arith; matches = rw q refl }
 
   module _ (l : Placed ws used) (c : Chain (opened used ws)) (u : Upon d (opened used ws)) where
     -- the descendant lies inside all of them
     pub match-all : relation ≡ Inside → Stretch relation d ws used 0
-    match-all q = (
-      refl,
-      omega arith,
-      rw q (ap reverse (inside-all d (opened used ws) c u)
-          ∙ firsts-turned (used / 4) (nodes ws) (omega (arith, length-nodes ws)) ∙ rw (sub-zero (used / 4)) refl),
-    )
+    match-all q = record {
+      aligned = refl;
+      within = omega arith;
+      matches = rw q (ap reverse (inside-all d (opened used ws) c u)
+          ∙ firsts-turned (used / 4) (nodes ws) (omega (arith, length-nodes ws)) ∙ rw (sub-zero (used / 4)) refl);
+    }
 
     module _ (e : Node) (q : relation ≡ Directly) (p : 0 < used) (h : e ≡ nodeAt ws ((used - 4) / 4)) where
       at-top : opened used ws ≡ e ∷ opened (used - 4) ws
@@ -59,13 +62,17 @@ module _ (relation : Relation) (d : Node) (ws : List ℕ) (used : ℕ) where
       pub match-top : deeperb d e ≡ true → Stretch relation d ws used (used - 4)
       match-top t =
           let one : used / 4 - (used - 4) / 4 ≡ 1 = omega arith in
-          (omega arith, omega arith, rw (q, top-matches, t, one, nodes-from ws ((used - 4) / 4) (omega arith), ← h) refl)
+          record {
+            aligned = omega arith;
+            within = omega arith;
+            matches = rw (q, top-matches, t, one, nodes-from ws ((used - 4) / 4) (omega arith), ← h) refl;
+          }
 
       -- it lies directly inside none
       pub match-past : deeperb d e ≡ false → Stretch relation d ws used used
       match-past t =
           let none : used / 4 - used / 4 ≡ 0 = omega arith in
-          (l .1, le-refl used, rw (q, top-matches, t, none) refl)
+          record { aligned = l .1; within = le-refl used; matches = rw (q, top-matches, t, none) refl }
 
 -- what is left of what matches lies from the first node on that starts late enough, so serving from
 -- there on serves it

@@ -45,8 +45,10 @@ struct Passed {
 // or the end of the list.
 fn first_after(descendants: &[u32], from: usize, ancestor: Node) -> usize
     requires { ⌜ Placed (now descendants) from ⌝ }
-    ensures { λ r. ⌜ (r % NODE-WORDS ≡ 0) × (r / NODE-WORDS
-        ≡ firstAt (λ d. afterb d ancestor) (drop (from / NODE-WORDS) (nodes (now (descendants .entry)))) + from / NODE-WORDS) ⌝ }
+    ensures { λ r. ⌜ record {
+      aligned : r % NODE-WORDS ≡ 0;
+      index : r / NODE-WORDS ≡ firstAt (λ d. afterb d ancestor) (drop (from / NODE-WORDS) (nodes (now (descendants .entry)))) + from / NODE-WORDS;
+    } ⌝ }
 {
     let mut k = from;
     // Rests on tickets: Search: search-found, search-on, search-end.
@@ -106,7 +108,10 @@ fn past_strides(descendants: &[u32], from: usize, ancestor: Node) -> usize
 // Returns the end of the run of `ancestor`, looking at each descendant from the word `from` on.
 fn past_run(descendants: &[u32], from: usize, ancestor: Node) -> usize
     requires { ⌜ (from % NODE-WORDS ≡ 0) × Running (now descendants) ancestor (from / NODE-WORDS) ⌝ }
-    ensures { λ r. ⌜ (r % NODE-WORDS ≡ 0) × (r / NODE-WORDS ≡ runEnd (now (descendants .entry)) ancestor (from / NODE-WORDS)) ⌝ }
+    ensures { λ r. ⌜ record {
+      aligned : r % NODE-WORDS ≡ 0;
+      index : r / NODE-WORDS ≡ runEnd (now (descendants .entry)) ancestor (from / NODE-WORDS);
+    } ⌝ }
 {
     let mut k = from;
     // Rests on Running: further-next, further-trans, further-stops.
@@ -122,7 +127,10 @@ fn past_run(descendants: &[u32], from: usize, ancestor: Node) -> usize
 fn run_end(descendants: &[u32], from: usize, ancestor: Node, guess: usize) -> usize
     requires { ⌜ (from % NODE-WORDS ≡ 0) × (guess % NODE-WORDS ≡ 0) × Running (now descendants) ancestor (from / NODE-WORDS)
         × (runningb (now descendants) ancestor (from / NODE-WORDS) ≡ true) ⌝ }
-    ensures { λ r. ⌜ (r % NODE-WORDS ≡ 0) × (r / NODE-WORDS ≡ runEnd (now (descendants .entry)) ancestor (from / NODE-WORDS)) ⌝ }
+    ensures { λ r. ⌜ record {
+      aligned : r % NODE-WORDS ≡ 0;
+      index : r / NODE-WORDS ≡ runEnd (now (descendants .entry)) ancestor (from / NODE-WORDS);
+    } ⌝ }
 {
     let second = from + NODE_WORDS;
     if !is_running(descendants, second, ancestor) {
@@ -153,9 +161,14 @@ fn past_held(descendants: &[u32], from: usize, zone: Node, to: usize) -> usize
 fn past_inner(ancestors: &[u32], zone: usize, descendants: &[u32], k: usize, to: usize) -> Passed
     requires { ⌜ (checkTwo (now ancestors) (now descendants) .answer ≡ TAKEN) × Placed (now ancestors) zone
         × Placed (now descendants) k × (k < length (now descendants)) × Placed (now descendants) to ⌝ }
-    ensures { λ r. ⌜ Placed (now (ancestors .entry)) (r .zone) × (zone ≤ r .zone) × Placed (now (descendants .entry)) (r .next) × (k < r .next)
-        × ((j : ℕ) → k / NODE-WORDS < j → j < r .next / NODE-WORDS → (zone / NODE-WORDS < count (now (ancestors .entry)))
-        × (insideb (nodeAt (now (descendants .entry)) j) (nodeAt (now (ancestors .entry)) (zone / NODE-WORDS)) ≡ true)) ⌝ }
+    ensures { λ r. ⌜ record {
+      zone-placed : Placed (now (ancestors .entry)) (r .zone);
+      zone-later : zone ≤ r .zone;
+      next-placed : Placed (now (descendants .entry)) (r .next);
+      next-later : k < r .next;
+      held : (j : ℕ) → k / NODE-WORDS < j → j < r .next / NODE-WORDS → (zone / NODE-WORDS < count (now (ancestors .entry)))
+          × (insideb (nodeAt (now (descendants .entry)) j) (nodeAt (now (ancestors .entry)) (zone / NODE-WORDS)) ≡ true);
+    } ⌝ }
 {
     let next = k + NODE_WORDS;
     if to <= k + STRIDE {
@@ -284,9 +297,12 @@ fn hand_ancestor(
     requires { ⌜ (checkTwo (now ancestors) (now descendants) .answer ≡ TAKEN) × Placed (now ancestors) i × (i < length (now ancestors))
         × Placed (now descendants) from × (guess % NODE-WORDS ≡ 0)
         × Running (now descendants) (nodeAt (now ancestors) (i / NODE-WORDS)) (from / NODE-WORDS) ⌝ }
-    ensures { λ r. ⌜ (r .guess % NODE-WORDS ≡ 0) × ((now (out .exit), r .handed .count, r .handed .done)
-        ≡ servedGroup Order.Ancestor (now (out .entry)) written (nodeAt (now (ancestors .entry)) (i / NODE-WORDS))
-        (fromStart past (matchesFrom relation (now (ancestors .entry)) i (now (descendants .entry)) from))) ⌝ }
+    ensures { λ r. ⌜ record {
+      guess : r .guess % NODE-WORDS ≡ 0;
+      handed : (now (out .exit), r .handed .count, r .handed .done)
+          ≡ servedGroup Order.Ancestor (now (out .entry)) written (nodeAt (now (ancestors .entry)) (i / NODE-WORDS))
+          (fromStart past (matchesFrom relation (now (ancestors .entry)) i (now (descendants .entry)) from));
+    } ⌝ }
 {
     let ancestor = node_from(ancestors, i);
     if !is_running(descendants, from, ancestor) {

@@ -32,8 +32,11 @@ ghost use Rattle.pairs.specs.Private.Sweep.{Placed, stretch, fromStart, 
 // towards it.
 fn first_match(relation: Relation, stack: &[u32], used: usize, descendant: Node) -> usize
     requires { ⌜ Placed (now stack) used × Chain (opened used (now stack)) × Upon descendant (opened used (now stack)) ⌝ }
-    ensures { λ r. ⌜ (r % NODE-WORDS ≡ 0) × (r ≤ used)
-        × (reverse (matches (asked relation Order.Descendant) descendant (opened used (now (stack .entry)))) ≡ stretch (now (stack .entry)) r used) ⌝ }
+    ensures { λ r. ⌜ record {
+      aligned : r % NODE-WORDS ≡ 0;
+      within : r ≤ used;
+      matches : reverse (matches (asked relation Order.Descendant) descendant (opened used (now (stack .entry)))) ≡ stretch (now (stack .entry)) r used;
+    } ⌝ }
 {
     match relation {
         Relation::Inside => 0,

@@ -89,7 +89,11 @@ fn put_group(out: &mut [u32], written: usize, order: Order, leader: Node, follow
 
 // Returns the number of the `wanted` pairs that fit into the room `left`.
 fn fitting(left: usize, wanted: usize) -> usize
-    ensures { λ r. ⌜ (r ≤ left) × (r ≤ wanted) × ((left ≤ r) ⊎ (wanted ≤ r)) ⌝ }
+    ensures { λ r. ⌜ record {
+      room : r ≤ left;
+      asked : r ≤ wanted;
+      most : (left ≤ r) ⊎ (wanted ≤ r);
+    } ⌝ }
 {
     if left < wanted {
         return left;
@@ -236,8 +240,10 @@ pub(crate) fn pair_with_descendants(
 // or `to`.
 pub(crate) fn first_from(followers: &[u32], from: usize, to: usize, start: u64) -> usize
     requires { ⌜ Placed (now followers) from × Placed (now followers) to × (from ≤ to) ⌝ }
-    ensures { λ r. ⌜ (r % NODE-WORDS ≡ 0) × (r / NODE-WORDS
-        ≡ firstAt (startsFrom start) (stretch (now (followers .entry)) from to) + from / NODE-WORDS) ⌝ }
+    ensures { λ r. ⌜ record {
+      aligned : r % NODE-WORDS ≡ 0;
+      index : r / NODE-WORDS ≡ firstAt (startsFrom start) (stretch (now (followers .entry)) from to) + from / NODE-WORDS;
+    } ⌝ }
 {
     if start == 0 {
         return from;

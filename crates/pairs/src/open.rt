@@ -36,7 +36,11 @@ pub(crate) struct Opened {
 // one ends the search.
 pub(crate) fn still_open(stack: &[u32; STACK_WORDS], used: usize, node: Node) -> usize
     requires { ⌜ Fits used ⌝ }
-    ensures { λ r. ⌜ Fits r × (r ≤ used) × (opened r (now (stack .entry)) ≡ unended node (opened used (now (stack .entry)))) ⌝ }
+    ensures { λ r. ⌜ record {
+      fits : Fits r;
+      fewer : r ≤ used;
+      left : opened r (now (stack .entry)) ≡ unended node (opened used (now (stack .entry)));
+    } ⌝ }
 {
     let mut left = used;
     // Rests on lists: WalkLaws: head-open, head-shut, head-none.
@@ -55,8 +59,10 @@ pub(crate) fn still_open(stack: &[u32; STACK_WORDS], used: usize, node: Node) ->
 fn open_next(stack: &mut [u32; STACK_WORDS], used: usize, ancestor: Node, descendant: Node) -> usize
     requires { ⌜ Fits used × (ancestor .level ≤ MOST-LEVELS)
         × (openb descendant ancestor ≡ true → Chain (ancestor ∷ opened used (now stack))) ⌝ }
-    ensures { λ r. ⌜ Fits r × (opened r (now (stack .exit))
-        ≡ cond (openb descendant ancestor) (ancestor ∷ opened used (now (stack .entry))) (opened used (now (stack .entry)))) ⌝ }
+    ensures { λ r. ⌜ record {
+      fits : Fits r;
+      stack : opened r (now (stack .exit)) ≡ cond (openb descendant ancestor) (ancestor ∷ opened used (now (stack .entry))) (opened used (now (stack .entry)));
+    } ⌝ }
 {
     if !is_open(descendant, ancestor) {
         return used;
@@ -76,9 +82,11 @@ pub(crate) fn open_before(
 ) -> Opened
     requires { ⌜ (checkWords (now ancestors) .answer ≡ TAKEN) × Opening (now ancestors) descendant used passed (now stack)
         × All (λ e. openb descendant e ≡ true) (opened used (now stack)) ⌝ }
-    ensures { λ r. ⌜ Opening (now (ancestors .entry)) descendant (r .used) (r .passed) (now (stack .exit))
-        × All (λ e. openb descendant e ≡ true) (opened (r .used) (now (stack .exit)))
-        × All (λ a. afterb descendant a ≡ false) (drop (r .passed / NODE-WORDS) (nodes (now (ancestors .entry)))) ⌝ }
+    ensures { λ r. ⌜ record {
+      opening : Opening (now (ancestors .entry)) descendant (r .used) (r .passed) (now (stack .exit));
+      all-open : All (λ e. openb descendant e ≡ true) (opened (r .used) (now (stack .exit)));
+      rest : All (λ a. afterb descendant a ≡ false) (drop (r .passed / NODE-WORDS) (nodes (now (ancestors .entry))));
+    } ⌝ }
 {
     let mut reached = used;
     let mut i = passed;

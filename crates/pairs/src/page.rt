@@ -89,8 +89,10 @@ fn ticket_after(old: Ticket, out: &[u32], count: usize) -> Ticket
 // holds, and a ticket for what is left. A call whose lists are refused hands out nothing, returns
 // `ticket` and alters no word of `out`.
 pub fn next_page(ancestors: &[u32], descendants: &[u32], ticket: Ticket, out: &mut [u32]) -> Page
-    ensures { λ r. ⌜ (r ≡ pageOf (now (ancestors .entry)) (now (descendants .entry)) ticket (now (out .entry)))
-        × (now (out .exit) ≡ outputAfter (now (ancestors .entry)) (now (descendants .entry)) ticket (now (out .entry))) ⌝ }
+    ensures { λ r. ⌜ record {
+      answer : r ≡ pageOf (now (ancestors .entry)) (now (descendants .entry)) ticket (now (out .entry));
+      output : now (out .exit) ≡ outputAfter (now (ancestors .entry)) (now (descendants .entry)) ticket (now (out .entry));
+    } ⌝ }
 {
     let verdict = check_two(ancestors, descendants);
     if verdict.answer != TAKEN {

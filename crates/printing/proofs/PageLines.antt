@@ -48,15 +48,19 @@ module _ (ancestors descendants : List ℕ) (t : Ticket) (out : List ℕ) where
 
   -- the text with the lines put into it begins with those of the pairs handed out
   pub lines-made : (r : Page) → r ≡ pageOf ancestors descendants t out → (out′ : List ℕ) → out′ ≡ outputAfter ancestors descendants t out
-      → (n : ℕ) → n ≡ PAIR-WORDS * r .count → (text after : List ℕ) (bytes : ℕ) → LINE-BYTES * room out ≤ length text
-      → bytes ≡ length (linesFor (take n out′) text) → after ≡ written (linesFor (take n out′) text) text
-      → (r ≡ pageOf ancestors descendants t out) × (bytes ≤ length after) × (take bytes after ≡ wordsIn pairLine given)
+      → (n : ℕ) → n ≡ PAIR-WORDS * r .count → (text after : List ℕ) (size : ℕ) → LINE-BYTES * room out ≤ length text
+      → size ≡ length (linesFor (take n out′) text) → after ≡ written (linesFor (take n out′) text) text
+      → record { page : r ≡ pageOf ancestors descendants t out; bytes : size ≤ length after; lines : take size after ≡ wordsIn pairLine given }
   unfolding written
-  lines-made r e out′ o n q text after bytes h b l =
+  lines-made r e out′ o n q text after size h b l =
       let us = linesFor (take n out′) text in
       let made : us ≡ wordsIn pairLine given =
       (λ i. linesFor (take ((q ∙ ap (λ k. PAIR-WORDS * k) (page-count r e)) i) (o i)) text) ∙ given-lines text h in
-      (e, rw (b, l) (omega (arith, length-append us (drop (length us) text))), rw (b, l) (take-append-seam us (drop (length us) text) ∙ made))
+      record {
+        page = e;
+        bytes = rw (b, l) (omega (arith, length-append us (drop (length us) text)));
+        lines = rw (b, l) (take-append-seam us (drop (length us) text) ∙ made);
+      }
 
   -- a page's verdict is that on the two lists
   pub page-answer : (r : Page) → r ≡ pageOf ancestors descendants t out → r .verdict .answer ≡ checkTwo ancestors descendants .answer

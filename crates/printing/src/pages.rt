@@ -77,10 +77,11 @@ fn make_lines(
     text: &mut [u8],
 ) -> Lines
     requires { ⌜ LINE-BYTES * room (now out) ≤ length (now text) ⌝ }
-    ensures { λ r. ⌜ (r .page ≡ pageOf (now (ancestors .entry)) (now (descendants .entry)) ticket (now (out .entry)))
-        × (r .bytes ≤ length (now (text .exit)))
-        × (take (r .bytes) (now (text .exit))
-        ≡ wordsIn pairLine (handedOut (now (ancestors .entry)) (now (descendants .entry)) ticket (now (out .entry)))) ⌝ }
+    ensures { λ r. ⌜ record {
+      page : r .page ≡ pageOf (now (ancestors .entry)) (now (descendants .entry)) ticket (now (out .entry));
+      bytes : r .bytes ≤ length (now (text .exit));
+      lines : take (r .bytes) (now (text .exit)) ≡ wordsIn pairLine (handedOut (now (ancestors .entry)) (now (descendants .entry)) ticket (now (out .entry)));
+    } ⌝ }
 {
     let page = next_page(ancestors, descendants, ticket, out);
     let words = PAIR_WORDS * page.count;
@@ -93,7 +94,10 @@ fn make_lines(
 
 // Returns the answer of a listing of which not all pairs were printed.
 fn stopped(answer: u32) -> Printed
-    ensures { λ r. ⌜ (r .answer ≡ answer) × (r .whole ≡ false) ⌝ }
+    ensures { λ r. ⌜ record {
+      answer : r .answer ≡ answer;
+      whole : r .whole ≡ false;
+    } ⌝ }
 {
     Printed {
         answer: answer,
@@ -107,8 +111,10 @@ fn stopped(answer: u32) -> Printed
 // count is their number.
 fn print_pairs(ancestors: &[u32], descendants: &[u32], out: &mut [u32], text: &mut [u8]) -> Printed
     requires { ⌜ (0 < room (now out)) × (LINE-BYTES * room (now out) ≤ length (now text)) ⌝ }
-    ensures { λ r. ⌜ (r .answer ≡ checkTwo (now (ancestors .entry)) (now (descendants .entry)) .answer)
-        × (r .whole ≡ true → r .count ≡ length (listing (asked Inside Descendant) (nodes (now (ancestors .entry))) (nodes (now (descendants .entry))))) ⌝ }
+    ensures { λ r. ⌜ record {
+      answer : r .answer ≡ checkTwo (now (ancestors .entry)) (now (descendants .entry)) .answer;
+      count : r .whole ≡ true → r .count ≡ length (listing (asked Inside Descendant) (nodes (now (ancestors .entry))) (nodes (now (descendants .entry))));
+    } ⌝ }
 {
     let mut ticket = fresh(Relation::Inside, Order::Descendant);
     let mut count = 0u64;

@@ -39,19 +39,19 @@ module _ {M : Type 1} (𝓤 : URA M) (H : Heap 𝓤) (A : Atoms 𝓤) (mem : Mem
   pub body-only : (a : _) (b b′ : _) (s s′ : _)
       → ent 𝓤 (sep 𝓤 (body.clauses 𝓤 H A mem run κs a .ensures tt b s) (body.clauses 𝓤 H A mem run κs a .ensures tt b′ s′))
       (fact 𝓤 ((now b ≡ now b′) × (ptr b ≡ ptr b′)))
-  body-only a b b′ s s′ = follows (λ p q. (only (p .0) (q .0), only (p .1) (q .1)))
+  body-only a b b′ s s′ = follows (λ p q. (only (p .contents) (q .contents), only (p .place) (q .place)))
 
   pub over-only : (a : _) (r r′ : _) (s s′ : _)
       → ent 𝓤 (sep 𝓤 (over.clauses 𝓤 H A mem run κs a .ensures tt r s) (over.clauses 𝓤 H A mem run κs a .ensures tt r′ s′))
       (fact 𝓤 ((r .book ≡ r′ .book) × (r .lists ≡ r′ .lists)))
-  over-only a r r′ s s′ = follows (λ p q. (only (p .0) (q .0), only (p .1) (q .1)))
+  over-only a r r′ s s′ = follows (λ p q. (only (p .book) (q .book), only (p .lists) (q .lists)))
 
   pub open-only : (a : _) (r r′ : _) (s s′ : _)
       → ent 𝓤 (sep 𝓤 (opening.clauses 𝓤 H A mem run κs a .ensures tt r s) (opening.clauses 𝓤 H A mem run κs a .ensures tt r′ s′))
       (fact 𝓤 ((now (r .book) ≡ now (r′ .book)) × (ptr (r .book) ≡ ptr (r′ .book)) × (r .lists ≡ r′ .lists)))
-  open-only a r r′ s s′ = follows (λ p q. (only (p .0) (q .0), only (p .1) (q .1), only (p .2) (q .2)))
+  open-only a r r′ s s′ = follows (λ p q. (only (p .contents) (q .contents), only (p .place) (q .place), only (p .lists) (q .lists)))
 
   pub body-in-only : (a : _) (b b′ : _) (s s′ : _)
       → ent 𝓤 (sep 𝓤 (body-in.clauses 𝓤 H A mem run κs a .ensures tt b s) (body-in.clauses 𝓤 H A mem run κs a .ensures tt b′ s′))
       (fact 𝓤 ((now b ≡ now b′) × (ptr b ≡ ptr b′)))
-  body-in-only a b b′ s s′ = follows (λ p q. (only (p .0) (q .0), only (p .1) (q .1)))
+  body-in-only a b b′ s s′ = follows (λ p q. (only (p .contents) (q .contents), only (p .place) (q .place)))

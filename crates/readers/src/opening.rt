@@ -9,7 +9,10 @@ ghost use Rattle.readers.specs.Reader.{keptOf};
 
 // Returns all of an accepted book, or the empty part at the beginning of a refused one.
 pub(crate) fn kept_part(book: &[u8]) -> &[u8]
-    ensures { λ r. ⌜ (now r ≡ keptOf (now (book .entry))) × (ptr r ≡ ptr (book .entry)) ⌝ }
+    ensures { λ r. ⌜ record {
+      contents : now r ≡ keptOf (now (book .entry));
+      place : ptr r ≡ ptr (book .entry);
+    } ⌝ }
 {
     let opened = check_book(book);
     let verdict = opened.verdict;

@@ -31,8 +31,10 @@ pub fn book<'a>(r: Reader<'a>) -> &'a [u8]
 // Returns the body of `tag` as a part of the book, or the empty part at its beginning where no list
 // has the tag. Nothing is checked again.
 pub fn body<'a>(r: Reader<'a>, tag: u32) -> &'a [u8]
-    ensures { λ s. ⌜ (now s ≡ tagBody (now (r .entry .book)) (r .entry .lists) tag)
-        × (ptr s ≡ tagPlace (ptr (r .entry .book)) (now (r .entry .book)) (r .entry .lists) tag) ⌝ }
+    ensures { λ s. ⌜ record {
+      contents : now s ≡ tagBody (now (r .entry .book)) (r .entry .lists) tag;
+      place : ptr s ≡ tagPlace (ptr (r .entry .book)) (now (r .entry .book)) (r .entry .lists) tag;
+    } ⌝ }
 {
     tag_body(r.book, r.lists, tag)
 }
@@ -40,7 +42,10 @@ pub fn body<'a>(r: Reader<'a>, tag: u32) -> &'a [u8]
 // Returns a reader over a `book` that was opened before and has `lists` lists. Nothing is checked
 // again.
 pub fn over<'a>(book: &'a [u8], lists: u32) -> Reader<'a>
-    ensures { λ r. ⌜ (r .book ≡ book .entry) × (r .lists ≡ lists) ⌝ }
+    ensures { λ r. ⌜ record {
+      book : r .book ≡ book .entry;
+      lists : r .lists ≡ lists;
+    } ⌝ }
 {
     Reader { book, lists }
 }
@@ -48,9 +53,11 @@ pub fn over<'a>(book: &'a [u8], lists: u32) -> Reader<'a>
 // Returns a reader over `bytes` where they are a book. Where they aren't, it is a reader over the
 // empty part at their beginning, with no lists.
 pub fn open<'a>(bytes: &'a [u8]) -> Reader<'a>
-    ensures { λ r. ⌜ (now (r .book) ≡ keptOf (now (bytes .entry)))
-        × (ptr (r .book) ≡ ptr (bytes .entry))
-        × (r .lists ≡ keptLists (now (bytes .entry))) ⌝ }
+    ensures { λ r. ⌜ record {
+      contents : now (r .book) ≡ keptOf (now (bytes .entry));
+      place : ptr (r .book) ≡ ptr (bytes .entry);
+      lists : r .lists ≡ keptLists (now (bytes .entry));
+    } ⌝ }
 {
     let part = kept_part(bytes);
     let count = list_count(part);
@@ -60,8 +67,10 @@ pub fn open<'a>(bytes: &'a [u8]) -> Reader<'a>
 // Returns the body of `tag` out of any bytes, as a part of them. Where they are no book, or it has
 // no such list, that is the empty part at their beginning. A caller of it needs no proof by hand.
 pub fn body_in(bytes: &[u8], tag: u32) -> &[u8]
-    ensures { λ s. ⌜ (now s ≡ keptBody (now (bytes .entry)) tag)
-        × (ptr s ≡ keptPlace (ptr (bytes .entry)) (now (bytes .entry)) tag) ⌝ }
+    ensures { λ s. ⌜ record {
+      contents : now s ≡ keptBody (now (bytes .entry)) tag;
+      place : ptr s ≡ keptPlace (ptr (bytes .entry)) (now (bytes .entry)) tag;
+    } ⌝ }
 {
     body(open(bytes), tag)
 }

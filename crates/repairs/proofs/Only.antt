@@ -9,4 +9,4 @@ use Rattle.repairs.proofs.part.faulty_part.Reads as faulty-part
 
 pub faulty-part-only : (κs : _) (a : _) (r r′ : _) (s s′ : _) → faulty-part.Post κs a r s → faulty-part.Post κs a r′ s′
     → (now r ≡ now r′) × (ptr r ≡ ptr r′)
-faulty-part-only κs a r r′ s s′ p q = (only (p .0) (q .0), only (p .1) (q .1))
+faulty-part-only κs a r r′ s s′ p q = (only (p .contents) (q .contents), only (p .place) (q .place))

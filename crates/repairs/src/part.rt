@@ -15,8 +15,10 @@ ghost use Rattle.repairs.specs.Part.{faultyPart, placeFrom, faultyPlace}
 // Returns the part of a list from the node at `index` on, or an empty one where the list ends
 // before.
 fn part_from(words: &[u32], index: u32) -> &[u32]
-    ensures { λ r. ⌜ (now r ≡ drop (NODE-WORDS * index) (now (words .entry)))
-        × (ptr r ≡ placeFrom (ptr (words .entry)) (now (words .entry)) index) ⌝ }
+    ensures { λ r. ⌜ record {
+      contents : now r ≡ drop (NODE-WORDS * index) (now (words .entry));
+      place : ptr r ≡ placeFrom (ptr (words .entry)) (now (words .entry)) index;
+    } ⌝ }
 {
     if node_count(words) < index as usize {
         return &words[..0];
@@ -27,9 +29,10 @@ fn part_from(words: &[u32], index: u32) -> &[u32]
 // Returns the part from the faulty node to the end of its list, as a part of the very list that was
 // lent. Where no node is at fault, that is the empty part at the beginning of `ancestors`.
 pub fn faulty_part<'a>(ancestors: &'a [u32], descendants: &'a [u32]) -> &'a [u32]
-    ensures { λ r. ⌜ (now r ≡ faultyPart (now (ancestors .entry)) (now (descendants .entry)))
-        × (ptr r ≡ faultyPlace (ptr (ancestors .entry)) (ptr (descendants .entry))
-        (now (ancestors .entry)) (now (descendants .entry))) ⌝ }
+    ensures { λ r. ⌜ record {
+      contents : now r ≡ faultyPart (now (ancestors .entry)) (now (descendants .entry));
+      place : ptr r ≡ faultyPlace (ptr (ancestors .entry)) (ptr (descendants .entry)) (now (ancestors .entry)) (now (descendants .entry));
+    } ⌝ }
 {
     let verdict = check_two(ancestors, descendants);
     if verdict.answer < LEVEL || DEPTH < verdict.answer {

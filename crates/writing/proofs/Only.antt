@@ -9,4 +9,4 @@ use Rattle.writing.proofs.write.write_book.Reads as write-book
 
 pub write-book-only : (κs : _) (a : _) (r r′ : _) (s s′ : _) → write-book.Post κs a r s → write-book.Post κs a r′ s′
     → (now (s .1 .1 .0) ≡ now (s′ .1 .1 .0)) × (r ≡ r′)
-write-book-only κs a r r′ s s′ p q = (only (p .1) (q .1), only (p .0) (q .0))
+write-book-only κs a r r′ s s′ p q = (only (p .output) (q .output), only (p .answer) (q .answer))

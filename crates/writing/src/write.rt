@@ -18,8 +18,10 @@ ghost use Rattle.writing.specs.WriteCall.{writtenOf, writtenOutput};
 // for each list. `list` has all nodes one after the other, and each list takes as many of them as
 // its count says. On refusal `out` stays as it was.
 pub fn write_book(entries: &[u32], list: &[u32], out: &mut [u8]) -> Counted
-    ensures { λ r. ⌜ (r ≡ writtenOf (now (entries .entry)) (now (list .entry)) (now (out .entry)))
-        × (now (out .exit) ≡ writtenOutput (now (entries .entry)) (now (list .entry)) (now (out .entry))) ⌝ }
+    ensures { λ r. ⌜ record {
+      answer : r ≡ writtenOf (now (entries .entry)) (now (list .entry)) (now (out .entry));
+      output : now (out .exit) ≡ writtenOutput (now (entries .entry)) (now (list .entry)) (now (out .entry));
+    } ⌝ }
 {
     let verdict = check_wanted(entries, list);
     if verdict.answer != TAKEN {

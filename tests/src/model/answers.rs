@@ -24,14 +24,15 @@ pub enum Answer {
 
 /// The names in the order of their numbers.
 pub const NAMES: [&str; 17] = [
-    "TAKEN", "RAGGED", "LONG", "LEVEL", "SPAN", "ORDER", "CROSS", "DEPTH", "JOINT", "ROOM", "MARK", "STRAY", "DEEP", "UNCLOSED", "TABLE", "CONTENTS",
-    "ABSENT",
+    "TAKEN", "RAGGED", "LONG", "LEVEL", "SPAN", "ORDER", "CROSS", "DEPTH", "JOINT", "ROOM", "MARK",
+    "STRAY", "DEEP", "UNCLOSED", "TABLE", "CONTENTS", "ABSENT",
 ];
 
 /// The bytes of a name's row.
 pub const NAME_BYTES: usize = 8;
 
-/// The row of a number in the table of names: the name filled up with blanks, and blanks alone for a number that no answer has.
+/// Returns the row of a number in the table of names: the name filled up with blanks, or blanks
+/// alone for a number that no answer has.
 pub fn row(number: u32) -> [u8; NAME_BYTES] {
     let name = NAMES.get(number as usize).unwrap_or(&"");
     let mut row = [b' '; NAME_BYTES];
@@ -53,13 +54,14 @@ pub struct Verdict {
 }
 
 impl Verdict {
-    /// An answer that no list and no node draws.
+    /// Returns an answer that no list and no node draws.
     pub fn of(answer: Answer) -> Verdict {
         Verdict { answer, list: ANCESTORS, index: 0 }
     }
 }
 
-/// What a call leaves that writes: its verdict, how many items it wrote, and their words or bytes. On refusal there are none.
+/// What a call leaves that writes: its verdict, how many items it wrote, and their words or bytes.
+/// On refusal there are none.
 #[derive(Clone, Debug, PartialEq, Eq)]
 pub struct Written<T> {
     pub verdict: Verdict,
@@ -68,11 +70,13 @@ pub struct Written<T> {
 }
 
 impl<T> Written<T> {
+    /// Returns what a refused call leaves.
     pub fn refused(verdict: Verdict) -> Written<T> {
         Written { verdict, count: 0, words: Vec::new() }
     }
 
-    /// The result of so many items where it fits into the room, and ROOM where it doesn't.
+    /// Returns the result of `count` items where its words fit into the room, and ROOM where they
+    /// don't.
     pub fn within(room: usize, count: usize, words: Vec<T>) -> Written<T> {
         if words.len() > room {
             Written::refused(Verdict::of(Answer::Room))

@@ -50,10 +50,10 @@ mul-from : tie.Need-mul-from
 mul-from c = search needs
 
 returns : tie.Need-returns
-returns c = let s = c .before .before in begun _ _ _ (s .before .check-two .ensures) _ (s .faulty-part .ensures .0) (c .before .if1 .taken)
+returns c = let s = c .before .before in begun _ _ _ (s .before .check-two .ensures) _ (s .faulty-part .ensures .contents) (c .before .if1 .taken)
 
 returns-2 : tie.Need-returns-2
-returns-2 c = let s = c .before in empty _ _ _ (s .before .check-two .ensures) _ (s .faulty-part .ensures .0) (c .if1 .left)
+returns-2 c = let s = c .before in empty _ _ _ (s .before .check-two .ensures) _ (s .faulty-part .ensures .contents) (c .if1 .left)
 
 pub belfry-faulty-spec : {M : Type 1} → statement M
 belfry-faulty-spec = tie.close (tie.spec check-two-requires faulty-part-requires cast-from mul-from returns returns-2)

@@ -22,11 +22,14 @@ use Rattle.belfrychest.proofs.page.belfry_list.Tie as tie
 module _ (ancestors descendants out : List ℕ) (w : TicketWords) (asked : Ticket) (q : asked ≡ ticketOf w) where
   answered : (p : Page) (r : BelfryPage) → r ≡ shownPage w p → p ≡ pageOf ancestors descendants asked out
       → (last : List ℕ) → last ≡ outputAfter ancestors descendants asked out
-      → (r ≡ shownPage w (pageOf ancestors descendants (ticketOf w) out)) × (last ≡ outputAfter ancestors descendants (ticketOf w) out)
-  answered p r s e last l = (
-    s ∙ ap (shownPage w) (e ∙ ap (λ (t : Ticket). pageOf ancestors descendants t out) q),
-    l ∙ ap (λ (t : Ticket). outputAfter ancestors descendants t out) q,
-  )
+      → record {
+        answer : r ≡ shownPage w (pageOf ancestors descendants (ticketOf w) out);
+        output : last ≡ outputAfter ancestors descendants (ticketOf w) out;
+      }
+  answered p r s e last l = record {
+    answer = s ∙ ap (shownPage w) (e ∙ ap (λ (t : Ticket). pageOf ancestors descendants t out) q);
+    output = l ∙ ap (λ (t : Ticket). outputAfter ancestors descendants t out) q;
+  }
 
 ticket-of-requires : tie.Need-ticket-of-requires
 ticket-of-requires c κs = search needs
@@ -43,7 +46,7 @@ same-length c = search needs
 returns : tie.Need-returns
 returns c =
     let e = c .before .before .before .next-page .ensures in
-    answered _ _ _ _ _ (c .before .before .before .before .before .ticket-of .ensures) _ _ (c .shown-page .ensures) (e .0) _ (e .1)
+    answered _ _ _ _ _ (c .before .before .before .before .before .ticket-of .ensures) _ _ (c .shown-page .ensures) (e .answer) _ (e .output)
 
 pub belfry-list-spec : {M : Type 1} → statement M
 belfry-list-spec = tie.close (tie.spec ticket-of-requires next-page-requires shown-page-requires same-length returns)

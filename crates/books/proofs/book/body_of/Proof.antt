@@ -36,7 +36,7 @@ part-of-requires : tie.Need-part-of-requires
 part-of-requires c κs = search needs
 
 returns : tie.Need-returns
-returns c = (part _ _ _ (c .part-of .ensures .0), place _ _ _ _ (c .part-of .ensures .1))
+returns c = record { contents = part _ _ _ (c .part-of .ensures .contents); place = place _ _ _ _ (c .part-of .ensures .place) }
 
 pub body-of-spec : {M : Type 1} → statement M
 body-of-spec = tie.close (tie.spec cast-part-of cast-part-of-2 mul-part-of part-of-requires returns)

@@ -89,7 +89,7 @@ returns c =
     let l = t .before .before .before .before .loop in
     let s = t .before .before .before .before .before .before .before in
     refused (now (s .args .book)) (s .pre) _ (l .list) (t .before .before .before .before .before .number-at .ensures) (l .inv .1) (omega arith)
-    _ (t .before .before .entry-at .ensures) _ (t .before .body-of .ensures .0) _ (t .check-bytes .ensures)
+    _ (t .before .before .entry-at .ensures) _ (t .before .body-of .ensures .contents) _ (t .check-bytes .ensures)
     (c .before .if1 .taken) _ (c .in-list .ensures)
 
 add-list : tie.Need-add-list Inv-loop μ-loop
@@ -105,7 +105,7 @@ loop-again c =
     let s = t .before .before .before .before .before .before .before in (
       omega arith,
       passed (now (s .args .book)) (s .pre) _ (l .list) (t .before .before .before .before .before .number-at .ensures) (l .inv .1) (omega arith)
-          _ (t .before .before .entry-at .ensures) _ (t .before .body-of .ensures .0) _ (t .check-bytes .ensures) (c .if1 .left),
+          _ (t .before .before .entry-at .ensures) _ (t .before .body-of .ensures .contents) _ (t .check-bytes .ensures) (c .if1 .left),
     )
 
 without-node-requires : tie.Need-without-node-requires Inv-loop μ-loop

@@ -23,19 +23,19 @@ use Rattle.books.proofs.find.tag_body.Tie as tie
 module _ (start : ℕ × ℕ) (book : List ℕ) (lists tag position : ℕ) (q : position ≡ tagAt tag (take lists (entriesIn book))) where
   -- the body of an entry, at its place
   abbrev Body : Entry → List ℕ → ℕ × ℕ → Type 0
-  Body e r at = (r ≡ bodyOf book e) × (at ≡ bodyPlace start book e)
+  Body e r at = record { contents : r ≡ bodyOf book e; place : at ≡ bodyPlace start book e }
 
   -- the body of the tag, at its place
   abbrev Wanted : List ℕ → ℕ × ℕ → Type 0
-  Wanted r at = (r ≡ tagBody book lists tag) × (at ≡ tagPlace start book lists tag)
+  Wanted r at = record { contents : r ≡ tagBody book lists tag; place : at ≡ tagPlace start book lists tag }
 
   of-entry : (e : Entry) → e ≡ tagEntry book lists tag → (r : List ℕ) (at : ℕ × ℕ) → Body e r at → Wanted r at
   unfolding tagBody tagPlace
-  of-entry e w r at s = (s .0 ∙ ap (bodyOf book) w, s .1 ∙ ap (bodyPlace start book) w)
+  of-entry e w r at s = record { contents = s .contents ∙ ap (bodyOf book) w; place = s .place ∙ ap (bodyPlace start book) w }
 
   no-bytes : Body (entry 0 0 0) [] start
   unfolding bodyOf partOf bodyPlace
-  no-bytes = (refl, before-the-end start (length book) 0 (start .1) zero-le (omega arith))
+  no-bytes = record { contents = refl; place = before-the-end start (length book) 0 (start .1) zero-le (omega arith) }
 
   none : lists ≤ position → Wanted [] start
   unfolding tagEntry

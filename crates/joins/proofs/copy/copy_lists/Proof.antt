@@ -54,7 +54,7 @@ returns-3 c =
     let a = t .before .before .before .before .before .before .args in
     full-first (now (a .book)) (a .lists) (a .ancestors) (a .descendants) (now (a .first)) (now (a .second))
     (sym (t .before .before .has-tag .ensures) ∙ not-none _ (t .before .if1 .left)) (sym (t .has-tag2 .ensures) ∙ not-none _ (b .before .before .if2 .left))
-    _ _ (b .before .tag-body .ensures .0) (b .tag-body2 .ensures .0)
+    _ _ (b .before .tag-body .ensures .contents) (b .tag-body2 .ensures .contents)
     (omega arith) _ (c .refused-by3 .ensures)
 
 refused-by-requires-4 : tie.Need-refused-by-requires-4
@@ -67,7 +67,7 @@ returns-4 c =
     let a = t .before .before .before .before .before .before .args in
     full-second (now (a .book)) (a .lists) (a .ancestors) (a .descendants) (now (a .first)) (now (a .second))
     (sym (t .before .before .has-tag .ensures) ∙ not-none _ (t .before .if1 .left)) (sym (t .has-tag2 .ensures) ∙ not-none _ (b .before .before .if2 .left))
-    _ _ (b .before .tag-body .ensures .0) (b .tag-body2 .ensures .0)
+    _ _ (b .before .tag-body .ensures .contents) (b .tag-body2 .ensures .contents)
     (omega arith) (omega arith) _ (c .refused-by4 .ensures)
 
 copy-numbers-requires : tie.Need-copy-numbers-requires
@@ -94,9 +94,13 @@ returns-5 c =
     let a = t .before .before .before .before .before .before .args in
     let m = copies (now (a .book)) (a .lists) (a .ancestors) (a .descendants) (now (a .first)) (now (a .second))
     (sym (t .before .before .has-tag .ensures) ∙ not-none _ (t .before .if1 .left)) (sym (t .has-tag2 .ensures) ∙ not-none _ (b .before .before .if2 .left))
-    _ _ (b .before .tag-body .ensures .0) (b .tag-body2 .ensures .0)
+    _ _ (b .before .tag-body .ensures .contents) (b .tag-body2 .ensures .contents)
     (omega arith) (omega arith) _ (c .without-node .ensures) in
-    (m .0, j .copy-numbers .ensures ∙ m .1, k .copy-numbers2 .ensures ∙ m .2)
+    record {
+      answer = m .answer;
+      first-output = j .copy-numbers .ensures ∙ m .first-output;
+      second-output = k .copy-numbers2 .ensures ∙ m .second-output;
+    }
 
 pub copy-lists-spec : {M : Type 1} → statement M
 copy-lists-spec =

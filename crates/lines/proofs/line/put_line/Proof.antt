@@ -3,27 +3,24 @@
 -- there is room.
 -- What would break it: A field of another number, or one left out, would be caught at the return.
 use borrow.Author.Needs.{needs}
-use mathlib.Core.Path.{_≡_}
 use mathlib.Core.List.{List, [], _∷_, _++_}
 use Prim.Native.Nat.{ℕ, _+_}
 use native.Mathlib.Omega.{arith}
 use denote.Ref.{now}
-use lib.ListN.{length}
-use lib.Seq.{sets}
 use Rattle.nodes.specs.declared.node.Node.{Node}
 use Rattle.lines.specs.Line.{BLANK, LINE-FEED, decimal, pairWith, pairLine}
 use Rattle.lines.proofs.Digits.{digits-32}
-use Rattle.lines.proofs.Putting.{put-first, put-told}
+use Rattle.lines.proofs.Putting.{Told, put-first, put-told}
 use Rattle.lines.proofs.Fields.{field-32, put-field}
 use Rattle.lines.proofs.line.put_line.Statement.{statement}
 use Rattle.lines.proofs.line.put_line.Tie as tie
 
 -- the three fields make the line
 whole : (before : List ℕ) (at : ℕ) (x y : Node) (one two three : List ℕ) (to next last : ℕ)
-    → (to ≡ at + length (decimal (x .document) ++ BLANK ∷ [])) × (one ≡ sets before at (decimal (x .document) ++ BLANK ∷ []))
-    → (next ≡ to + length (decimal (x .start) ++ BLANK ∷ [])) × (two ≡ sets one to (decimal (x .start) ++ BLANK ∷ []))
-    → (last ≡ next + length (decimal (y .start) ++ LINE-FEED ∷ [])) × (three ≡ sets two next (decimal (y .start) ++ LINE-FEED ∷ []))
-    → (last ≡ at + length (pairLine (pairWith x y))) × (three ≡ sets before at (pairLine (pairWith x y)))
+    → Told before at (decimal (x .document) ++ BLANK ∷ []) one to
+    → Told one to (decimal (x .start) ++ BLANK ∷ []) two next
+    → Told two next (decimal (y .start) ++ LINE-FEED ∷ []) three last
+    → Told before at (pairLine (pairWith x y)) three last
 unfolding pairLine
 whole before at x y one two three to next last p q r =
     let first = put-first before at (decimal (x .document) ++ BLANK ∷ []) p in

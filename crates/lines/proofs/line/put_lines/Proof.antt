@@ -11,13 +11,12 @@ use Prim.Native.Nat.{ℕ, _+_, _*_, _-_, _/_, _≤_, _<_, zero-le}
 use native.Mathlib.Omega.{arith}
 use denote.Ref.{now}
 use lib.ListN.{length}
-use lib.Seq.{sets, length-sets}
+use lib.Seq.{length-sets}
 use borrow.Author.Tests.{ltb-true, ltb-false}
 use Rattle.nodes.specs.declared.node.Node.{Node}
 use Rattle.nodes.specs.Words.{count, nodeAt}
-use Rattle.answers.specs.Output.{written}
 use Rattle.lines.specs.Line.{LINE-BYTES, pairWith, pairLine, linesFor}
-use Rattle.lines.proofs.Putting.{Put, put-next, put-written}
+use Rattle.lines.proofs.Putting.{Put, Told, Begins, put-next, put-written}
 use Rattle.lines.proofs.PairLines.{firstLines, lines-none, lines-more, lines-fit, lines-all}
 use Rattle.lines.proofs.Fields.{line-few}
 use Rattle.lines.proofs.TwoDigits.{tabled}
@@ -47,20 +46,20 @@ module _ (pairs before : List ℕ) where
   module _ {index : ℕ} {after : List ℕ} {to : ℕ} (p : Lined pairs before index after to) where
     one-more : (x y : Node) {after′ : List ℕ} {to′ : ℕ} → index < count pairs / 2 → index < length before / LINE-BYTES
         → x ≡ nodeAt pairs (2 * index) → y ≡ nodeAt pairs (2 * index + 1) → length (pairLine (pairWith x y)) ≤ LINE-BYTES
-        → (to′ ≡ to + length (pairLine (pairWith x y))) × (after′ ≡ sets after to (pairLine (pairWith x y)))
+        → Told after to (pairLine (pairWith x y)) after′ to′
         → Lined pairs before (index + 1) after′ to′
     one-more x y {after′} {to′} h k f g w e =
         let few = p .few in
-        let place = e .0 in
+        let place = e .next in
         record {
           some = omega arith;
           room = omega arith;
           few = omega arith;
-          same = ap length (e .1) ∙ length-sets after to (pairLine (pairWith x y)) ∙ p .same;
+          same = ap length (e .text) ∙ length-sets after to (pairLine (pairWith x y)) ∙ p .same;
           puts = subst (λ us. Put before 0 us after′ to′) (sym (lines-more pairs index x y h f g)) (put-next (p .puts) (pairLine (pairWith x y)) e);
         }
 
-    ends : firstLines pairs index ≡ linesFor pairs before → (to ≡ length (linesFor pairs before)) × (after ≡ written (linesFor pairs before) before)
+    ends : firstLines pairs index ≡ linesFor pairs before → Begins before (linesFor pairs before) after to
     ends e =
         let few = p .few in
         let room = p .room in

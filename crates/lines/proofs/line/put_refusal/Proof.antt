@@ -9,14 +9,12 @@ use Prim.Native.Nat.{ℕ, _+_, _<_}
 use native.Mathlib.Omega.{arith}
 use denote.Ref.{now}
 use lib.ListN.{length}
-use lib.Seq.{sets}
 use Rattle.answers.specs.Answer.{padded, nameOf, letterAt}
 use Rattle.laws.specs.Choose.{keep}
-use Rattle.answers.specs.Output.{written}
 use Rattle.lines.specs.Line.{BLANK, LINE-FEED, decimal, word, unfilled, refusalLine}
 use Rattle.lines.proofs.Blanks.{unfilled-few}
 use Rattle.lines.proofs.Digits.{digits-32}
-use Rattle.lines.proofs.Putting.{Put, put-first, put-next, put-parted, put-written}
+use Rattle.lines.proofs.Putting.{Put, Told, Begins, put-first, put-next, put-parted, put-written}
 use Rattle.lines.proofs.Fields.{field-32, put-field}
 use Rattle.lines.proofs.TwoDigits.{tabled}
 use Rattle.lines.proofs.line.put_refusal.Statement.{statement}
@@ -25,11 +23,11 @@ use Rattle.lines.proofs.line.put_refusal.Tie as tie
 -- the word's bytes, the field, the name and the line feed make the line
 whole : (before : List ℕ) (n : ℕ) (name one two three four : List ℕ) (to next then last : ℕ) → n < 4294967296 → length before ≡ 32
     → length name ≡ 8 → name ≡ nameOf n
-    → (to ≡ 8) × (one ≡ sets before 0 (114 ∷ 101 ∷ 102 ∷ 117 ∷ 115 ∷ 101 ∷ 100 ∷ 32 ∷ []))
-    → (next ≡ to + length (decimal n ++ BLANK ∷ [])) × (two ≡ sets one to (decimal n ++ BLANK ∷ []))
-    → (then ≡ next + length (unfilled name)) × (three ≡ sets two next (unfilled name))
-    → (last ≡ then + 1) × (four ≡ sets three then (LINE-FEED ∷ []))
-    → (last ≡ length (refusalLine n)) × (four ≡ written (refusalLine n) before)
+    → Told before 0 (114 ∷ 101 ∷ 102 ∷ 117 ∷ 115 ∷ 101 ∷ 100 ∷ 32 ∷ []) one to
+    → Told one to (decimal n ++ BLANK ∷ []) two next
+    → Told two next (unfilled name) three then
+    → Told three then (LINE-FEED ∷ []) four last
+    → Begins before (refusalLine n) four last
 unfolding refusalLine word unfilled keep padded letterAt
 whole before n name one two three four to next then last h l m e p q r t =
     let first = put-first before 0 (word "refused" ++ BLANK ∷ []) p in

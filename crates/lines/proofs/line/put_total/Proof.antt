@@ -10,13 +10,11 @@ use Prim.Native.Nat.{ℕ, _+_, _<_}
 use native.Mathlib.Omega.{arith}
 use denote.Ref.{now}
 use lib.ListN.{length}
-use lib.Seq.{sets}
 use Rattle.answers.specs.Answer.{padded, letterAt}
 use Rattle.laws.specs.Choose.{keep}
-use Rattle.answers.specs.Output.{written}
 use Rattle.lines.specs.Line.{BLANK, LINE-FEED, decimal, word, unfilled, totalLine}
 use Rattle.lines.proofs.Digits.{digits-64}
-use Rattle.lines.proofs.Putting.{put-first, put-written}
+use Rattle.lines.proofs.Putting.{Told, Begins, put-first, put-written}
 use Rattle.lines.proofs.Fields.{field-64, put-field}
 use Rattle.lines.proofs.TwoDigits.{tabled}
 use Rattle.lines.proofs.line.put_total.Statement.{statement}
@@ -24,9 +22,9 @@ use Rattle.lines.proofs.line.put_total.Tie as tie
 
 -- the word's bytes and the field make the line
 whole : (before : List ℕ) (n : ℕ) (one two : List ℕ) (to last : ℕ) → n < 18446744073709551616 → length before ≡ 32
-    → (to ≡ 6) × (one ≡ sets before 0 (112 ∷ 97 ∷ 105 ∷ 114 ∷ 115 ∷ 32 ∷ []))
-    → (last ≡ to + length (decimal n ++ LINE-FEED ∷ [])) × (two ≡ sets one to (decimal n ++ LINE-FEED ∷ []))
-    → (last ≡ length (totalLine n)) × (two ≡ written (totalLine n) before)
+    → Told before 0 (112 ∷ 97 ∷ 105 ∷ 114 ∷ 115 ∷ 32 ∷ []) one to
+    → Told one to (decimal n ++ LINE-FEED ∷ []) two last
+    → Begins before (totalLine n) two last
 unfolding totalLine word unfilled keep padded letterAt
 whole before n one two to last h l p q =
     let first = put-first before 0 (word "pairs" ++ BLANK ∷ []) p in

@@ -72,7 +72,7 @@ returns : tie.Need-returns Inv-loop μ-loop
 returns c =
     let l = c .before .loop in
     let a = c .before .before .args in
-    (omega arith, all-put (now (a .text)) (a .at) (now (a .bytes)) (l .text) (l .index) (omega arith) (l .inv .2))
+    record { next = omega arith; text = all-put (now (a .text)) (a .at) (now (a .bytes)) (l .text) (l .index) (omega arith) (l .inv .2) }
 
 pub put-bytes-spec : {M : Type 1} → statement M
 put-bytes-spec =

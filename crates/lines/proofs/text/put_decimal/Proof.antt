@@ -106,7 +106,7 @@ same-length c = search needs
 returns : tie.Need-returns Inv-loop μ-loop
 returns c =
     let l = c .before .before .loop in
-    (search needs, first-one _ _ _ _ _ _ (l .inv) _ (omega arith) refl)
+    record { next = search needs; text = first-one _ _ _ _ _ _ (l .inv) _ (omega arith) refl }
 
 put-two-requires-2 : tie.Need-put-two-requires-2 Inv-loop μ-loop
 put-two-requires-2 c κs =
@@ -119,7 +119,7 @@ same-length-2 c = search needs
 returns-2 : tie.Need-returns-2 Inv-loop μ-loop
 returns-2 c =
     let l = c .before .before .before .before .before .before .loop in
-    (search needs, first-two _ _ _ _ _ _ (l .inv) _ (omega arith) (omega arith) (c .before .before .put-two2 .ensures))
+    record { next = search needs; text = first-two _ _ _ _ _ _ (l .inv) _ (omega arith) (omega arith) (c .before .before .put-two2 .ensures) }
 
 pub put-decimal-spec : {M : Type 1} → statement M
 put-decimal-spec =

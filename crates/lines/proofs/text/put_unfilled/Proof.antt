@@ -14,7 +14,7 @@ use lib.Seq.{sets, take-all}
 use Rattle.laws.specs.Choose.{keep}
 use Rattle.lines.specs.Line.{BLANK, unfilled}
 use Rattle.lines.proofs.Blanks.{unfilled-letter, unfilled-blank}
-use Rattle.lines.proofs.Putting.{Put, put-next}
+use Rattle.lines.proofs.Putting.{Put, Told, put-next}
 use Rattle.lines.proofs.text.put_unfilled.Statement.{statement}
 use Rattle.lines.proofs.text.put_unfilled.Tie as tie
 
@@ -40,7 +40,7 @@ module _ (before : List ℕ) (at : ℕ) (letters : List ℕ) where
           few = omega arith;
           same = ap length e ∙ length-set after to (getD letters index 0) ∙ p .same;
           puts = subst (λ us. Put before at us after′ to′) (sym (unfilled-letter letters index l h))
-              (put-next (p .puts) (getD letters index 0 ∷ []) (f, e));
+              (put-next (p .puts) (getD letters index 0 ∷ []) (record { next = f; text = e }));
         }
 
     blank : {after′ : List ℕ} {to′ : ℕ} → index < length letters → getD letters index 0 ≡ BLANK → after′ ≡ after → to′ ≡ to
@@ -54,10 +54,10 @@ module _ (before : List ℕ) (at : ℕ) (letters : List ℕ) where
           puts = rw (e, f, unfilled-blank letters index l h) (p .puts);
         }
 
-    ends : length letters ≤ index → (to ≡ at + length (unfilled letters)) × (after ≡ sets before at (unfilled letters))
+    ends : length letters ≤ index → Told before at (unfilled letters) after to
     ends h =
         let e = ap unfilled (take-all index letters h) in
-        (p .puts .place ∙ ap (λ us. at + length us) e, p .puts .shows ∙ ap (sets before at) e)
+        record { next = p .puts .place ∙ ap (λ us. at + length us) e; text = p .puts .shows ∙ ap (sets before at) e }
 
 abbrev Inv-loop : tie.InvT-loop
 Inv-loop text₀ at letters to₀ index₀ text to index = Passed text₀ at letters index text to

@@ -31,7 +31,10 @@ returns c =
     let a = c .before .before .before .before .before .before .before .args in
     let l = c .before .before .before .before .before .before .loop in
     let top = c .before .before .before .top-of .ensures in
-    (l .inv .0, top-reaches _ (now (a .stack)) (a .node) _ (omega arith) (l .inv .0 .0) top (l .inv .2) (omega arith) ∙ l .inv .1)
+    record {
+      fits = l .inv .0;
+      left = top-reaches _ (now (a .stack)) (a .node) _ (omega arith) (l .inv .0 .0) top (l .inv .2) (omega arith) ∙ l .inv .1;
+    }
 
 sub-left : tie.Need-sub-left Inv-loop μ-loop
 sub-left c = search needs
@@ -52,7 +55,7 @@ loop-again c =
 returns-2 : tie.Need-returns-2 Inv-loop μ-loop
 returns-2 c =
     let a = c .before .before .args in
-    (c .before .loop .inv .0, head-none _ (now (a .stack)) (a .node) (omega arith) ∙ c .before .loop .inv .1)
+    record { fits = c .before .loop .inv .0; left = head-none _ (now (a .stack)) (a .node) (omega arith) ∙ c .before .loop .inv .1 }
 
 pub left-open-spec : {M : Type 1} → statement M
 left-open-spec =

@@ -104,8 +104,8 @@ put-on-top-requires c κs =
       omega arith,
       omega arith,
       omega arith,
-      subst Chain (sym (left .1)) (chain-left (start .args .node) _ (start .pre .2)),
-      subst (AfterHead (start .args .node)) (sym (left .1)) (behind-left (start .args .node) _ (chain-after (start .args .node) _ (start .pre .2) next)),
+      subst Chain (sym (left .left)) (chain-left (start .args .node) _ (start .pre .2)),
+      subst (AfterHead (start .args .node)) (sym (left .left)) (behind-left (start .args .node) _ (chain-after (start .args .node) _ (start .pre .2) next)),
     )
 
 returns-6 : tie.Need-returns-6
@@ -114,7 +114,7 @@ returns-6 c =
     let at-next = c .before .before .before .before in
     passed-rest (opened (a .place .used) (now (a .stack))) (a .node) (a .place .index) (c .put-on-top .last .0) (c .put-on-top .result)
     (record { lowest = omega arith; highest = omega arith; span = omega arith })
-    (follows (at-next .before .is-next .ensures) (at-next .if5 .left)) _ (c .before .before .left-open .ensures .1) (c .put-on-top .ensures)
+    (follows (at-next .before .is-next .ensures) (at-next .if5 .left)) _ (c .before .before .left-open .ensures .left) (c .put-on-top .ensures)
 
 pub pass-node-spec : {M : Type 1} → statement M
 pass-node-spec =

@@ -23,7 +23,7 @@ add-t9 c = search needs
 returns : tie.Need-returns
 returns c =
     let a = c .before .before .args in
-    (refl, top-put (now (a .stack)) _ (a .left) (a .node) (omega (arith, c .before .put-open-arg .given)) (c .put-open .ensures))
+    record { answer = refl; stack = top-put (now (a .stack)) _ (a .left) (a .node) (omega (arith, c .before .put-open-arg .given)) (c .put-open .ensures) }
 
 pub push-spec : {M : Type 1} → statement M
 push-spec = tie.close (tie.spec put-open-requires add-t8 add-t9 returns)

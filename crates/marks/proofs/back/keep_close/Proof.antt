@@ -20,7 +20,7 @@ add-t5 c = search needs
 
 returns : tie.Need-returns
 unfolding beforeMark openBefore closesBefore
-returns c = (refl, refl)
+returns c = record { answer = refl; closes = refl }
 
 pub keep-close-spec : {M : Type 1} → statement M
 keep-close-spec = tie.close (tie.spec mul-closes element-write-closes add-t5 returns)

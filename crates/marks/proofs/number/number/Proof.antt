@@ -29,7 +29,7 @@ use Rattle.marks.proofs.number.number.Tie as tie
 
 module _ (document : ℕ) (marks out : List ℕ) where
   abbrev Numbered : Counted → List ℕ → Type 0
-  Numbered r after = (r ≡ numberOutcome document marks out) × (after ≡ numberOutput document marks out)
+  Numbered r after = record { answer : r ≡ numberOutcome document marks out; output : after ≡ numberOutput document marks out }
 
   length-result : length (tableWords document marks) ≡ ROW-WORDS * rowCount marks
   unfolding tableWords tableOf
@@ -41,7 +41,7 @@ module _ (document : ℕ) (marks out : List ℕ) where
       let n : checkMarks marks ≡ TAKEN → ⊥ = λ z. h (sym e ∙ z) in
       let a = answer-fault (checkMarks marks) (tableWords document marks) out n ∙ e in
       let t = all-refused (checkMarks marks) (tableWords document marks) out (length (tableOf document marks)) answer a h in
-      (f ∙ t .0, t .1)
+      record { answer = f ∙ t .0; output = t .1 }
 
   long : (r : Counted) → MOST-NODES < length marks → r ≡ outcome LONG 0 → Numbered r out
   unfolding checkMarks
@@ -58,7 +58,7 @@ module _ (document : ℕ) (marks out : List ℕ) where
     no-room r l f =
         let a = answer-room (checkMarks marks) (tableWords document marks) out taken (omega (arith, length-result)) in
         let t = all-refused (checkMarks marks) (tableWords document marks) out (length (tableOf document marks)) ROOM a (λ z. omega arith) in
-        (f ∙ t .0, t .1)
+        record { answer = f ∙ t .0; output = t .1 }
 
     whole : (rows : ℕ) (r : Counted) (after : List ℕ) → rows ≡ rowCount marks → rows ≤ length out / ROW-WORDS → r ≡ outcome TAKEN rows
         → after ≡ written (tableWords document marks) out → Numbered r after
@@ -66,7 +66,7 @@ module _ (document : ℕ) (marks out : List ℕ) where
     whole rows r after e l w f =
         let a = answer-taken (checkMarks marks) (tableWords document marks) out taken (omega (arith, length-result)) in
         let t = all-written (checkMarks marks) (tableWords document marks) out (length (tableOf document marks)) a in
-        (w ∙ ap (λ n. outcome TAKEN n) (e ∙ sym (length-table document 1 0 marks)) ∙ t .0, f ∙ t .1)
+        record { answer = w ∙ ap (λ n. outcome TAKEN n) (e ∙ sym (length-table document 1 0 marks)) ∙ t .0; output = f ∙ t .1 }
 
 wrote-nothing-requires : tie.Need-wrote-nothing-requires
 wrote-nothing-requires c κs = search needs

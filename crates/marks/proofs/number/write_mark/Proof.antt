@@ -19,16 +19,24 @@ use Rattle.marks.proofs.number.write_mark.Statement.{statement}
 use Rattle.marks.proofs.number.write_mark.Tie as tie
 
 module _ (document position mark : ℕ) (kept : List ℕ) (p : MarkPlace) (out : List ℕ) (q : MarkPlace) where
-  closing : (kept′ : List ℕ) → mark ≡ CLOSE → (q ≡ beforeMark p CLOSE) × (kept′ ≡ closesBefore kept position (p .depth) CLOSE)
-      → (q ≡ beforeMark p mark) × (kept′ ≡ closesBefore kept position (p .depth) mark) × (out ≡ outputBefore document position kept p mark out)
+  abbrev Marked : List ℕ → List ℕ → Type 0
+  Marked kept′ out′ = record {
+    answer : q ≡ beforeMark p mark;
+    output : out′ ≡ outputBefore document position kept p mark out;
+    closes : kept′ ≡ closesBefore kept position (p .depth) mark;
+  }
+
+  closing : (kept′ : List ℕ) → mark ≡ CLOSE
+      → record { answer : q ≡ beforeMark p CLOSE; closes : kept′ ≡ closesBefore kept position (p .depth) CLOSE }
+      → Marked kept′ out
   unfolding outputBefore
-  closing kept′ h e = rw h (e .0, e .1, refl)
+  closing kept′ h e = rw h (record { answer = e .answer; output = refl; closes = e .closes })
 
   beginning : (r : Row) (out′ : List ℕ) → (mark ≡ CLOSE → ⊥) → q ≡ beforeMark p mark → r ≡ rowHere document position kept (p .depth) mark
       → out′ ≡ sets out (ROW-WORDS * (p .rows - 1)) (rowWords r)
-      → (q ≡ beforeMark p mark) × (kept ≡ closesBefore kept position (p .depth) mark) × (out′ ≡ outputBefore document position kept p mark out)
+      → Marked kept out′
   unfolding closesBefore outputBefore
-  beginning r out′ h e f g = rw (ne-eqb mark CLOSE h, g, f) (e, refl, refl)
+  beginning r out′ h e f g = rw (ne-eqb mark CLOSE h, g, f) (record { answer = e; output = refl; closes = refl })
 
 keep-close-requires : tie.Need-keep-close-requires
 keep-close-requires c κs = c .before .before .before .pre .0 (c .before .if1 .taken)

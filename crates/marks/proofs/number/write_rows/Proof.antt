@@ -60,7 +60,7 @@ loop-again c =
     let b = c .before .before .before .before .before .before .before .loop .inv .1 in
     let p = c .before .before .before .before .before .before .before .before .before .before .pre in
     let e = c .before .before .write-mark .ensures in
-    (omega arith, back-on _ _ _ (check-read _ (p .0) .1) _ _ _ (omega (arith, p .1, p .2)) _ (omega arith) (omega arith) b _ _ _ (e .0) (e .1) (e .2))
+    (omega arith, back-on _ _ _ (check-read _ (p .0) .1) _ _ _ (omega (arith, p .1, p .2)) _ (omega arith) (omega arith) b _ _ _ (e .answer) (e .closes) (e .output))
 
 same-length : tie.Need-same-length Inv-loop μ-loop
 same-length c = c .before .loop .inv .1 .same

@@ -24,7 +24,7 @@ use Rattle.marks.proofs.pick.pick.Tie as tie
 
 module _ (table : List ℕ) (tag : ℕ) (out : List ℕ) where
   abbrev Picked : Counted → List ℕ → Type 0
-  Picked r after = (r ≡ pickOutcome table tag out) × (after ≡ pickOutput table tag out)
+  Picked r after = record { answer : r ≡ pickOutcome table tag out; output : after ≡ pickOutput table tag out }
 
   module _ (fault : ℕ) (e : fault ≡ rowFault table) where
     faulty : (r : Counted) → (fault ≡ TAKEN → ⊥) → r ≡ outcome fault 0 → Picked r out
@@ -32,7 +32,7 @@ module _ (table : List ℕ) (tag : ℕ) (out : List ℕ) where
     faulty r h f =
         let a = answer-fault (rowFault table) (pickedWords tag table) out (λ z. h (e ∙ z)) ∙ sym e in
         let t = all-refused (rowFault table) (pickedWords tag table) out (length (nodesWith tag (rows table))) fault a h in
-        (f ∙ t .0, t .1)
+        record { answer = f ∙ t .0; output = t .1 }
 
     module _ (taken : fault ≡ TAKEN) (found : ℕ) (q : found ≡ length (nodesWith tag (rows table))) where
       no-room : (r : Counted) → count out < found → r ≡ outcome ROOM 0 → Picked r out
@@ -40,14 +40,14 @@ module _ (table : List ℕ) (tag : ℕ) (out : List ℕ) where
       no-room r l f =
           let a = answer-room (rowFault table) (pickedWords tag table) out (sym e ∙ taken) (omega (arith, length-picked tag table)) in
           let t = all-refused (rowFault table) (pickedWords tag table) out (length (nodesWith tag (rows table))) ROOM a (λ z. omega arith) in
-          (f ∙ t .0, t .1)
+          record { answer = f ∙ t .0; output = t .1 }
 
       whole : (r : Counted) (after : List ℕ) → found ≤ count out → r ≡ outcome TAKEN found → after ≡ written (pickedWords tag table) out → Picked r after
       unfolding pickOutcome pickOutput
       whole r after l w f =
           let a = answer-taken (rowFault table) (pickedWords tag table) out (sym e ∙ taken) (omega (arith, length-picked tag table)) in
           let t = all-written (rowFault table) (pickedWords tag table) out (length (nodesWith tag (rows table))) a in
-          (w ∙ ap (λ n. outcome TAKEN n) q ∙ t .0, f ∙ t .1)
+          record { answer = w ∙ ap (λ n. outcome TAKEN n) q ∙ t .0; output = f ∙ t .1 }
 
 row-fault-requires : tie.Need-row-fault-requires
 row-fault-requires c κs = search needs

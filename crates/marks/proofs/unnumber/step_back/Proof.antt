@@ -57,8 +57,8 @@ keep-close-requires c κs = search needs
 returns-2 : tie.Need-returns-2
 returns-2 c =
     let m = c .before .before .before .before .before in
-    closed _ _ _ _ _ _ (m .mark-here .ensures) (c .before .before .before .before .if1 .taken) (omega arith) _ (c .keep-close .ensures .0) _
-    (c .keep-close .ensures .1)
+    closed _ _ _ _ _ _ (m .mark-here .ensures) (c .before .before .before .before .if1 .taken) (omega arith) _ (c .keep-close .ensures .answer) _
+    (c .keep-close .ensures .closes)
 
 is-fitting-requires : tie.Need-is-fitting-requires
 is-fitting-requires c κs =

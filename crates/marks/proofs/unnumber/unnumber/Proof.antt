@@ -44,17 +44,19 @@ unfolding tableMarks marksOf
 count-marks table = length-tagged (rows table) _ ∙ length-replicate (rowIn (rows table) 0 .node .end) CLOSE
 
 module _ (table out : List ℕ) where
+  abbrev Answers : Unnumbered → List ℕ → Type 0
+  Answers r after = record { answer : r ≡ unnumberOutcome table out; output : after ≡ unnumberOutput table out }
+
   -- what a refused call answers and leaves, and what a taken one does
   refuses : (k : ℕ) → answerOf (checkTable table) (tableMarks table) out ≡ k → (k ≡ TAKEN → ⊥) → (r : Unnumbered) → r ≡ unnumbered k 0 0
-      → (r ≡ unnumberOutcome table out) × (out ≡ unnumberOutput table out)
+      → Answers r out
   unfolding unnumberOutcome unnumberOutput outputOf ifTaken
-  refuses k a n r e = rw (e, a, ne-eqb k TAKEN n) (refl, refl)
+  refuses k a n r e = rw (e, a, ne-eqb k TAKEN n) (record { answer = refl; output = refl })
 
   takes : answerOf (checkTable table) (tableMarks table) out ≡ TAKEN
-      → (unnumbered TAKEN (documentOf (rows table)) (length (tableMarks table)) ≡ unnumberOutcome table out)
-      × (written (tableMarks table) out ≡ unnumberOutput table out)
+      → Answers (unnumbered TAKEN (documentOf (rows table)) (length (tableMarks table))) (written (tableMarks table) out)
   unfolding unnumberOutcome unnumberOutput outputOf ifTaken
-  takes a = rw a (refl, refl)
+  takes a = rw a (record { answer = refl; output = refl })
 
   module _ (fault : ℕ) (q : fault ≡ rowFault table) where
     checked : (fault ≡ TAKEN → ⊥) → checkTable table ≡ fault
@@ -62,11 +64,11 @@ module _ (table out : List ℕ) where
     checked n = rw (← q, ne-eqb fault TAKEN n)
 
     words-faulty : (fault ≡ TAKEN → ⊥) → (r : Unnumbered) → r ≡ unnumbered fault 0 0
-        → (r ≡ unnumberOutcome table out) × (out ≡ unnumberOutput table out)
+        → Answers r out
     words-faulty n = refuses fault (rw (checked n) (answer-fault fault (tableMarks table) out n)) n
 
     module _ (whole : fault ≡ TAKEN) (b : Bool) (e : b ≡ numberedb (rows table)) where
-      no-table : b ≡ false → (r : Unnumbered) → r ≡ unnumbered TABLE 0 0 → (r ≡ unnumberOutcome table out) × (out ≡ unnumberOutput table out)
+      no-table : b ≡ false → (r : Unnumbered) → r ≡ unnumbered TABLE 0 0 → Answers r out
       unfolding checkTable
       no-table h = refuses TABLE (rw (← q, whole, ← e, h) (answer-fault TABLE (tableMarks table) out (λ z. omega arith))) (λ z. omega arith)
 
@@ -79,7 +81,7 @@ module _ (table out : List ℕ) where
         last = ap (λ r. r .node .end) first ∙ sym (count-marks table)
 
         no-room : length out < root .node .end → (r : Unnumbered) → r ≡ unnumbered ROOM 0 0
-            → (r ≡ unnumberOutcome table out) × (out ≡ unnumberOutput table out)
+            → Answers r out
         no-room l = refuses ROOM (answer-room (checkTable table) (tableMarks table) out accepted (omega (arith, last))) (λ z. omega arith)
 
         roomy : root .node .end ≤ length out → answerOf (checkTable table) (tableMarks table) out ≡ TAKEN
@@ -96,11 +98,14 @@ module _ (table out : List ℕ) where
 
         taken : root .node .end ≤ length out → (closed after : List ℕ) → closed ≡ written (replicate (root .node .end) CLOSE) out
             → after ≡ tagged (rows table) closed
-            → (unnumbered TAKEN (root .node .document) (root .node .end) ≡ unnumberOutcome table out) × (after ≡ unnumberOutput table out)
+            → Answers (unnumbered TAKEN (root .node .document) (root .node .end)) after
         unfolding documentOf
         taken l closed after ec ea =
             let t = takes (roomy l) in
-            ((λ i. unnumbered TAKEN (first i .node .document) (last i)) ∙ t .0, marks-put closed after ec ea ∙ t .1)
+            record {
+              answer = (λ i. unnumbered TAKEN (first i .node .document) (last i)) ∙ t .answer;
+              output = marks-put closed after ec ea ∙ t .output;
+            }
 
 row-fault-requires : tie.Need-row-fault-requires
 row-fault-requires c κs = search needs

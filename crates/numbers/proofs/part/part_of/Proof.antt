@@ -37,7 +37,7 @@ slice-aggregate-result : tie.Need-slice-aggregate-result
 slice-aggregate-result c = search needs
 
 returns : tie.Need-returns
-returns c = (behind _ _ _ (omega arith), at-the-beginning _ _ _ (omega arith))
+returns c = record { contents = behind _ _ _ (omega arith); place = at-the-beginning _ _ _ (omega arith) }
 
 sub-if2 : tie.Need-sub-if2
 sub-if2 c = search needs
@@ -52,7 +52,7 @@ part-result-end : tie.Need-part-result-end
 part-result-end c = search needs
 
 returns-2 : tie.Need-returns-2
-returns-2 c = (to-the-end _ _ _ (omega arith), before-the-end _ _ _ _ (omega arith) (omega arith))
+returns-2 c = record { contents = to-the-end _ _ _ (omega arith); place = before-the-end _ _ _ _ (omega arith) (omega arith) }
 
 add-result : tie.Need-add-result
 add-result c = search needs
@@ -67,7 +67,7 @@ part-result-end-2 : tie.Need-part-result-end-2
 part-result-end-2 c = search needs
 
 returns-3 : tie.Need-returns-3
-returns-3 c = (within _ _ _, before-the-end _ _ _ _ (omega arith) (omega arith))
+returns-3 c = record { contents = within _ _ _; place = before-the-end _ _ _ _ (omega arith) (omega arith) }
 
 pub part-of-spec : {M : Type 1} → statement M
 part-of-spec =

@@ -41,11 +41,11 @@ is-after-requires c κs = search needs
 returns : tie.Need-returns Inv-loop μ-loop
 returns c =
     let a = c .before .before .before .before .before .before .args in
-    let l = c .before .before .before .before .loop in (
-      l .inv .0 .1,
-      search-found (λ d. afterb d (a .ancestor)) (now (a .descendants)) _ (l .k / 4) _ (l .inv .1) (omega arith)
-          (c .before .before .node-from .ensures) (sym (c .before .is-after .ensures) ∙ c .if1 .taken),
-    )
+    let l = c .before .before .before .before .loop in record {
+      aligned = l .inv .0 .1;
+      index = search-found (λ d. afterb d (a .ancestor)) (now (a .descendants)) _ (l .k / 4) _ (l .inv .1) (omega arith)
+          (c .before .before .node-from .ensures) (sym (c .before .is-after .ensures) ∙ c .if1 .taken);
+    }
 
 add-k : tie.Need-add-k Inv-loop μ-loop
 add-k c = search needs
@@ -68,7 +68,7 @@ returns-2 : tie.Need-returns-2 Inv-loop μ-loop
 returns-2 c =
     let a = c .before .before .before .args in
     let l = c .before .loop in
-    (l .inv .0 .1, search-end (λ d. afterb d (a .ancestor)) (now (a .descendants)) _ (l .k / 4) (l .inv .1) (omega arith))
+    record { aligned = l .inv .0 .1; index = search-end (λ d. afterb d (a .ancestor)) (now (a .descendants)) _ (l .k / 4) (l .inv .1) (omega arith) }
 
 pub first-after-spec : {M : Type 1} → statement M
 first-after-spec =

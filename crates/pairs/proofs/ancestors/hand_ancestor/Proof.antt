@@ -28,7 +28,7 @@ returns c =
     let p = c .before .before .before .before .before .before .pre in
     let none = run-none (now (a .descendants)) (nodeAt (now (a .ancestors)) (a .i / 4)) (a .relation) (a .past) (a .from) _ _ (p .5)
     (c .before .before .node-from .ensures) (c .before .is-running .ensures) (not-read _ (c .if1 .taken)) in
-    (p .4, all-fit Ancestor _ _ _ _ none)
+    record { guess = p .4; handed = all-fit Ancestor _ _ _ _ none }
 
 run-end-requires : tie.Need-run-end-requires
 run-end-requires c κs =
@@ -45,7 +45,7 @@ first-from-requires c κs =
     let a = c .before .before .before .before .before .before .before .args in
     let p = c .before .before .before .before .before .before .before .pre in
     let e = c .run-end .ensures in
-    let t = end-placed (now (a .descendants)) (nodeAt (now (a .ancestors)) (a .i / 4)) (a .from) _ 0 0 _ (p .3) (p .5) (c .before .before .before .node-from .ensures) (e .0) (e .1) in
+    let t = end-placed (now (a .descendants)) (nodeAt (now (a .ancestors)) (a .i / 4)) (a .from) _ 0 0 _ (p .3) (p .5) (c .before .before .before .node-from .ensures) (e .aligned) (e .index) in
     (p .3, t .0, t .1)
 
 hand-run-requires : tie.Need-hand-run-requires
@@ -54,8 +54,8 @@ hand-run-requires c κs =
     let p = c .before .before .before .before .before .before .before .before .before .pre in
     let e = c .before .before .run-end .ensures in
     let f = c .before .first-from .ensures in
-    let t = end-placed (now (a .descendants)) (nodeAt (now (a .ancestors)) (a .i / 4)) (a .from) _ 0 0 _ (p .3) (p .5) (c .before .before .before .before .before .node-from .ensures) (e .0) (e .1) in
-    let s = ahead-placed (now (a .descendants)) (nodeAt (now (a .ancestors)) (a .i / 4)) (a .from) _ _ (a .past) _ (p .3) (p .5) (c .before .before .before .before .before .node-from .ensures) (e .0) (e .1) (f .0) (f .1) in
+    let t = end-placed (now (a .descendants)) (nodeAt (now (a .ancestors)) (a .i / 4)) (a .from) _ 0 0 _ (p .3) (p .5) (c .before .before .before .before .before .node-from .ensures) (e .aligned) (e .index) in
+    let s = ahead-placed (now (a .descendants)) (nodeAt (now (a .ancestors)) (a .i / 4)) (a .from) _ _ (a .past) _ (p .3) (p .5) (c .before .before .before .before .before .node-from .ensures) (e .aligned) (e .index) (f .aligned) (f .index) in
     (p .0, p .1, p .2, s .0, t .0, s .1, s .2)
 
 same-length : tie.Need-same-length
@@ -67,9 +67,9 @@ returns-2 c =
     let p = c .before .before .before .before .before .before .before .before .before .before .before .before .pre in
     let e = c .before .before .before .before .before .run-end .ensures in
     let f = c .before .before .before .before .first-from .ensures in
-    let s = serve-run (now (a .descendants)) (nodeAt (now (a .ancestors)) (a .i / 4)) (a .from) _ _ (a .past) _ (p .3) (p .5) (c .before .before .before .before .before .before .before .before .node-from .ensures) (e .0) (e .1) (a .relation) (f .0) (f .1)
+    let s = serve-run (now (a .descendants)) (nodeAt (now (a .ancestors)) (a .i / 4)) (a .from) _ _ (a .past) _ (p .3) (p .5) (c .before .before .before .before .before .before .before .before .node-from .ensures) (e .aligned) (e .index) (a .relation) (f .aligned) (f .index)
     (now (a .out)) (a .written) (c .before .before .hand-run .ensures) in
-    (e .0, s)
+    record { guess = e .aligned; handed = s }
 
 pub hand-ancestor-spec : {M : Type 1} → statement M
 hand-ancestor-spec =

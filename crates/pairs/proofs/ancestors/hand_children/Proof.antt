@@ -138,7 +138,7 @@ past-inner-requires c κs =
 
 loop-less-2 : tie.Need-loop-less-2 Inv-loop μ-loop
 loop-less-2 c =
-    let e = c .past-inner .ensures .3 in
+    let e = c .past-inner .ensures .next-later in
     let t = c .before .before .before .before .loop-test .taken in
     omega arith
 
@@ -149,14 +149,14 @@ loop-again-2 c =
     let l = c .before .before .before .before .before .loop in
     let i = l .inv in
     let e = c .past-inner .ensures in
-    let s = inner-passed (now (a .ancestors)) (now (a .descendants)) (p .0) (a .i) (l .zone) (l .k) _ _ _ (omega (arith, i .3, i .2, p .1)) (e .3) (e .2)
-    (c .before .before .before .node-from2 .ensures) (c .before .if1 .left) (i .1) (e .4) in (
+    let s = inner-passed (now (a .ancestors)) (now (a .descendants)) (p .0) (a .i) (l .zone) (l .k) _ _ _ (omega (arith, i .3, i .2, p .1)) (e .next-later) (e .next-placed)
+    (c .before .before .before .node-from2 .ensures) (c .before .if1 .left) (i .1) (e .held) in (
       i .0,
       i .1,
-      e .0,
-      omega (arith, i .3, e .1),
-      e .2 .1,
-      omega (arith, i .5, e .3),
+      e .zone-placed,
+      omega (arith, i .3, e .zone-later),
+      e .next-placed .1,
+      omega (arith, i .5, e .next-later),
       i .6,
       ap (servedGroup Ancestor (l .out) (l .handed .count) (nodeAt (now (a .ancestors)) (a .i / 4))) (sym s) ∙ i .7,
     )

@@ -39,12 +39,24 @@ add-if1 c = search needs
 returns : tie.Need-returns
 returns c =
     let p = c .before .before .before .pre in
-    (p .1, omega arith, (omega arith, omega arith, omega arith), omega arith, λ j l m. absurd (omega arith))
+    record {
+      zone-placed = p .1;
+      zone-later = omega arith;
+      next-placed = (omega arith, omega arith, omega arith);
+      next-later = omega arith;
+      held = λ j l m. absurd (omega arith);
+    }
 
 returns-2 : tie.Need-returns-2
 returns-2 c =
     let p = c .before .before .before .before .pre in
-    (p .1, omega arith, (omega arith, omega arith, omega arith), omega arith, λ j l m. absurd (omega arith))
+    record {
+      zone-placed = p .1;
+      zone-later = omega arith;
+      next-placed = (omega arith, omega arith, omega arith);
+      next-later = omega arith;
+      held = λ j l m. absurd (omega arith);
+    }
 
 node-from-requires : tie.Need-node-from-requires
 node-from-requires c κs = search needs
@@ -58,7 +70,13 @@ is-after-requires c κs = search needs
 returns-3 : tie.Need-returns-3
 returns-3 c =
     let p = c .before .before .before .before .before .before .before .before .pre in
-    (p .1, omega arith, (omega arith, omega arith, omega arith), omega arith, λ j l m. absurd (omega arith))
+    record {
+      zone-placed = p .1;
+      zone-later = omega arith;
+      next-placed = (omega arith, omega arith, omega arith);
+      next-later = omega arith;
+      held = λ j l m. absurd (omega arith);
+    }
 
 is-running-requires : tie.Need-is-running-requires
 is-running-requires c κs = search needs
@@ -69,7 +87,13 @@ add-t12 c = search needs
 returns-4 : tie.Need-returns-4
 returns-4 c =
     let p = c .before .before .before .before .before .before .before .before .before .before .pre in
-    ((omega arith, omega arith, omega arith), omega arith, (omega arith, omega arith, omega arith), omega arith, λ j l m. absurd (omega arith))
+    record {
+      zone-placed = (omega arith, omega arith, omega arith);
+      zone-later = omega arith;
+      next-placed = (omega arith, omega arith, omega arith);
+      next-later = omega arith;
+      held = λ j l m. absurd (omega arith);
+    }
 
 add-t8 : tie.Need-add-t8
 add-t8 c = search needs
@@ -90,7 +114,13 @@ returns-5 c =
     let i = f .2 .from-in in
     let h = held (now (a .ancestors)) (now (a .descendants)) (p .0) (a .zone) (a .k) _ _ (omega arith) (omega arith)
     (c .before .before .before .before .before .before .node-from .ensures) (c .before .before .before .before .before .node-from2 .ensures) (after (c .before)) _ f in
-    ((omega arith, omega arith, omega arith), omega arith, (p .2 .0, f .0, omega arith), omega (arith, f .1), h)
+    record {
+      zone-placed = (omega arith, omega arith, omega arith);
+      zone-later = omega arith;
+      next-placed = (p .2 .0, f .0, omega arith);
+      next-later = omega (arith, f .1);
+      held = h;
+    }
 
 pub past-inner-spec : {M : Type 1} → statement M
 past-inner-spec =

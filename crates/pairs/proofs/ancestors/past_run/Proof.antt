@@ -50,7 +50,10 @@ returns : tie.Need-returns Inv-loop μ-loop
 returns c =
     let a = c .before .before .before .before .args in
     let l = c .before .before .loop in
-    (l .inv .0, further-stops (now (a .descendants)) (a .ancestor) (a .from) (l .k) (l .inv) (sym (c .before .is-running .ensures) ∙ c .if1 .left))
+    record {
+      aligned = l .inv .0;
+      index = further-stops (now (a .descendants)) (a .ancestor) (a .from) (l .k) (l .inv) (sym (c .before .is-running .ensures) ∙ c .if1 .left);
+    }
 
 pub past-run-spec : {M : Type 1} → statement M
 past-run-spec =

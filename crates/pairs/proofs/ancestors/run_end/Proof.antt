@@ -43,7 +43,10 @@ returns c =
     let a = c .before .before .before .args in
     let p = c .before .before .before .pre in
     let f = further-next (now (a .descendants)) (a .ancestor) (a .from) (a .from) (a .from + 4) (p .0) (p .0) (omega arith) (omega arith) (p .2) (p .3) in
-    (f .0, further-stops (now (a .descendants)) (a .ancestor) (a .from) (a .from + 4) f (sym (c .before .is-running .ensures) ∙ not-read _ (c .if1 .taken)))
+    record {
+      aligned = f .0;
+      index = further-stops (now (a .descendants)) (a .ancestor) (a .from) (a .from + 4) f (sym (c .before .is-running .ensures) ∙ not-read _ (c .if1 .taken));
+    }
 
 add-past-guess : tie.Need-add-past-guess
 add-past-guess c = search needs
@@ -60,7 +63,10 @@ returns-2 : tie.Need-returns-2
 returns-2 c =
     let a = c .before .before .before .before .before .before .args in
     let f = further-trans (now (a .descendants)) (a .ancestor) (a .from) (a .from + 4 + 4) _ (second-in (c .before .before .before)) (c .before .before .past-guess .ensures) in
-    (f .0, further-stops (now (a .descendants)) (a .ancestor) (a .from) _ f (sym (c .before .is-running2 .ensures) ∙ not-read _ (c .if2 .taken)))
+    record {
+      aligned = f .0;
+      index = further-stops (now (a .descendants)) (a .ancestor) (a .from) _ f (sym (c .before .is-running2 .ensures) ∙ not-read _ (c .if2 .taken));
+    }
 
 add-past-strides : tie.Need-add-past-strides
 add-past-strides c = search needs
@@ -79,7 +85,7 @@ returns-3 c =
     let f = near-in (c .before .before) in
     let g = c .before .past-strides .ensures in
     let e = c .past-run .ensures in
-    (e .0, e .1 ∙ g .3 ∙ f .3)
+    record { aligned = e .aligned; index = e .index ∙ g .3 ∙ f .3 }
 
 pub run-end-spec : {M : Type 1} → statement M
 run-end-spec =

@@ -89,8 +89,8 @@ hand-ancestor-requires c κs =
     let i = l .inv in
     let t = c .before .before .before .loop-test .taken in
     let f = c .before .first-after .ensures in
-    let r = sweep-running (now (a .ancestors)) (now (a .descendants)) (given .pre) (l .i / 4) (l .from / 4) _ _ (omega (arith, i .1)) (c .before .before .node-from .ensures) (i .4) (f .1) in
-    (given .pre, i .1, t, (i .2 .0, f .0, omega (arith, r .from-in, f .0, i .2 .0)), i .3, r)
+    let r = sweep-running (now (a .ancestors)) (now (a .descendants)) (given .pre) (l .i / 4) (l .from / 4) _ _ (omega (arith, i .1)) (c .before .before .node-from .ensures) (i .4) (f .index) in
+    (given .pre, i .1, t, (i .2 .0, f .aligned, omega (arith, r .from-in, f .aligned, i .2 .0)), i .3, r)
 
 same-length : tie.Need-same-length Inv-loop μ-loop
 same-length c = search needs
@@ -108,8 +108,8 @@ returns c =
     (past .past-from .ensures) in
     let left = i .6 (a .place) s in
     sweep-stop (now (a .ancestors)) (now (a .descendants)) (given .pre) (l .i / 4) (l .from / 4) _ _ (omega (arith, i .1)) (here .before .before .before .node-from .ensures)
-    (i .4) (here .before .before .first-after .ensures .1) (a .relation) (a .place) _ ((l .i + 4) / 4) (left .0 t) (omega arith)
-    _ _ (here .hand-ancestor .ensures .1) (not-read _ (c .if1 .taken)) (left .1)
+    (i .4) (here .before .before .first-after .ensures .index) (a .relation) (a .place) _ ((l .i + 4) / 4) (left .0 t) (omega arith)
+    _ _ (here .hand-ancestor .ensures .handed) (not-read _ (c .if1 .taken)) (left .1)
 
 add-i : tie.Need-add-i Inv-loop μ-loop
 add-i c =
@@ -132,18 +132,18 @@ loop-again c =
     let done : here .hand-ancestor .result .handed .done ≡ true = not-none _ (c .if1 .left) in
     let f = here .before .before .first-after .ensures in
     let n = here .before .before .before .node-from .ensures in
-    let r = sweep-running (now (a .ancestors)) (now (a .descendants)) (given .pre) (l .i / 4) (l .from / 4) _ _ (omega (arith, i .1)) n (i .4) (f .1) in (
+    let r = sweep-running (now (a .ancestors)) (now (a .descendants)) (given .pre) (l .i / 4) (l .from / 4) _ _ (omega (arith, i .1)) n (i .4) (f .index) in (
       omega arith,
       (i .1 .0, omega (arith, i .1), omega (arith, i .1)),
-      (i .2 .0, f .0, omega (arith, r .from-in, f .0, i .2 .0)),
-      here .hand-ancestor .ensures .0,
-      sweep-next (now (a .ancestors)) (now (a .descendants)) (given .pre) (l .i / 4) (l .from / 4) _ _ (omega (arith, i .1)) n (i .4) (f .1) ((l .i + 4) / 4) (omega arith),
+      (i .2 .0, f .aligned, omega (arith, r .from-in, f .aligned, i .2 .0)),
+      here .hand-ancestor .ensures .guess,
+      sweep-next (now (a .ancestors)) (now (a .descendants)) (given .pre) (l .i / 4) (l .from / 4) _ _ (omega (arith, i .1)) n (i .4) (f .index) ((l .i + 4) / 4) (omega arith),
       done,
       λ place s.
           let left = i .6 place s in (
             tells-next place (now (a .ancestors)) (first-taken (now (a .ancestors)) (now (a .descendants)) (given .pre) .0) _ (l .i) (left .0),
             sweep-on (now (a .ancestors)) (now (a .descendants)) (given .pre) (l .i / 4) (l .from / 4) _ _ (omega (arith, i .1)) n
-                (i .4) (f .1) (a .relation) place _ ((l .i + 4) / 4) (left .0 t) (omega arith) _ _ (here .hand-ancestor .ensures .1) done (left .1),
+                (i .4) (f .index) (a .relation) place _ ((l .i + 4) / 4) (left .0 t) (omega arith) _ _ (here .hand-ancestor .ensures .handed) done (left .1),
           ),
     )
 

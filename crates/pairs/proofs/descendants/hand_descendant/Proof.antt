@@ -36,9 +36,9 @@ pair-with-ancestors-requires c κs =
     let p = start .pre in
     let m = c .before .before .before .before .first-match .ensures in
     let f = c .before .before .first-from .ensures in
-    let l = ahead-in (now (a .stack)) _ (a .used) _ (a .past) (f .1) (m .1) (p .2 .0) (f .0) in
+    let l = ahead-in (now (a .stack)) _ (a .used) _ (a .past) (f .index) (m .within) (p .2 .0) (f .aligned) in
     let g = c .pair-with-ancestors-arg2 .given in
-    (p .0, p .1, (omega arith, f .0, omega arith), (omega arith, omega arith, omega arith))
+    (p .0, p .1, (omega arith, f .aligned, omega arith), (omega arith, omega arith, omega arith))
 
 same-length : tie.Need-same-length
 same-length c = search needs
@@ -49,7 +49,7 @@ returns c =
     let m = c .before .before .before .before .before .before .before .first-match .ensures in
     let f = c .before .before .before .before .before .first-from .ensures in
     let n = c .before .before .before .before .before .before .before .before .node-from .ensures in
-    serve-ahead (now (a .stack)) _ (a .used) _ (a .past) (f .1) (a .relation) (nodeAt (now (a .descendants)) (a .at / 4)) _ n (m .2) (now (a .out))
+    serve-ahead (now (a .stack)) _ (a .used) _ (a .past) (f .index) (a .relation) (nodeAt (now (a .descendants)) (a .at / 4)) _ n (m .matches) (now (a .out))
     (a .written) (c .before .before .pair-with-ancestors .ensures)
 
 pub hand-descendant-spec : {M : Type 1} → statement M

@@ -82,7 +82,7 @@ open-before-requires c κs =
     let l = c .before .before .before .before .before .loop in
     let s = c .before .still-open .ensures in
     let here = left-at (now (a .ancestors)) (now (a .descendants)) (given .pre) (l .j) (c .before .before .before .before .loop-test .taken) _
-    (c .before .before .before .node-from .ensures) _ _ _ _ (l .inv .1) (s .0) (s .2) in
+    (c .before .before .before .node-from .ensures) _ _ _ _ (l .inv .1) (s .fits) (s .left) in
     (taken-as (now (a .ancestors)) (now (a .descendants)) (given .pre), here .0, here .1)
 
 hand-descendant-requires : tie.Need-hand-descendant-requires Inv-loop μ-loop
@@ -93,7 +93,7 @@ hand-descendant-requires c κs =
     let o = c .before .before .open-before .ensures in
     let test = c .before .before .before .before .before .before .before .loop-test .taken in
     let t = at-descendant (now (a .ancestors)) (now (a .descendants)) (given .pre) (l .j) test _
-    (c .before .before .before .before .before .before .node-from .ensures) _ _ _ (o .0) (o .1) (o .2) in
+    (c .before .before .before .before .before .before .node-from .ensures) _ _ _ (o .opening) (o .all-open) (o .rest) in
     (l .inv .1 .at, test, t .opening .used-in, t .opening .held .stands .chain, t .upon)
 
 same-length : tie.Need-same-length Inv-loop μ-loop
@@ -108,7 +108,7 @@ returns c =
     let test = here .before .before .before .before .before .before .before .loop-test .taken in
     let o = here .before .before .open-before .ensures in
     let t = at-descendant (now (a .ancestors)) (now (a .descendants)) (given .pre) (l .j) test _
-    (here .before .before .before .before .before .before .node-from .ensures) _ _ _ (o .0) (o .1) (o .2) in
+    (here .before .before .before .before .before .before .node-from .ensures) _ _ _ (o .opening) (o .all-open) (o .rest) in
     let past = here .before .before .before .before .before .before .before .before .before in
     let s = started (a .place) (now (a .descendants)) _ _ _ (past .before .before .served-count .ensures) (past .before .node-at .ensures)
     (past .past-from .ensures) in
@@ -135,7 +135,7 @@ loop-again c =
     let test = here .before .before .before .before .before .before .before .loop-test .taken in
     let o = here .before .before .open-before .ensures in
     let t = at-descendant (now (a .ancestors)) (now (a .descendants)) (given .pre) (l .j) test _
-    (here .before .before .before .before .before .before .node-from .ensures) _ _ _ (o .0) (o .1) (o .2) in
+    (here .before .before .before .before .before .before .node-from .ensures) _ _ _ (o .opening) (o .all-open) (o .rest) in
     let done : c .before .before .before .before .hand-descendant .result .done ≡ true = not-none _ (c .if1 .left) in (
       omega arith,
       ready-next (now (a .ancestors)) (now (a .descendants)) (given .pre) (l .j) test _ _ _ t (l .inv .1 .at),

@@ -29,7 +29,7 @@ returns c =
     let a = c .before .before .args in
     let p = c .before .before .pre in
     let z : firstAt (startsFrom (a .start)) (stretch (now (a .followers)) (a .from) (a .to)) ≡ 0 = rw (c .if1 .taken) (first-zero _) in
-    (omega arith, omega arith)
+    record { aligned = omega arith; index = omega arith }
 
 loop-holds : tie.Need-loop-holds Inv-loop μ-loop
 loop-holds c = let p = c .before .before .pre in (p .0, omega arith, refl)
@@ -45,7 +45,10 @@ returns-2 c =
     let a = c .before .before .before .before .before .before .before .args in
     let p = c .before .before .before .before .before .before .before .pre in
     let l = c .before .before .before .before .loop in
-    (omega arith, start-found (now (a .followers)) (l .k) (a .to) (a .start) _ (l .inv .0) (p .1) (l .inv .2) _ (omega arith) (c .before .before .node-from .ensures) (omega arith))
+    record {
+      aligned = omega arith;
+      index = start-found (now (a .followers)) (l .k) (a .to) (a .start) _ (l .inv .0) (p .1) (l .inv .2) _ (omega arith) (c .before .before .node-from .ensures) (omega arith);
+    }
 
 add-k : tie.Need-add-k Inv-loop μ-loop
 add-k c = search needs
@@ -68,7 +71,7 @@ returns-3 c =
     let a = c .before .before .before .before .args in
     let p = c .before .before .before .before .pre in
     let l = c .before .loop in
-    (omega arith, start-none (now (a .followers)) (l .k) (a .to) (a .start) _ (l .inv .0) (p .1) (l .inv .2) (omega arith))
+    record { aligned = omega arith; index = start-none (now (a .followers)) (l .k) (a .to) (a .start) _ (l .inv .0) (p .1) (l .inv .2) (omega arith) }
 
 pub first-from-spec : {M : Type 1} → statement M
 first-from-spec =

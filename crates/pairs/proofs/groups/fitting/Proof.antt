@@ -7,10 +7,10 @@ use Rattle.pairs.proofs.groups.fitting.Statement.{statement}
 use Rattle.pairs.proofs.groups.fitting.Tie as tie
 
 returns : tie.Need-returns
-returns c = (omega arith, omega arith, inl (omega arith))
+returns c = record { room = omega arith; asked = omega arith; most = inl (omega arith) }
 
 returns-2 : tie.Need-returns-2
-returns-2 c = (omega arith, omega arith, inr (omega arith))
+returns-2 c = record { room = omega arith; asked = omega arith; most = inr (omega arith) }
 
 pub fitting-spec : {M : Type 1} → statement M
 fitting-spec = tie.close (tie.spec returns returns-2)

@@ -53,8 +53,8 @@ returns c =
     let p = c .before .before .before .before .before .before .before .before .pre in
     let f = c .before .before .before .before .before .fitting .ensures in
     let n = c .before .before .before .before .before .fitting .result in
-    counted-in (a .order) (a .leader) (now (a .followers)) (a .from) (a .to) (a .from + 4 * n - a .from) n (p .1) (p .2) (p .3) (omega arith) (f .1) (now (a .out)) _ (a .written)
-    (c .before .before .put-group .ensures) (f .2)
+    counted-in (a .order) (a .leader) (now (a .followers)) (a .from) (a .to) (a .from + 4 * n - a .from) n (p .1) (p .2) (p .3) (omega arith) (f .asked) (now (a .out)) _ (a .written)
+    (c .before .before .put-group .ensures) (f .most)
 
 pub hand-stretch-spec : {M : Type 1} → statement M
 hand-stretch-spec =

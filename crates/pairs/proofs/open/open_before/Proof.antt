@@ -41,12 +41,12 @@ returns : tie.Need-returns Inv-loop μ-loop
 returns c =
     let start = c .before .before .before .before .before .before in
     let a = start .args in
-    let l = c .before .before .before .before .loop in (
-      l .inv .0,
-      l .inv .1,
-      passing-ends (now (a .ancestors)) (a .descendant) (start .pre .0) _ _
-          (c .before .before .node-from .ensures) (sym (c .before .is-after .ensures) ∙ not-true _ (c .if1 .taken)),
-    )
+    let l = c .before .before .before .before .loop in record {
+      opening = l .inv .0;
+      all-open = l .inv .1;
+      rest = passing-ends (now (a .ancestors)) (a .descendant) (start .pre .0) _ _
+          (c .before .before .node-from .ensures) (sym (c .before .is-after .ensures) ∙ not-true _ (c .if1 .taken));
+    }
 
 node-from-requires-2 : tie.Need-node-from-requires-2 Inv-loop μ-loop
 node-from-requires-2 c κs = (c .before .before .before .before .before .loop .inv .0 .passed-in, c .before .before .before .before .loop-test .taken)
@@ -75,18 +75,18 @@ loop-again c =
     let test = ap (afterb (a .descendant)) same ∙ sym (c .before .before .before .before .is-after .ensures)
     ∙ not-false _ (c .before .before .before .if1 .left) in
     next-passed (now (a .ancestors)) (a .descendant) (start .pre .0) _ _ _ _ (l .inv .0) (l .inv .1) (omega arith) (c .before .node-from2 .ensures) test
-    _ _ (c .open-next .ensures .0) (c .open-next .ensures .1)
+    _ _ (c .open-next .ensures .fits) (c .open-next .ensures .stack)
 
 returns-2 : tie.Need-returns-2 Inv-loop μ-loop
 returns-2 c =
     let start = c .before .before .before in
     let a = start .args in
-    let l = c .before .loop in (
-      l .inv .0,
-      l .inv .1,
-      passing-done (now (a .ancestors)) (a .descendant) (start .pre .0) (l .i / 4)
-          (let p = l .inv .0 .passed-in in omega arith),
-    )
+    let l = c .before .loop in record {
+      opening = l .inv .0;
+      all-open = l .inv .1;
+      rest = passing-done (now (a .ancestors)) (a .descendant) (start .pre .0) (l .i / 4)
+          (let p = l .inv .0 .passed-in in omega arith);
+    }
 
 pub open-before-spec : {M : Type 1} → statement M
 open-before-spec =

@@ -41,11 +41,11 @@ is-open-requires c κs = search needs
 returns : tie.Need-returns
 returns c =
     let start = c .before .before in
-    let a = start .args in (
-      start .pre .0,
-      opened-shut (now (a .stack)) (a .used) (a .descendant) (a .ancestor)
-          (sym (c .before .is-open .ensures) ∙ not-true _ (c .if1 .taken)),
-    )
+    let a = start .args in record {
+      fits = start .pre .0;
+      stack = opened-shut (now (a .stack)) (a .used) (a .descendant) (a .ancestor)
+          (sym (c .before .is-open .ensures) ∙ not-true _ (c .if1 .taken));
+    }
 
 put-words-requires : tie.Need-put-words-requires
 put-words-requires c κs =
@@ -67,7 +67,10 @@ returns-2 c =
     let p = start .pre in
     let o = sym (c .before .before .before .is-open .ensures) ∙ not-false _ (c .before .before .if1 .left) in
     let r = room-on (now (a .stack)) (a .used) (a .descendant) (a .ancestor) (p .0) (p .1) (p .2) o in
-    (r, opened-on (now (a .stack)) (a .used) (a .descendant) (a .ancestor) _ (omega arith) (omega (arith, c .before .put-words-arg .given)) (c .put-words .ensures) o)
+    record {
+      fits = r;
+      stack = opened-on (now (a .stack)) (a .used) (a .descendant) (a .ancestor) _ (omega arith) (omega (arith, c .before .put-words-arg .given)) (c .put-words .ensures) o;
+    }
 
 pub open-next-spec : {M : Type 1} → statement M
 open-next-spec =

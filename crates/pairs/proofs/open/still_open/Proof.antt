@@ -52,12 +52,12 @@ is-open-requires c κs = search needs
 returns : tie.Need-returns Inv-loop μ-loop
 returns c =
     let a = c .before .before .before .before .before .before .args in
-    let l = c .before .before .before .before .before .loop in (
-      l .inv .0,
-      l .inv .1,
-      top-open (now (a .stack)) _ (a .node) _ (omega arith) (l .inv .0 .0) (c .before .before .node-from .ensures)
-          (sym (c .before .is-open .ensures) ∙ c .if1 .taken) ∙ l .inv .2,
-    )
+    let l = c .before .before .before .before .before .loop in record {
+      fits = l .inv .0;
+      fewer = l .inv .1;
+      left = top-open (now (a .stack)) _ (a .node) _ (omega arith) (l .inv .0 .0) (c .before .before .node-from .ensures)
+          (sym (c .before .is-open .ensures) ∙ c .if1 .taken) ∙ l .inv .2;
+    }
 
 sub-left : tie.Need-sub-left Inv-loop μ-loop
 sub-left c = search needs
@@ -79,7 +79,7 @@ returns-2 : tie.Need-returns-2 Inv-loop μ-loop
 returns-2 c =
     let a = c .before .before .args in
     let l = c .before .loop in
-    (l .inv .0, l .inv .1, head-none _ (now (a .stack)) (a .node) (omega arith) ∙ l .inv .2)
+    record { fits = l .inv .0; fewer = l .inv .1; left = head-none _ (now (a .stack)) (a .node) (omega arith) ∙ l .inv .2 }
 
 pub still-open-spec : {M : Type 1} → statement M
 still-open-spec =

@@ -18,7 +18,7 @@ next-page-requires c κs = search needs
 mul-words : tie.Need-mul-words
 mul-words c =
     let a = c .before .before .before .before .before .before .before .before .before .args in
-    let few = page-few (now (a .ancestors)) (now (a .descendants)) (a .ticket) (now (a .out)) _ (c .before .before .before .next-page .ensures .0) in
+    let few = page-few (now (a .ancestors)) (now (a .descendants)) (a .ticket) (now (a .out)) _ (c .before .before .before .next-page .ensures .answer) in
     search needs
 
 sub-put-lines : tie.Need-sub-put-lines
@@ -30,7 +30,7 @@ part-put-lines-start c = search needs
 part-put-lines-end : tie.Need-part-put-lines-end
 part-put-lines-end c =
     let a = c .before .before .before .before .before .before .before .before .before .before .args in
-    let few = page-few (now (a .ancestors)) (now (a .descendants)) (a .ticket) (now (a .out)) _ (c .before .before .before .before .next-page .ensures .0) in
+    let few = page-few (now (a .ancestors)) (now (a .descendants)) (a .ticket) (now (a .out)) _ (c .before .before .before .before .next-page .ensures .answer) in
     search needs
 
 put-lines-requires : tie.Need-put-lines-requires
@@ -47,8 +47,8 @@ returns c =
     let called = c .before .before .before .before .before .before .before .before .before in
     let a = called .before .before .before .before .before .before .args in
     let made = called .next-page .ensures in
-    lines-made (now (a .ancestors)) (now (a .descendants)) (a .ticket) (now (a .out)) _ (made .0) _ (made .1)
-    (PAIR-WORDS * called .next-page .result .count - 0) (omega arith) (now (a .text)) _ _ (omega arith) (c .before .before .put-lines .ensures .0) (c .before .before .put-lines .ensures .1)
+    lines-made (now (a .ancestors)) (now (a .descendants)) (a .ticket) (now (a .out)) _ (made .answer) _ (made .output)
+    (PAIR-WORDS * called .next-page .result .count - 0) (omega arith) (now (a .text)) _ _ (omega arith) (c .before .before .put-lines .ensures .length) (c .before .before .put-lines .ensures .text)
 
 pub make-lines-spec : {M : Type 1} → statement M
 make-lines-spec =

@@ -45,8 +45,8 @@ same-length-2 c = search needs
 returns : tie.Need-returns Inv-loop μ-loop
 returns c =
     let called = c .before .before .before .before .before .before .before .before .before in
-    let made = called .make-lines .ensures .0 in
-    (c .stopped .ensures .0 ∙ page-answer _ _ _ _ _ made, λ w. absurd (never w (c .stopped .ensures .1)))
+    let made = called .make-lines .ensures .page in
+    record { answer = c .stopped .ensures .answer ∙ page-answer _ _ _ _ _ made; count = λ w. absurd (never w (c .stopped .ensures .whole)) }
 
 part-of-requires : tie.Need-part-of-requires Inv-loop μ-loop
 part-of-requires c κs = search needs
@@ -66,13 +66,16 @@ same-length-4 c = search needs
 returns-2 : tie.Need-returns-2 Inv-loop μ-loop
 returns-2 c =
     let called = c .before .before .before .before .before .before .before .before .before .before .before .before .before in
-    let made = called .make-lines .ensures .0 in
-    (c .stopped2 .ensures .0 ∙ sym (c .before .before .before .before .before .if1 .left) ∙ page-answer _ _ _ _ _ made, λ w. absurd (never w (c .stopped2 .ensures .1)))
+    let made = called .make-lines .ensures .page in
+    record {
+      answer = c .stopped2 .ensures .answer ∙ sym (c .before .before .before .before .before .if1 .left) ∙ page-answer _ _ _ _ _ made;
+      count = λ w. absurd (never w (c .stopped2 .ensures .whole));
+    }
 
 add-count : tie.Need-add-count Inv-loop μ-loop
 add-count c =
     let called = c .before .before .before .before .before .before .before .before .before .before .before .before in
-    let made = called .make-lines .ensures .0 in
+    let made = called .make-lines .ensures .page in
     let at = called .before .before .before .loop in
     let a = called .before .before .before .before .before .before .before .before .before .args in
     let taken = sym (page-answer _ _ _ _ _ made) ∙ c .before .before .before .before .if1 .left in
@@ -88,16 +91,19 @@ same-length-6 c = search needs
 returns-3 : tie.Need-returns-3 Inv-loop μ-loop
 returns-3 c =
     let called = c .before .before .before .before .before .before .before .before .before .before .before .before .before in
-    let made = called .make-lines .ensures .0 in
+    let made = called .make-lines .ensures .page in
     let at = called .before .before .before .loop in
     let a = called .before .before .before .before .before .before .before .before .before .args in
     let taken = sym (page-answer _ _ _ _ _ made) ∙ c .before .before .before .before .before .if1 .left in
-    (sym taken, λ w. counted-all (now (a .ancestors)) (now (a .descendants)) (at .ticket) (at .count) (at .inv .2) (at .out) _ made taken (c .if3 .taken))
+    record {
+      answer = sym taken;
+      count = λ w. counted-all (now (a .ancestors)) (now (a .descendants)) (at .ticket) (at .count) (at .inv .2) (at .out) _ made taken (c .if3 .taken);
+    }
 
 loop-less : tie.Need-loop-less Inv-loop μ-loop
 loop-less c =
     let called = c .before .before .before .before .before .before .before .before .before .before .before .before .before .before in
-    let made = called .make-lines .ensures .0 in
+    let made = called .make-lines .ensures .page in
     let at = called .before .before .before .loop in
     let a = called .before .before .before .before .before .before .before .before .before .args in
     let taken = sym (page-answer _ _ _ _ _ made) ∙ c .before .before .before .before .before .before .if1 .left in
@@ -106,7 +112,7 @@ loop-less c =
 loop-again : tie.Need-loop-again Inv-loop μ-loop
 loop-again c =
     let called = c .before .before .before .before .before .before .before .before .before .before .before .before .before .before in
-    let made = called .make-lines .ensures .0 in
+    let made = called .make-lines .ensures .page in
     let at = called .before .before .before .loop in
     let a = called .before .before .before .before .before .before .before .before .before .args in
     let taken = sym (page-answer _ _ _ _ _ made) ∙ c .before .before .before .before .before .before .if1 .left in

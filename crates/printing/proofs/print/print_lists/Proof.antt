@@ -40,7 +40,7 @@ part-print-pages-end c =
     let e = t .before .before .before in
     let a = e .before .before .before in
     let f = lengths-fit (now (a .args .book)) (a .args .lists) (a .pre) _ _ (e .before .entry-at .ensures) (e .entry-at2 .ensures)
-    _ _ (omega arith) (omega arith) _ (t .copy-lists .ensures .0) in
+    _ _ (omega arith) (omega arith) _ (t .copy-lists .ensures .answer) in
     omega (arith, f .0)
 
 sub-print-pages-2 : tie.Need-sub-print-pages-2
@@ -55,7 +55,7 @@ part-print-pages-end-2 c =
     let e = t .before .before .before in
     let a = e .before .before .before in
     let f = lengths-fit (now (a .args .book)) (a .args .lists) (a .pre) _ _ (e .before .entry-at .ensures) (e .entry-at2 .ensures)
-    _ _ (omega arith) (omega arith) _ (t .copy-lists .ensures .0) in
+    _ _ (omega arith) (omega arith) _ (t .copy-lists .ensures .answer) in
     omega (arith, f .1)
 
 print-pages-requires : tie.Need-print-pages-requires
@@ -67,7 +67,7 @@ returns c =
     let e = t .before .before .before in
     let a = e .before .before .before in
     let own = own-lists (now (a .args .book)) (a .args .lists) (a .pre) _ _ (e .before .entry-at .ensures) (e .entry-at2 .ensures)
-    _ _ (omega arith) (omega arith) _ (t .copy-lists .ensures .0) _ _ (t .copy-lists .ensures .1) (t .copy-lists .ensures .2)
+    _ _ (omega arith) (omega arith) _ (t .copy-lists .ensures .answer) _ _ (t .copy-lists .ensures .first-output) (t .copy-lists .ensures .second-output)
     (t .copy-lists .result .ancestors - 0) (t .copy-lists .result .descendants - 0) (omega arith) (omega arith) in
     c .print-pages .ensures ∙ λ i. checkTwo (own .0 i) (own .1 i) .answer
 

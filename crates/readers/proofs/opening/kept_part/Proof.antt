@@ -35,10 +35,10 @@ slice-aggregate-result : tie.Need-slice-aggregate-result
 slice-aggregate-result c = search needs
 
 returns : tie.Need-returns
-returns c = (refused _ _ (c .before .before .before .before .check-book .ensures) (c .before .if1 .taken), refl)
+returns c = record { contents = refused _ _ (c .before .before .before .before .check-book .ensures) (c .before .if1 .taken); place = refl }
 
 returns-2 : tie.Need-returns-2
-returns-2 c = (accepted _ _ (c .before .before .before .check-book .ensures) (omega arith), refl)
+returns-2 c = record { contents = accepted _ _ (c .before .before .before .check-book .ensures) (omega arith); place = refl }
 
 pub kept-part-spec : {M : Type 1} → statement M
 kept-part-spec = tie.close (tie.spec check-book-requires slice-aggregate-result returns returns-2)

@@ -79,7 +79,10 @@ module _ {M : Type 1} (𝓤 : URA M) (H : Heap 𝓤) (A : Atoms 𝓤) (W : Given
 
   -- what the contract says of the part returned: its bytes, and where they lie
   abbrev Wanted : RefT (List ℕ) → Type 0
-  Wanted s = (now s ≡ tagBody (now (d .book)) (d .lists) n) × (ptr s ≡ tagPlace (ptr (d .book)) (now (d .book)) (d .lists) n)
+  Wanted s = record {
+    contents : now s ≡ tagBody (now (d .book)) (d .lists) n;
+    place : ptr s ≡ tagPlace (ptr (d .book)) (now (d .book)) (d .lists) n;
+  }
 
   abbrev Post : Val → SProp 𝓤
   Post = walkOf 𝓤 H A body.ended stayed (body.clauses 𝓤 H A mem run) .post (((κ, tt), (q, tt), tt, (d, (n, tt)), at), tt)

@@ -115,7 +115,11 @@ module _ {M : Type 1} (𝓤 : URA M) (H : Heap 𝓤) (A : Atoms 𝓤) (W : Given
       (qed W ((‵ (flft κ q) ⊛ ‵ ftrue) ∷ ‵ (owns (Slice ∷ []) (bytes, tt) (v ∷ [], tt)) ∷ []) ∵ join ! $ frame ! $ done !) $ frame ! $ done !
 
   abbrev Opened : Reader → Type 0
-  Opened r = (now (r .book) ≡ keptOf (now bytes)) × (ptr (r .book) ≡ ptr bytes) × (r .lists ≡ keptLists (now bytes))
+  Opened r = record {
+    contents : now (r .book) ≡ keptOf (now bytes);
+    place : ptr (r .book) ≡ ptr bytes;
+    lists : r .lists ≡ keptLists (now bytes);
+  }
 
   opened : (r : Reader) → ent 𝓤 (ensured 𝓤 H A opening.ended (opening.clauses 𝓤 H A mem run) (κ, tt) (bytes, tt) tt r) (fact 𝓤 (Opened r))
   opened r = exE 𝓤 _ (λ ws. snd∗ 𝓤 (sem 𝓤 H A (lasts opening.ended (κ, tt) (bytes, tt) ws)) (fact 𝓤 (Opened r)))
@@ -132,13 +136,16 @@ module _ {M : Type 1} (𝓤 : URA M) (H : Heap 𝓤) (A : Atoms 𝓤) (W : Given
       move ! (1 ∷ 0 ∷ []) $ join ! $ frame ! $ done !
 
   abbrev Read : Reader → RefT (List ℕ) → Type 0
-  Read r t = (now t ≡ tagBody (now (r .book)) (r .lists) n) × (ptr t ≡ tagPlace (ptr (r .book)) (now (r .book)) (r .lists) n)
+  Read r t = record {
+    contents : now t ≡ tagBody (now (r .book)) (r .lists) n;
+    place : ptr t ≡ tagPlace (ptr (r .book)) (now (r .book)) (r .lists) n;
+  }
 
   body-said : (r : Reader) (t : RefT (List ℕ))
       → ent 𝓤 (ensured 𝓤 H A body.ended (body.clauses 𝓤 H A mem run) (κ, tt) (r, (n, tt)) tt t) (fact 𝓤 (Read r t))
   body-said r t = exE 𝓤 _ (λ ws. snd∗ 𝓤 (sem 𝓤 H A (lasts body.ended (κ, tt) (r, (n, tt)) ws)) (fact 𝓤 (Read r t)))
 
-  exits : (t : RefT (List ℕ)) (u : Val) → (now t ≡ keptBody (now bytes) n) × (ptr t ≡ keptPlace (ptr bytes) (now bytes) n)
+  exits : (t : RefT (List ℕ)) (u : Val) → record { contents : now t ≡ keptBody (now bytes) n; place : ptr t ≡ keptPlace (ptr bytes) (now bytes) n }
       → ent 𝓤 (⋆ 𝓤 H A (‵ (Slice .own t (u ∷ [])) ∷ (‵ (flft κ q) ⊛ ‵ ftrue) ∷ ‵ Own ∷ [])) (Post u)
   exits t u e =
       qed W (‵ (Slice .own t (u ∷ [])) ∷ (‵ (flft κ q) ⊛ ‵ ftrue) ∷ ‵ Own ∷ []) ∵
@@ -182,10 +189,10 @@ module _ {M : Type 1} (𝓤 : URA M) (H : Heap 𝓤) (A : Atoms 𝓤) (W : Given
         land ! (from ! (stop !)) (init ! 9 refl (shr-slice-lawful 𝓤 H A W (named 0) κ u8 .typed t (u′ ∷ []) is′ .0)) $
         returns ! (look ! 9 refl) $ forget ! 3 refl $ forget ! 5 refl $ forget ! 7 refl $ forget ! 9 refl $
         move ! (9 ∷ 10 ∷ []) $ free1 ! $ move ! (7 ∷ 8 ∷ []) $ free1 ! $ move ! (5 ∷ 6 ∷ []) $ free1 ! $ move ! (3 ∷ 4 ∷ []) $ free1 ! $ free0 ! $
-        by ! (exits t u′ (
-          e′ .0 ∙ body-kept (now (r .book)) (now bytes) (r .lists) n (e .0) (e .2),
-          e′ .1 ∙ place-kept (now (r .book)) (now bytes) (r .lists) n (e .0) (e .2) (ptr (r .book)) (ptr bytes) (e .1),
-        ))))))))))))))
+        by ! (exits t u′ (record {
+          contents = e′ .contents ∙ body-kept (now (r .book)) (now bytes) (r .lists) n (e .contents) (e .lists);
+          place = e′ .place ∙ place-kept (now (r .book)) (now bytes) (r .lists) n (e .contents) (e .lists) (ptr (r .book)) (ptr bytes) (e .place);
+        }))))))))))))))
 
 module _ {M : Type 1} (𝓤 : URA M) (H : Heap 𝓤) (A : Atoms 𝓤) (W : Given 𝓤 H A) (mem : Memory → SProp 𝓤) (run : Routine → Fun 𝓤) where
   body-in-walks : (C : Calls 𝓤 H) (Λ : Loops 𝓤 H) → FmC 𝓤 H (W .laws) C → Triple 𝓤 (C #readers·reader·open) (Opening 𝓤 H A mem run)

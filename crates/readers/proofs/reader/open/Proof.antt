@@ -108,7 +108,7 @@ module _ {M : Type 1} (𝓤 : URA M) (H : Heap 𝓤) (A : Atoms 𝓤) (W : Given
       (qed W ((‵ (flft κ q) ⊛ ‵ ftrue) ∷ ‵ (owns (Slice ∷ []) (bytes, tt) (v ∷ [], tt)) ∷ []) ∵ join ! $ frame ! $ done !) $ frame ! $ done !
 
   abbrev Kept : RefT (List ℕ) → Type 0
-  Kept s = (now s ≡ keptOf (now bytes)) × (ptr s ≡ ptr bytes)
+  Kept s = record { contents : now s ≡ keptOf (now bytes); place : ptr s ≡ ptr bytes }
 
   kept : (s : RefT (List ℕ)) → ent 𝓤 (ensured 𝓤 H A keeping.ended (keeping.clauses 𝓤 H A mem run) (κ, tt) (bytes, tt) tt s) (fact 𝓤 (Kept s))
   kept s = exE 𝓤 _ (λ ws. snd∗ 𝓤 (sem 𝓤 H A (lasts keeping.ended (κ, tt) (bytes, tt) ws)) (fact 𝓤 (Kept s)))
@@ -146,7 +146,7 @@ module _ {M : Type 1} (𝓤 : URA M) (H : Heap 𝓤) (A : Atoms 𝓤) (W : Given
       nothing ! $ move ! (1 ∷ 0 ∷ []) $ fjoin ! $ move ! (2 ∷ 0 ∷ []) $ fjoin ! $ move ! (1 ∷ 0 ∷ []) $ join ! $ frame ! $ done !
 
   abbrev Made : RefT (List ℕ) → ℕ → Reader → Type 0
-  Made s n r = (r .book ≡ s) × (r .lists ≡ n)
+  Made s n r = record { book : r .book ≡ s; lists : r .lists ≡ n }
 
   made : (s : RefT (List ℕ)) (n : ℕ) (r : Reader)
       → ent 𝓤 (ensured 𝓤 H A over.ended (over.clauses 𝓤 H A mem run) (κ, tt) (s, (n, tt)) tt r) (fact 𝓤 (Made s n r))
@@ -158,7 +158,7 @@ module _ {M : Type 1} (𝓤 : URA M) (H : Heap 𝓤) (A : Atoms 𝓤) (W : Given
       qed W (‵ (B (κ, tt) .own r (u ∷ [])) ∷ (‵ (flft κ q) ⊛ ‵ ftrue) ∷ ‵ Own ∷ []) ∵
       suffices ! _ (ends-at 𝓤 H A opening.ended stayed (opening.clauses 𝓤 H A mem run) W
       (((κ, tt), (q, tt), tt, (bytes, tt), (v ∷ [], tt)), tt) u r (tt, tt) (tt, tt)) $
-      says ! (e, at, e′) $ move ! (1 ∷ []) $ frame ! $ nothing ! $ move ! (2 ∷ 0 ∷ []) $ fjoin ! $ frame ! $ done !
+      says ! (record { contents = e; place = at; lists = e′ }) $ move ! (1 ∷ []) $ frame ! $ nothing ! $ move ! (2 ∷ 0 ∷ []) $ fjoin ! $ frame ! $ done !
 
   module _ (C : Calls 𝓤 H) (Λ : Loops 𝓤 H) (fm : FmC 𝓤 H (W .laws) C)
       (known-keep : Triple 𝓤 (C #readers·opening·kept-part) (Keeping 𝓤 H A mem run))
@@ -206,7 +206,7 @@ module _ {M : Type 1} (𝓤 : URA M) (H : Heap 𝓤) (A : Atoms 𝓤) (W : Given
         land ! (from ! (stop !)) (init ! 9 refl (LL.lawful (D (κ, tt)) (L (κ, tt)) 𝓤 H A W .typed r _ is″ .0)) $
         returns ! (look ! 9 refl) $ forget ! 3 refl $ forget ! 5 refl $ forget ! 7 refl $ forget ! 9 refl $
         move ! (9 ∷ 10 ∷ []) $ free1 ! $ move ! (7 ∷ 8 ∷ []) $ free1 ! $ move ! (5 ∷ 6 ∷ []) $ free1 ! $ move ! (3 ∷ 4 ∷ []) $ free1 ! $ free0 ! $
-        by ! (exits r u′ (ap now (m .0) ∙ e .0) (ap ptr (m .0) ∙ e .1) (m .1 ∙ lists-kept (now s) (now bytes) n (e .0) e′))))))))))))))))))
+        by ! (exits r u′ (ap now (m .book) ∙ e .contents) (ap ptr (m .book) ∙ e .place) (m .lists ∙ lists-kept (now s) (now bytes) n (e .contents) e′))))))))))))))))))
 
 module _ {M : Type 1} (𝓤 : URA M) (H : Heap 𝓤) (A : Atoms 𝓤) (W : Given 𝓤 H A) (mem : Memory → SProp 𝓤) (run : Routine → Fun 𝓤) where
   open-walks : (C : Calls 𝓤 H) (Λ : Loops 𝓤 H) → FmC 𝓤 H (W .laws) C → Triple 𝓤 (C #readers·opening·kept-part) (Keeping 𝓤 H A mem run)

@@ -28,23 +28,23 @@ module _ (xs ys : List ℕ) (v : Verdict) (q : v ≡ checkTwo xs ys) (a d : ℕ 
 
   -- what is returned is the faulty part, and lies where that lies
   abbrev Right : List ℕ → ℕ × ℕ → Type 0
-  Right words place = (words ≡ faultyPart xs ys) × (place ≡ faultyPlace a d xs ys)
+  Right words at = record { contents : words ≡ faultyPart xs ys; place : at ≡ faultyPlace a d xs ys }
 
   outside : (v .answer < LEVEL) ⊎ ((LEVEL ≤ v .answer) × (DEPTH < v .answer)) → Right [] a
   unfolding showsb partAt placeAt
-  outside (inl h) = rw (← shown .0, ← shown .1, lt-leb LEVEL (v .answer) h) (refl, refl)
-  outside (inr (l, h)) = rw (← shown .0, ← shown .1, le-leb LEVEL (v .answer) l, lt-leb (v .answer) DEPTH h) (refl, refl)
+  outside (inl h) = rw (← shown .0, ← shown .1, lt-leb LEVEL (v .answer) h) (record { contents = refl; place = refl })
+  outside (inr (l, h)) = rw (← shown .0, ← shown .1, le-leb LEVEL (v .answer) l, lt-leb (v .answer) DEPTH h) (record { contents = refl; place = refl })
 
   module _ (low : LEVEL ≤ v .answer) (high : v .answer ≤ DEPTH) where
     in-second : v .list ≡ DESCENDANTS → Right (drop (NODE-WORDS * v .index) ys) (placeFrom d ys (v .index))
     unfolding showsb partAt placeAt
     in-second h =
-        rw (← shown .0, ← shown .1, le-leb LEVEL (v .answer) low, le-leb (v .answer) DEPTH high, eq-eqb (v .list) DESCENDANTS h) (refl, refl)
+        rw (← shown .0, ← shown .1, le-leb LEVEL (v .answer) low, le-leb (v .answer) DEPTH high, eq-eqb (v .list) DESCENDANTS h) (record { contents = refl; place = refl })
 
     in-first : (v .list ≡ DESCENDANTS → ⊥) → Right (drop (NODE-WORDS * v .index) xs) (placeFrom a xs (v .index))
     unfolding showsb partAt placeAt
     in-first h =
-        rw (← shown .0, ← shown .1, le-leb LEVEL (v .answer) low, le-leb (v .answer) DEPTH high, ne-eqb (v .list) DESCENDANTS h) (refl, refl)
+        rw (← shown .0, ← shown .1, le-leb LEVEL (v .answer) low, le-leb (v .answer) DEPTH high, ne-eqb (v .list) DESCENDANTS h) (record { contents = refl; place = refl })
 
 check-two-requires : tie.Need-check-two-requires
 check-two-requires c κs = search needs
@@ -71,7 +71,7 @@ returns-2 c =
     let a = checked .before .before .before .args in
     let e = in-second (now (a .ancestors)) (now (a .descendants)) _ (checked .check-two .ensures) (a .ancestors .ptr) (a .descendants .ptr)
     (omega arith) (ltb-false DEPTH _ (c .before .before .before .if2 .left)) (omega arith) in
-    (c .part-from .ensures .0 ∙ e .0, c .part-from .ensures .1 ∙ e .1)
+    record { contents = c .part-from .ensures .contents ∙ e .contents; place = c .part-from .ensures .place ∙ e .place }
 
 part-from-requires-2 : tie.Need-part-from-requires-2
 part-from-requires-2 c κs = search needs
@@ -82,7 +82,7 @@ returns-3 c =
     let a = checked .before .before .before .args in
     let e = in-first (now (a .ancestors)) (now (a .descendants)) _ (checked .check-two .ensures) (a .ancestors .ptr) (a .descendants .ptr)
     (omega arith) (ltb-false DEPTH _ (c .before .before .before .if2 .left)) (omega arith) in
-    (c .part-from2 .ensures .0 ∙ e .0, c .part-from2 .ensures .1 ∙ e .1)
+    record { contents = c .part-from2 .ensures .contents ∙ e .contents; place = c .part-from2 .ensures .place ∙ e .place }
 
 pub faulty-part-spec : {M : Type 1} → statement M
 faulty-part-spec =

@@ -41,7 +41,10 @@ slice-aggregate-result c = search needs
 returns : tie.Need-returns
 returns c =
     let a = c .before .before .before .before .args in
-    (behind (now (a .words)) (a .index) (omega arith), at-front (a .words .ptr) (now (a .words)) (a .index) (omega arith))
+    record {
+      contents = behind (now (a .words)) (a .index) (omega arith);
+      place = at-front (a .words .ptr) (now (a .words)) (a .index) (omega arith);
+    }
 
 mul-result : tie.Need-mul-result
 mul-result c = search needs
@@ -61,7 +64,10 @@ part-result-end c = search needs
 returns-2 : tie.Need-returns-2
 returns-2 c =
     let a = c .before .before .before .before .args in
-    (rest (now (a .words)) (a .index), at-node (a .words .ptr) (now (a .words)) (a .index) _ (omega arith) (omega arith))
+    record {
+      contents = rest (now (a .words)) (a .index);
+      place = at-node (a .words .ptr) (now (a .words)) (a .index) _ (omega arith) (omega arith);
+    }
 
 pub part-from-spec : {M : Type 1} → statement M
 part-from-spec =

@@ -33,11 +33,13 @@ use Rattle.writing.proofs.write.write_book.Statement.{statement}
 use Rattle.writing.proofs.write.write_book.Tie as tie
 
 module _ (entries list : List ℕ) (v : Verdict) (q : v ≡ checkWanted entries list) where
-  refused : (out : List ℕ) → (v .answer ≡ TAKEN → ⊥)
-      → _≡_ {A = Counted} (record { verdict = v; count = 0 }) (writtenOf entries list out) × (out ≡ writtenOutput entries list out)
+  abbrev Answers : List ℕ → Counted → List ℕ → Type 0
+  Answers out r after = record { answer : r ≡ writtenOf entries list out; output : after ≡ writtenOutput entries list out }
+
+  refused : (out : List ℕ) → (v .answer ≡ TAKEN → ⊥) → Answers out (counted v 0) out
   refused out h =
       let r = write-refused entries list out (λ e. h (ap (λ u. u .answer) q ∙ e)) in
-      (ap (λ u. record { verdict = u; count = 0 }) q ∙ sym (r .0), sym (r .1))
+      record { answer = ap (λ u. counted u 0) q ∙ sym (r .0); output = sym (r .1) }
 
   module _ (t : v .answer ≡ TAKEN) where
     was-taken : checkWanted entries list .answer ≡ TAKEN
@@ -60,10 +62,10 @@ module _ (entries list : List ℕ) (v : Verdict) (q : v ≡ checkWanted entries 
         size-written (wanted entries) (nodes list) ∙ omega arith
 
     no-room : (out : List ℕ) (size : ℕ) (r : Counted) → length (bytesFor entries list) ≡ size → length out < size
-        → r ≡ counted (verdict ROOM ANCESTORS 0) 0 → (r ≡ writtenOf entries list out) × (out ≡ writtenOutput entries list out)
+        → r ≡ counted (verdict ROOM ANCESTORS 0) 0 → Answers out r out
     no-room out size r s h e =
         let w = write-room entries list out was-taken (omega arith) in
-        (e ∙ sym (w .0), sym (w .1))
+        record { answer = e ∙ sym (w .0); output = sym (w .1) }
 
     -- the nodes after the contents make the book
     book-made : (out front last : List ℕ) (lists : ℕ) → lists ≡ length entries / WANTED-WORDS → length (bytesFor entries list) ≤ length out
@@ -85,10 +87,10 @@ module _ (entries list : List ℕ) (v : Verdict) (q : v ≡ checkWanted entries 
         ∙ ap (λ bs. written bs out) (sym b)
 
     done : (out last : List ℕ) (size : ℕ) (r : Counted) → length (bytesFor entries list) ≡ size → size ≤ length out → r ≡ counted taken size
-        → last ≡ written (bytesFor entries list) out → (r ≡ writtenOf entries list out) × (last ≡ writtenOutput entries list out)
+        → last ≡ written (bytesFor entries list) out → Answers out r last
     done out last size r s h c e =
         let w = write-taken entries list out was-taken (omega arith) in
-        (c ∙ (λ k. counted taken (sym s k)) ∙ sym (w .0), e ∙ sym (w .1))
+        record { answer = c ∙ (λ k. counted taken (sym s k)) ∙ sym (w .0); output = e ∙ sym (w .1) }
 
 check-wanted-requires : tie.Need-check-wanted-requires
 check-wanted-requires c κs = search needs
