@@ -37,7 +37,7 @@
  * - Nobody else writes what a call is lent before it returns, neither a thread nor a signal
  *   handler.
  * - There is enough stack. What a call takes has a bound, a few thousand bytes: docs/SPEED.md of
- * the repository gives it.
+ *   the repository gives it.
  */
 #ifndef BELFRYCHEST_H
 #define BELFRYCHEST_H
