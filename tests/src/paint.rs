@@ -37,10 +37,10 @@ pub fn hold<T: Word, A: Debug + PartialEq>(
             "given and expected words, room {}: {question:?}",
             out.len()
         );
-        let behind = &out[words.len()..];
+        let after = &out[words.len()..];
         assert!(
-            behind.iter().all(|&word| word == coat),
-            "altered behind {} words, room {}: {out:?} {question:?}",
+            after.iter().all(|&word| word == coat),
+            "altered after {} words, room {}: {out:?} {question:?}",
             words.len(),
             out.len()
         );

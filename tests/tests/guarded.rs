@@ -41,7 +41,7 @@ fn right_before_a_guard() {
 }
 
 #[test]
-fn right_behind_a_guard() {
+fn right_after_a_guard() {
     hold(Ground::AfterGuard, 2 * SEEDS);
 }
 
@@ -57,17 +57,17 @@ fn beside(buffer: &Lent<u8>, places: isize) -> &[u8] {
 fn guards_guard() {
     let (mut near, mut far) = UnixStream::pair().expect("a pair of sockets");
     let before = Ground::BeforeGuard.lend(&[1_u8, 2, 3]);
-    let mut behind = Ground::AfterGuard.lend(&[1_u8, 2, 3]);
+    let mut after = Ground::AfterGuard.lend(&[1_u8, 2, 3]);
     assert_eq!(near.write(&before).expect("three bytes are sent"), 3);
     assert_eq!(
         near.write(beside(&before, 3)).expect_err("a guard is read").raw_os_error(),
         BAD_ADDRESS
     );
     assert_eq!(
-        near.write(beside(&behind, -1)).expect_err("a guard is read").raw_os_error(),
+        near.write(beside(&after, -1)).expect_err("a guard is read").raw_os_error(),
         BAD_ADDRESS
     );
-    assert_eq!(far.read(&mut behind).expect_err("an input is written").raw_os_error(), BAD_ADDRESS);
+    assert_eq!(far.read(&mut after).expect_err("an input is written").raw_os_error(), BAD_ADDRESS);
     let mut out = Ground::BeforeGuard.room(3);
     assert_eq!(far.read(&mut out).expect("three bytes are received"), 3);
     assert_eq!(out[..], [1, 2, 3]);

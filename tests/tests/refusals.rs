@@ -43,7 +43,7 @@ const ANYWHERE: [Fault; 5] = [
 ];
 
 /// The faults that a node can have that isn't the first.
-const BEHIND_THE_FIRST: [Fault; 7] = [
+const AFTER_THE_FIRST: [Fault; 7] = [
     (Order, |list, index| list[index].start = list[index - 1].start),
     (Order, |list, index| list[index].document = list[index - 1].document - 1),
     (Cross, |list, index| list[index].end = list[0].end),
@@ -59,7 +59,7 @@ const BEHIND_THE_FIRST: [Fault; 7] = [
 /// Runs the test on each list of `count` nodes that has a fault at this index, with the fault's
 /// answer.
 fn each_fault(count: usize, index: usize, test: impl Fn(&[Node], Answer)) {
-    let faults = ANYWHERE.iter().chain(BEHIND_THE_FIRST.iter().filter(|_| index > 0));
+    let faults = ANYWHERE.iter().chain(AFTER_THE_FIRST.iter().filter(|_| index > 0));
     for (answer, put) in faults {
         let mut list = sound(count);
         put(&mut list, index);
