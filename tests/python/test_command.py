@@ -224,7 +224,7 @@ class Places(unittest.TestCase):
             "empty-input": 0, "seventeen-lists": 0, "tags-equal": 16, "tags-falling": 16,
             "first-offset-one-more": 8, "second-offset-one-less": 20,
             "second-offset-at-contents-end": 20, "count-one-more": 92, "count-greatest": 24,
-            "big-endian": 0, "byte-behind": 92, "node-behind": 92, "last-byte-missing": 91,
+            "big-endian": 0, "byte-after": 92, "node-after": 92, "last-byte-missing": 91,
             "contents-cut": 27, "three-bytes": 3, "count-4097": 12, "bytes-61441": 61440,
         })
 

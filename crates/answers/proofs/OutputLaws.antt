@@ -67,20 +67,20 @@ sets-written us out h =
     sets-eq us out 0 (omega arith) ∙ ap (λ k. us ++ drop k out) e
 
 -- storing words right after a front part
-pub sets-behind : (front rest vs : List ℕ) → length front + length vs ≤ length (front ++ rest)
+pub sets-beyond : (front rest vs : List ℕ) → length front + length vs ≤ length (front ++ rest)
     → sets (front ++ rest) (length front) vs ≡ front ++ vs ++ drop (length vs) rest
-sets-behind front rest vs h = rw (sets-eq vs (front ++ rest) (length front) h, take-append-seam front rest, drop-append-add front rest (length vs))
+sets-beyond front rest vs h = rw (sets-eq vs (front ++ rest) (length front) h, take-append-seam front rest, drop-append-add front rest (length vs))
 
 -- writing words after others is one writing of both
-pub written-behind : (us vs rest : List ℕ) → us ++ written vs (drop (length us) rest) ≡ written (us ++ vs) rest
+pub written-beyond : (us vs rest : List ℕ) → us ++ written vs (drop (length us) rest) ≡ written (us ++ vs) rest
 unfolding written
-written-behind us vs rest = rw (drop-drop (length vs) (length us) rest, length-append us vs) (sym (append-assoc us vs _))
+written-beyond us vs rest = rw (drop-drop (length vs) (length us) rest, length-append us vs) (sym (append-assoc us vs _))
 
 -- storing words after those already written lengthens what is written
 pub written-more : (us vs out : List ℕ) → length us + length vs ≤ length out → sets (written us out) (length us) vs ≡ written (us ++ vs) out
 unfolding written
 written-more us vs out h =
-    sets-behind us (drop (length us) out) vs (omega (arith, length-append us (drop (length us) out), length-drop (length us) out))
+    sets-beyond us (drop (length us) out) vs (omega (arith, length-append us (drop (length us) out), length-drop (length us) out))
     ∙ ap (λ rest. us ++ vs ++ rest) (drop-drop (length vs) (length us) out)
     ∙ ap (λ k. us ++ vs ++ drop k out) (sym (length-append us vs))
 
@@ -98,7 +98,7 @@ sets-before out at vs later h =
     ∙ ap (λ front. front ++ vs ++ written later (drop (at + length vs) out)) (take-take at (at + length vs) out (omega arith))
     ∙ ap (λ rest. take at out ++ vs ++ written later rest) (sym (drop-drop (length vs) at out))
     ∙ append-assoc (take at out) vs (written later (drop (length vs) (drop at out)))
-    ∙ ap (λ words. take at out ++ words) (written-behind vs later (drop at out))
+    ∙ ap (λ words. take at out ++ words) (written-beyond vs later (drop at out))
 
 -- what a call answers, by its fault and its room
 module _ (fault : ℕ) (result out : List ℕ) where

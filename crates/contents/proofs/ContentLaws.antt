@@ -84,9 +84,9 @@ module _ (book : List ℕ) where
       ((getD-drop 1 (numbers book) (3 * i + 1) 0 ∙ ap (λ at. getD (numbers book) at 0) second) k)
       ((getD-drop 1 (numbers book) (3 * i + 2) 0 ∙ ap (λ at. getD (numbers book) at 0) third) k)
 
-  pub entry-behind : (i : ℕ) → entryCount book ≤ i → entryAt book i ≡ entry 0 0 0
+  pub entry-beyond : (i : ℕ) → entryCount book ≤ i → entryAt book i ≡ entry 0 0 0
   unfolding entryAt
-  entry-behind i h = List·getD-eq-default (entriesIn book) (entry 0 0 0) (omega (arith, count-entries))
+  entry-beyond i h = List·getD-eq-default (entriesIn book) (entry 0 0 0) (omega (arith, count-entries))
 
   pub few-entries : (lists : ℕ) → length (take lists (entriesIn book)) ≤ lists
   few-entries lists = few-taken lists (entriesIn book) .0
@@ -215,19 +215,19 @@ walk-answers lists es size few r k =
     turned false = refl
 
 -- bodies that would begin after the book's end don't end with it
-laid-behind : (at : ℕ) (es : List Entry) (size : ℕ) → size < at → laidb at es size ≡ false
+laid-beyond : (at : ℕ) (es : List Entry) (size : ℕ) → size < at → laidb at es size ≡ false
 unfolding laidb
-laid-behind at [] size h = ne-eqb at size (λ e. omega arith)
-laid-behind at (e ∷ es) size h =
+laid-beyond at [] size h = ne-eqb at size (λ e. omega arith)
+laid-beyond at (e ∷ es) size h =
     elim (either (eqb (e .offset) at)) [
-      | inl k ↦ rw k (laid-behind (at + NODE-BYTES * e .count) es size (omega arith))
+      | inl k ↦ rw k (laid-beyond (at + NODE-BYTES * e .count) es size (omega arith))
       | inr k ↦ rw k refl
     ]
 
 laid-before : (at : ℕ) (es : List Entry) (size : ℕ) → laidb at es size ≡ true → at ≤ size
 laid-before at es size t =
     elim (either (ltb size at)) [
-      | inl h ↦ absurd (never t (laid-behind at es size (ltb-true _ _ h)))
+      | inl h ↦ absurd (never t (laid-beyond at es size (ltb-true _ _ h)))
       | inr h ↦ ltb-false _ _ h
     ]
 
@@ -249,7 +249,7 @@ unfolding brokenb
 short-broken lists es size h =
     or-right (ltb MOST-LISTS lists)
     (or-right (any (λ e. ltb MOST-NODES (e .count)) es)
-    (or-right (not (ascendb es)) (rw (laid-behind (contentsEnd lists) es size h))))
+    (or-right (not (ascendb es)) (rw (laid-beyond (contentsEnd lists) es size h))))
 
 pub many-broken : (lists : ℕ) (es : List Entry) (size : ℕ) → MOST-LISTS < lists → brokenb lists es size ≡ true
 unfolding brokenb

@@ -41,17 +41,17 @@ keep-first test (suc n) r f h =
     (elim (last-or-below (f .found h .0)) [
       | inl e ↦ let none = keep-none test (upTo n) (all-up _ n (λ j l. f .first j (omega arith) (λ z. omega arith))) in
           let one : keep test (n ∷ []) ≡ n ∷ [] = rw (ap test (sym e) ∙ f .found h .1) in
-          let behind = keep-none (λ m. ltb r m && test m) (upTo n) (all-up _ n (λ j l. rw (le-ltb r j (omega arith)))) in
+          let beyond = keep-none (λ m. ltb r m && test m) (upTo n) (all-up _ n (λ j l. rw (le-ltb r j (omega arith)))) in
           let last : keep (λ m. ltb r m && test m) (n ∷ []) ≡ [] = rw (le-ltb r n (omega arith)) in
-          (λ t. none t ++ one t) ∙ λ t. sym e t ∷ (sym behind t ++ sym last t)
+          (λ t. none t ++ one t) ∙ λ t. sym e t ∷ (sym beyond t ++ sym last t)
       | inr l ↦ let front = keep-first test n r (record { found = λ k. (l, f .found k .1); first = λ j k z. f .first j (omega arith) z }) h in
           let last : keep test (n ∷ []) ≡ keep (λ m. ltb r m && test m) (n ∷ []) = rw (lt-ltb r n l) in
           λ t. front t ++ last t
     ])
 
 -- of the numbers after `j`, all are at least `a`, where `a` is at most `j`
-behind : (a j m : ℕ) → a ≤ j → (b : Bool) → (ltb j m && b) ≡ (ltb j m && (leb a m && b))
-behind a j m l b =
+beyond : (a j m : ℕ) → a ≤ j → (b : Bool) → (ltb j m && b) ≡ (ltb j m && (leb a m && b))
+beyond a j m l b =
     elim (either (ltb j m)) [ inl h ↦ rw (h, le-leb a m (omega (arith, ltb-true j m h))) refl | inr h ↦ rw h refl ]
 
 module _ (ns : List Node) (short : length ns ≤ NONE) where
@@ -84,7 +84,7 @@ module _ (ns : List Node) (short : length ns ≤ NONE) where
             let next : nextOf ns j ≡ firstOf (λ m. ltb j m && test m) all =
             first-alike _ _ all (all-up _ (length ns) (λ m k. ap (λ t. ltb j m && t) (alike j m (f .found n .0) k (p .1)))) in
             let same : keep (λ m. ltb j m && test m) all ≡ keep (λ m. ltb j m && some m) all =
-            keep-alike _ _ all (all-up _ (length ns) (λ m k. behind a j m b (test m))) in
+            keep-alike _ _ all (all-up _ (length ns) (λ m k. beyond a j m b (test m))) in
             follow-step steps j n
             ∙ ap (λ xs. j ∷ xs) (ap (followed ns steps) next ∙ follow-from test alike steps (suc j) (omega arith) ∙ same)
             ∙ sym (keep-first some (length ns) j f n)

@@ -54,10 +54,10 @@ module _ (f : ℕ → Link) where
       ])
 
 -- a store after some words
-set-behind : (xs ys : List ℕ) (m c v : ℕ) → m ≡ length xs + c → set (xs ++ ys) m v ≡ xs ++ set ys c v
-set-behind [] ys m c v q = ap (λ k. set ys k v) (omega arith)
-set-behind (x ∷ xs) ys m c v q =
-    ap (λ k. set (x ∷ (xs ++ ys)) k v) (q ∙ suc-add (length xs) c) ∙ ap (λ zs. x ∷ zs) (set-behind xs ys (length xs + c) c v refl)
+set-beyond : (xs ys : List ℕ) (m c v : ℕ) → m ≡ length xs + c → set (xs ++ ys) m v ≡ xs ++ set ys c v
+set-beyond [] ys m c v q = ap (λ k. set ys k v) (omega arith)
+set-beyond (x ∷ xs) ys m c v q =
+    ap (λ k. set (x ∷ (xs ++ ys)) k v) (q ∙ suc-add (length xs) c) ∙ ap (λ zs. x ∷ zs) (set-beyond xs ys (length xs + c) c v refl)
 
 module _ (f g : ℕ → Link) where
   words-same : (k : ℕ) → ((j : ℕ) → j < k → g j ≡ f j) → words f k ≡ words g k
@@ -76,7 +76,7 @@ module _ (f g : ℕ → Link) where
       (elim (last-or-below l) [
         | inl q ↦ let at : set (linkWords (f k)) c v ≡ linkWords (g k) = rw q at s in
             let same = words-same k (λ j m. h j (omega arith) (λ z. omega arith)) in
-            set-behind (words f k) (linkWords (f k)) (3 * e + c) c v (omega arith) ∙ λ t. same t ++ at t
+            set-beyond (words f k) (linkWords (f k)) (3 * e + c) c v (omega arith) ∙ λ t. same t ++ at t
         | inr q ↦ let last = h k (omega arith) (λ z. omega arith) in
             let rest = words-set k e c v q b (λ j m. h j (omega arith)) s in
             set-append-left (words f k) (linkWords (f k)) (3 * e + c) v (omega arith) ∙ λ t. rest t ++ linkWords (sym last t)

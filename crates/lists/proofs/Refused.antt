@@ -37,13 +37,13 @@ module _ {e n : Node} where
   pair-in R h (here {x = x} {ns = ns} p m) = subst (λ z. R z n) (sym p) (all-in (R x) ns (h .0) m)
   pair-in R h (later b) = pair-in R (h .1) b
 
-  behind-in : {ns : List Node} → Follows e n ns → In n ns
-  behind-in (here p m) = List·Memᴰ·tail m
-  behind-in (later b) = List·Memᴰ·tail (behind-in b)
+  beyond-in : {ns : List Node} → Follows e n ns → In n ns
+  beyond-in (here p m) = List·Memᴰ·tail m
+  beyond-in (later b) = List·Memᴰ·tail (beyond-in b)
 
-  next-behind : {ns : List Node} → Neighbours e n ns → Follows e n ns
-  next-behind (next-here p q) = here p (List·Memᴰ·head q)
-  next-behind (next-later b) = later (next-behind b)
+  next-beyond : {ns : List Node} → Neighbours e n ns → Follows e n ns
+  next-beyond (next-here p q) = here p (List·Memᴰ·head q)
+  next-beyond (next-later b) = later (next-beyond b)
 
 level-read : (n : Node) → levelb n ≡ true → (n .level ≡ 0) ⊎ (MOST-LEVELS < n .level)
 unfolding levelb
@@ -61,12 +61,12 @@ module _ (words : List ℕ) where
   among P more [] ns q h = subst P q h
   among P more (x ∷ before) ns q h = among P more before (x ∷ ns) q (more x ns h)
 
-  behind : {e n : Node} (before ns : List Node) → reverseAux before ns ≡ nodes words → In e before → In n ns → Follows e n (nodes words)
-  behind [] ns q i j = absurd (List·Memᴰ·not-nil i)
-  behind {e} {n} (x ∷ before) ns q i j =
+  beyond : {e n : Node} (before ns : List Node) → reverseAux before ns ≡ nodes words → In e before → In n ns → Follows e n (nodes words)
+  beyond [] ns q i j = absurd (List·Memᴰ·not-nil i)
+  beyond {e} {n} (x ∷ before) ns q i j =
       elim (List·Memᴰ·cases-cons i) [
         | inl p ↦ among (Follows e n) (λ y ms b. later b) before (x ∷ ns) q (here p j)
-        | inr k ↦ behind before (x ∷ ns) q k (List·Memᴰ·tail j)
+        | inr k ↦ beyond before (x ∷ ns) q k (List·Memᴰ·tail j)
       ]
 
   module _ (n : Node) (ns : List Node) where
@@ -82,13 +82,13 @@ module _ (words : List ℕ) where
       cross-found h =
           any-some (crosses n) before h (λ e m t. let p = and-read (openb n e) t in
           let o = open-read n e (p .0) in
-          cross e n (behind before (n ∷ ns) q m (List·Memᴰ·head refl)) (o .document) (o .reaches) (not-read (insideb n e) (p .1)))
+          cross e n (beyond before (n ∷ ns) q m (List·Memᴰ·head refl)) (o .document) (o .reaches) (not-read (insideb n e) (p .1)))
 
       depth-found : depthb before n ≡ true → Faulty words
       unfolding depthb
       depth-found h =
           any-some (rises n) before h (λ e m t. let p = and-read (insideb n e) t in
-          depth e n (behind before (n ∷ ns) q m (List·Memᴰ·head refl)) (p .0) (ltb-false _ _ (not-read (ltb (e .level) (n .level)) (p .1))))
+          depth e n (beyond before (n ∷ ns) q m (List·Memᴰ·head refl)) (p .0) (ltb-false _ _ (not-read (ltb (e .level) (n .level)) (p .1))))
 
       fault-found : (fault before n ≡ TAKEN → ⊥) → Faulty words
       unfolding fault
@@ -139,18 +139,18 @@ module _ (words : List ℕ) where
     fine b = pair-in Fine (words-taken-iff words .0 t .3) b
 
     settled : (e n : Node) → Follows e n (nodes words) → e .document ≡ n .document → (e .end < n .start) ⊎ (nestedb n e ≡ true)
-    settled e n b d = fine-settles n e (sound (behind-in b) .span) (fine b) d
+    settled e n b d = fine-settles n e (sound (beyond-in b) .span) (fine b) d
 
     unfaulty : Faulty words → ⊥
     unfaulty (ragged f) = f (words-taken-iff words .0 t .0)
     unfaulty (long l) = let c = words-taken-iff words .0 t .1 in omega arith
     unfaulty (level n m l) = let s = sound m in ⊎-elim (λ p. omega arith) (λ p. omega arith) l
     unfaulty (span n m l) = let s = sound m in omega arith
-    unfaulty (order e n b a) = never (fine (next-behind b) .after) a
+    unfaulty (order e n b a) = never (fine (next-beyond b) .after) a
     unfaulty (cross e n b d r i) = ⊎-elim (λ p. omega arith) (λ p. never (nested-read n e p .0) i) (settled e n b d)
     unfaulty (depth e n b i l) =
         let w = within n e i in
-        let s = sound (behind-in b) in
+        let s = sound (beyond-in b) in
         ⊎-elim (λ p. omega arith) (λ p. omega (arith, nested-read n e p)) (settled e n b (sym (w .document)))
 
 -- a list is refused exactly when its words or nodes have a fault of the scope's table

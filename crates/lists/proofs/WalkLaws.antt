@@ -161,11 +161,11 @@ next-document n (e ∷ s) ch f o =
     chain-document (n .document) e s ch (⊎-elim (λ p. omega arith) (λ p. sym (p .0)) (after-read n e (not-none _ o)))
 
 -- the head of those left is of n's document and starts before n
-pub behind-left : (n : Node) (s : List Node) → All (λ e. afterb n e ≡ true) s → AfterHead n (unended n s)
+pub beyond-left : (n : Node) (s : List Node) → All (λ e. afterb n e ≡ true) s → AfterHead n (unended n s)
 unfolding unended
-behind-left n [] a = tt
-behind-left n (e ∷ s) a =
+beyond-left n [] a = tt
+beyond-left n (e ∷ s) a =
     elim (either (openb n e)) [
       | inl o ↦ rw o (let d = open-read n e o .document in (sym d, after-starts n e (a .0) d))
-      | inr o ↦ rw o (behind-left n s (a .1))
+      | inr o ↦ rw o (beyond-left n s (a .1))
     ]

@@ -35,8 +35,8 @@ further : (r y : Row) (rs : List Row) (level : ℕ) → Around rs level y → Ar
 further r y rs level a = record { outer = a .outer; stands = List·Memᴰ·tail (a .stands); level-of = a .level-of; contains = a .contains }
 
 -- a close comes after the opening or the text from which it is looked for
-close-behind : (inner position mark : ℕ) (marks : List ℕ) → (mark ≡ CLOSE → ⊥) → position < closeAt inner position (mark ∷ marks)
-close-behind inner position mark marks h =
+close-beyond : (inner position mark : ℕ) (marks : List ℕ) → (mark ≡ CLOSE → ⊥) → position < closeAt inner position (mark ∷ marks)
+close-beyond inner position mark marks h =
     elim (kind-of mark) [
       | closes c ↦ absurd (h c)
       | is-text t ↦ rw (close-text inner position mark marks t) (omega (arith, close-from inner (position + 1) marks))
@@ -125,7 +125,7 @@ all-around document position depth (mark ∷ marks) f y level m l =
         (elim (List·Memᴰ·cases-cons (rw (rows-node document position depth mark marks h) at m)) [
           | inl e ↦ let s : y .node .start ≡ position = ap (λ q. q .node .start) e in
               let v : y .node .level ≡ depth + 1 = ap (λ q. q .node .level) e in
-              inr (omega arith, rw s (close-behind (depth - level) position mark marks h))
+              inr (omega arith, rw s (close-beyond (depth - level) position mark marks h))
           | inr n ↦ elim (later n) [
             | inl a ↦ inl (further head y rest level a)
             | inr b ↦ elim b [

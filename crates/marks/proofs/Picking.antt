@@ -81,10 +81,10 @@ module _ (tag : ℕ) (table : List ℕ) (index : ℕ) where
     firsts-no k = ap (nodesWith tag) one-more ∙ picked-no tag (take index (rows table)) r k
 
 -- a node put after those already written
-pub put-behind : (ns : List Node) (n : Node) (out₀ out : List ℕ) (found : ℕ) → found ≡ length ns → found < count out
+pub put-beyond : (ns : List Node) (n : Node) (out₀ out : List ℕ) (found : ℕ) → found ≡ length ns → found < count out
     → length out ≡ length out₀ → out ≡ written (wordsIn wordsOf ns) out₀ → putNode out found n ≡ written (wordsIn wordsOf (ns ++ (n ∷ []))) out₀
 unfolding putNode wordsOf
-put-behind ns n out₀ out found e h l f =
+put-beyond ns n out₀ out found e h l f =
     let at : 4 * found ≡ length (wordsIn wordsOf ns) = omega (arith, length-words ns) in
     rw (lt-ltb found (count out) h, at, f) (written-more (wordsIn wordsOf ns) (wordsOf n) out₀ (omega arith))
     ∙ ap (λ ws. written ws out₀) (sym (words-one-more wordsOf ns n))

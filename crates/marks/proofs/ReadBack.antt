@@ -98,7 +98,7 @@ right-place rs document position kept q mark f =
 -- `depth` elements are open
 record Part (rs : List Row) (document p depth count : ℕ) (marks : List ℕ) : Type 0 where
   fault : faultFrom (p + 1) depth marks ≡ TAKEN
-  behind : drop count rs ≡ rowsFrom document (p + 1) depth marks
+  beyond : drop count rs ≡ rowsFrom document (p + 1) depth marks
   within : count ≤ length rs
 
 -- one mark further back, which fits
@@ -119,7 +119,7 @@ module _ (rs : List Row) (document p : ℕ) (kept : List ℕ) (q : MarkPlace) (m
             rw c
             (record {
               fault = fault-back;
-              behind = a .behind
+              beyond = a .beyond
                   ∙ ap (λ d. rowsFrom document (suc p + 1) d marks) (omega (arith, before-closes (q .depth) mark e))
                   ∙ sym (rows-closes document (suc p) (openBefore (q .depth) mark) mark marks e)
                   ∙ ap (λ i. rowsFrom document i (openBefore (q .depth) mark) (mark ∷ marks)) (sym (add-one p));
@@ -129,9 +129,9 @@ module _ (rs : List Row) (document p : ℕ) (kept : List ℕ) (q : MarkPlace) (m
             rw c
             (record {
               fault = fault-back;
-              behind = rows-last rs (q .rows) (some n) (a .within)
+              beyond = rows-last rs (q .rows) (some n) (a .within)
                   ∙ ap (λ r. r ∷ drop (q .rows) rs) (sym (f .same n))
-                  ∙ ap (λ ys. rowHere document (suc p) kept (q .depth) mark ∷ ys) (a .behind)
+                  ∙ ap (λ ys. rowHere document (suc p) kept (q .depth) mark ∷ ys) (a .beyond)
                   ∙ sym (rows-here kept (suc p) (q .depth) mark marks k document n (f .inner n))
                   ∙ ap (λ i. rowsFrom document i (openBefore (q .depth) mark) (mark ∷ marks)) (sym (add-one p));
               within = omega (arith, a .within);
@@ -177,7 +177,7 @@ sound rs document zero kept q marks count e a k l h =
     record {
       marks = marks;
       fault = rw d at (a .fault);
-      table = sym (rw (d, z) at (a .behind));
+      table = sym (rw (d, z) at (a .beyond));
       long = omega arith;
     }
 sound rs document (suc p) kept q marks count e a k l h =
@@ -211,7 +211,7 @@ module _ (rs : List Row) (document p : ℕ) (q : MarkPlace) (mark : ℕ) (marks 
   -- the first row after the place is the node's own
   own : (mark ≡ CLOSE → ⊥) → drop (q .rows) rs
       ≡ row (node document (suc p) (endOf (suc p) mark marks) (q .depth + 1)) mark ∷ rowsFrom document (suc p + 1) (openAfter (q .depth) mark) marks
-  own n = (rw (add-one p) at (b .part .behind)) ∙ rows-node document (suc p) (q .depth) mark marks n
+  own n = (rw (add-one p) at (b .part .beyond)) ∙ rows-node document (suc p) (q .depth) mark marks n
 
   deep-on : openAfter (q .depth) mark ≤ MOST-LEVELS
   deep-on =
@@ -230,7 +230,7 @@ module _ (rs : List Row) (document p : ℕ) (q : MarkPlace) (mark : ℕ) (marks 
             (record {
               part = record {
                 fault = here .1;
-                behind = (rw (add-one p) at (b .part .behind))
+                beyond = (rw (add-one p) at (b .part .beyond))
                     ∙ rows-closes document (suc p) (q .depth) mark marks e
                     ∙ ap (λ d. rowsFrom document (suc p + 1) d marks) (sym (open-closes (q .depth) mark e));
                 within = b .part .within;
@@ -241,7 +241,7 @@ module _ (rs : List Row) (document p : ℕ) (q : MarkPlace) (mark : ℕ) (marks 
         | inr c ↦ let n : mark ≡ CLOSE → ⊥ = eqb-false _ _ c in
             rw c
             (record {
-              part = record { fault = here .1; behind = rows-next rs (q .rows) (own n); within = omega (arith, rows-in rs (q .rows) (own n)) };
+              part = record { fault = here .1; beyond = rows-next rs (q .rows) (own n); within = omega (arith, rows-in rs (q .rows) (own n)) };
               deep = deep-on;
               starts = λ s. rw (back-one (q .rows), row-first rs (q .rows) (own n)) (omega arith);
             })
@@ -274,7 +274,7 @@ module _ (rs : List Row) (document p : ℕ) (q : MarkPlace) (mark : ℕ) (marks 
         inner = inner;
         right = λ n. rw forth (here .0);
         same = λ n. rw (ne-eqb mark CLOSE n, back-one (q .rows))
-            (sym (row-first rs (q .rows) ((rw (add-one p) at (b .part .behind))
+            (sym (row-first rs (q .rows) ((rw (add-one p) at (b .part .beyond))
             ∙ ap (λ d. rowsFrom document (suc p) d (mark ∷ marks)) (sym forth)
             ∙ rows-here kept (suc p) (openAfter (q .depth) mark) mark marks k document n (inner n))));
       }
@@ -284,7 +284,7 @@ cut : (rs : List Row) (document : ℕ) (passed marks : List ℕ) → faultFrom 1
     → rowsFrom document 1 0 (reverseAux passed marks) ≡ rs → Before rs document (length passed) (placeOf passed) marks
 unfolding placeOf
 cut rs document [] marks f t =
-    record { part = record { fault = f; behind = sym t; within = zero-le }; deep = zero-le; starts = λ s. absurd (not-suc-le-zero s) }
+    record { part = record { fault = f; beyond = sym t; within = zero-le }; deep = zero-le; starts = λ s. absurd (not-suc-le-zero s) }
 cut rs document (mark ∷ passed) marks f t =
     before-on rs document (length passed) (placeOf passed) mark marks (cut rs document passed (mark ∷ marks) f t)
 
@@ -317,7 +317,7 @@ module _ (rs : List Row) (document last : ℕ) where
             absurd (omega arith)
         | inr z ↦ let e = eqb-false last 0 z in
             let m = sound rs document last (replicate MOST-LEVELS 0) (markPlace 0 (length rs)) [] last (omega arith)
-            (record { fault = end-make (last + 1) 0 refl (λ i. e (omega arith)); behind = drop-length rs; within = omega arith })
+            (record { fault = end-make (last + 1) 0 refl (λ i. e (omega arith)); beyond = drop-length rs; within = omega arith })
             (kept-none (replicate MOST-LEVELS 0) (last + 1) [])
             refl
             h in
@@ -335,7 +335,7 @@ module _ (rs : List Row) (document last : ℕ) where
       let a = cut rs document passed [] g u .part in
       let l : last ≡ length passed = e ∙ sym (length-reverse marks) in
       let d : 0 ≡ placeOf passed .depth = sym (end-read (length passed + 1) (placeOf passed .depth) (a .fault) .0) in
-      let n : length rs ≡ placeOf passed .rows = omega (arith, length-drop (placeOf passed .rows) rs, ap length (a .behind), a .within) in
+      let n : length rs ≡ placeOf passed .rows = omega (arith, length-drop (placeOf passed .rows) rs, ap length (a .beyond), a .within) in
       (λ i. readsBack rs document (l i) (replicate MOST-LEVELS 0) (markPlace (d i) (n i)))
       ∙ complete rs document passed [] (replicate MOST-LEVELS 0) g u (rw (← d) (kept-none (replicate MOST-LEVELS 0) (length passed + 1) [])) refl
 

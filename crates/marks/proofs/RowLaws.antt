@@ -53,8 +53,8 @@ pub rows-from : (ws : List ℕ) (i : ℕ) → i < length ws / ROW-WORDS → drop
 unfolding rowIn
 rows-from ws i h = rw (add-one i) (drop-cons (rows ws) i (row (node 0 0 0 0) 0) (omega (arith, length-rows ws)))
 
-pub rows-behind : (ws : List ℕ) (i : ℕ) → length ws / ROW-WORDS ≤ i → drop i (rows ws) ≡ []
-rows-behind ws i h = drop-of-length-le (rows ws) {i = i} (omega (arith, length-rows ws))
+pub rows-beyond : (ws : List ℕ) (i : ℕ) → length ws / ROW-WORDS ≤ i → drop i (rows ws) ≡ []
+rows-beyond ws i h = drop-of-length-le (rows ws) {i = i} (omega (arith, length-rows ws))
 
 -- rows written as words are read as the same rows, and the words of whole rows are written as they
 -- were

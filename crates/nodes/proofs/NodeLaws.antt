@@ -82,12 +82,12 @@ pub apart-ahead : (x y : Node) → x .end < y .start → apartb x y ≡ true
 unfolding apartb
 apart-ahead x y h = or-left _ (lt-ltb _ _ h)
 
-pub apart-behind : (x y : Node) → y .end < x .start → apartb x y ≡ true
+pub apart-beyond : (x y : Node) → y .end < x .start → apartb x y ≡ true
 unfolding apartb
-apart-behind x y h = or-right (ltb (x .end) (y .start)) (lt-ltb _ _ h)
+apart-beyond x y h = or-right (ltb (x .end) (y .start)) (lt-ltb _ _ h)
 
 pub apart-turned : (x y : Node) → apartb x y ≡ true → apartb y x ≡ true
-apart-turned x y h = ⊎-elim (apart-behind y x) (apart-ahead y x) (apart-read x y h)
+apart-turned x y h = ⊎-elim (apart-beyond y x) (apart-ahead y x) (apart-read x y h)
 
 pub after-read : (y x : Node) → afterb y x ≡ true → (x .document < y .document) ⊎ ((y .document ≡ x .document) × (x .start < y .start))
 unfolding afterb

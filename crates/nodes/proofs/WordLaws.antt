@@ -85,12 +85,12 @@ pub nodes-from : (ws : List ℕ) (i : ℕ) → i < count ws → drop i (nodes ws
 unfolding nodeAt
 nodes-from ws i h = rw (add-one i) (drop-cons (nodes ws) i (node 0 0 0 0) (omega (arith, length-nodes ws)))
 
-pub nodes-behind : (ws : List ℕ) (i : ℕ) → count ws ≤ i → drop i (nodes ws) ≡ []
-nodes-behind ws i h = drop-of-length-le (nodes ws) {i = i} (omega (arith, length-nodes ws))
+pub nodes-beyond : (ws : List ℕ) (i : ℕ) → count ws ≤ i → drop i (nodes ws) ≡ []
+nodes-beyond ws i h = drop-of-length-le (nodes ws) {i = i} (omega (arith, length-nodes ws))
 
 -- dropping or taking k nodes is dropping or taking 4 * k words
-behind-four : (d s e l : ℕ) (ws : List ℕ) {k m : ℕ} → m ≡ suc (suc (suc (suc k))) → drop m (d ∷ s ∷ e ∷ l ∷ ws) ≡ drop k ws
-behind-four d s e l ws q = rw q
+beyond-four : (d s e l : ℕ) (ws : List ℕ) {k m : ℕ} → m ≡ suc (suc (suc (suc k))) → drop m (d ∷ s ∷ e ∷ l ∷ ws) ≡ drop k ws
+beyond-four d s e l ws q = rw q
 
 pub nodes-drop : (ws : List ℕ) (k : ℕ) → nodes (drop (4 * k) ws) ≡ drop k (nodes ws)
 unfolding nodes
@@ -102,7 +102,7 @@ nodes-drop (d ∷ s ∷ []) (suc k) = ap nodes (drop-of-length-le (d ∷ s ∷ [
 nodes-drop (d ∷ s ∷ e ∷ []) zero = refl
 nodes-drop (d ∷ s ∷ e ∷ []) (suc k) = ap nodes (drop-of-length-le (d ∷ s ∷ e ∷ []) {i = 4 * suc k} (omega arith))
 nodes-drop (d ∷ s ∷ e ∷ l ∷ ws) zero = refl
-nodes-drop (d ∷ s ∷ e ∷ l ∷ ws) (suc k) = ap nodes (behind-four d s e l ws {k = 4 * k} {m = 4 * suc k} (omega arith)) ∙ nodes-drop ws k
+nodes-drop (d ∷ s ∷ e ∷ l ∷ ws) (suc k) = ap nodes (beyond-four d s e l ws {k = 4 * k} {m = 4 * suc k} (omega arith)) ∙ nodes-drop ws k
 
 up-to-four : (d s e l : ℕ) (ws : List ℕ) {k m : ℕ} → m ≡ suc (suc (suc (suc k))) → take m (d ∷ s ∷ e ∷ l ∷ ws) ≡ d ∷ s ∷ e ∷ l ∷ take k ws
 up-to-four d s e l ws q = rw q

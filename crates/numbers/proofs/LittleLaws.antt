@@ -13,7 +13,7 @@ use Rattle.nodes.specs.declared.node.Node.{Node}
 use Rattle.laws.specs.Choose.{All}
 use Rattle.nodes.specs.Words.{node, nodes, nodeAt}
 use Rattle.answers.specs.Output.{wordsIn, written}
-use Rattle.nodes.proofs.WordLaws.{length-nodes, node-words, nodes-drop, nodes-take, nodes-from, nodes-behind}
+use Rattle.nodes.proofs.WordLaws.{length-nodes, node-words, nodes-drop, nodes-take, nodes-from, nodes-beyond}
 use Rattle.answers.proofs.OutputLaws.{length-items}
 use Rattle.laws.proofs.Choices.{map-drop, map-take}
 use lib.Seq.{take-all}
@@ -41,9 +41,9 @@ pub number-bytes : (bs : List ℕ) (i : ℕ) → i < numberCount bs
 unfolding numberAt nodeAt four little
 number-bytes bs i h = ap (λ ns. getD ns i 0) (by-fours bs) ∙ List·getD-map four (nodes bs) i (node 0 0 0 0) ∙ ap four (node-words bs i h)
 
-pub number-behind : (bs : List ℕ) (i : ℕ) → numberCount bs ≤ i → numberAt bs i ≡ 0
+pub number-beyond : (bs : List ℕ) (i : ℕ) → numberCount bs ≤ i → numberAt bs i ≡ 0
 unfolding numberAt
-number-behind bs i h = List·getD-eq-default (numbers bs) 0 (omega (arith, length-numbers bs))
+number-beyond bs i h = List·getD-eq-default (numbers bs) 0 (omega (arith, length-numbers bs))
 
 -- dropping or taking k numbers is dropping or taking 4 * k bytes
 pub numbers-drop : (bs : List ℕ) (k : ℕ) → numbers (drop (4 * k) bs) ≡ drop k (numbers bs)
@@ -122,8 +122,8 @@ pub node-in-from : (bs : List ℕ) (i : ℕ) → i < length bs / NODE-BYTES
 unfolding nodeIn
 node-in-from bs i h = nodes-from (numbers bs) i (omega (arith, length-numbers bs))
 
-pub node-in-behind : (bs : List ℕ) (i : ℕ) → length bs / NODE-BYTES ≤ i → drop i (nodes (numbers bs)) ≡ []
-node-in-behind bs i h = nodes-behind (numbers bs) i (omega (arith, length-numbers bs))
+pub node-in-beyond : (bs : List ℕ) (i : ℕ) → length bs / NODE-BYTES ≤ i → drop i (nodes (numbers bs)) ≡ []
+node-in-beyond bs i h = nodes-beyond (numbers bs) i (omega (arith, length-numbers bs))
 
 -- the number that the four bytes from `at` on make
 abbrev numberFrom : List ℕ → ℕ → ℕ

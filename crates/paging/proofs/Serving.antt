@@ -14,7 +14,7 @@ use lib.ListN.{length, take, drop, length-append}
 use lib.Seq.{sets, length-sets, take-nil}
 use borrow.Author.Tests.{ltb-true, lt-ltb, le-ltb}
 use Rattle.laws.proofs.Tests.{either, never}
-use Rattle.answers.proofs.OutputLaws.{sets-behind, written-behind}
+use Rattle.answers.proofs.OutputLaws.{sets-beyond, written-beyond}
 use Rattle.paging.specs.Private.Serve.{store, serve}
 use Rattle.answers.specs.Output.{wordsIn, written}
 
@@ -106,27 +106,27 @@ module _ {A : Type 0} (words : A → List ℕ) (width : ℕ) where
       ]
 
   -- an item is stored right after the words before it
-  store-behind : (front rest : List ℕ) (count : ℕ) (x : A) → length (words x) ≡ width → length front ≡ width * count
+  store-beyond : (front rest : List ℕ) (count : ℕ) (x : A) → length (words x) ≡ width → length front ≡ width * count
       → count < length (front ++ rest) / width → store words width (front ++ rest) count x ≡ front ++ words x ++ drop (length (words x)) rest
   unfolding store
-  store-behind front rest count x w l h =
+  store-beyond front rest count x w l h =
       let room : width * (count + 1) ≤ width * (length (front ++ rest) / width) = mul-le-mul-left width (omega arith) in
       let fits = mul-div-le (length (front ++ rest)) width in
       let one : width * (count + 1) ≡ width * count + width = mul-add width count 1 ∙ ap (λ n. width * count + n) (mul-one width) in
-      ap (λ n. sets (front ++ rest) n (words x)) (sym l) ∙ sets-behind front rest (words x) (omega arith)
+      ap (λ n. sets (front ++ rest) n (words x)) (sym l) ∙ sets-beyond front rest (words x) (omega arith)
 
   -- the items that find room follow the words that stand already
-  serve-behind : ((x : A) → length (words x) ≡ width) → (front rest : List ℕ) (count room : ℕ) (xs : List A) → length front ≡ width * count
+  serve-beyond : ((x : A) → length (words x) ≡ width) → (front rest : List ℕ) (count room : ℕ) (xs : List A) → length front ≡ width * count
       → length (front ++ rest) / width ≡ count + room
       → serve words width (front ++ rest) count xs
       ≡ (front ++ written (wordsIn words (take room xs)) rest, count + length (take room xs), eqb (length (take room xs)) (length xs))
   unfolding serve wordsIn written flatMap
-  serve-behind w front rest count room [] l e = rw (take-nil {A = A} room, add-zero count)
-  serve-behind w front rest count zero (x ∷ xs) l e =
+  serve-beyond w front rest count room [] l e = rw (take-nil {A = A} room, add-zero count)
+  serve-beyond w front rest count zero (x ∷ xs) l e =
       rw (serve-full (front ++ rest) count x xs (omega arith), add-zero count, eqb·zero-suc (length xs))
-  serve-behind w front rest count (suc room) (x ∷ xs) l e =
-      let later = serve-behind w (front ++ words x) (drop (length (words x)) rest) (count + 1) room xs longer same in
-      rw (serve-next (front ++ rest) count x xs next, behind, later)
+  serve-beyond w front rest count (suc room) (x ∷ xs) l e =
+      let later = serve-beyond w (front ++ words x) (drop (length (words x)) rest) (count + 1) room xs longer same in
+      rw (serve-next (front ++ rest) count x xs next, beyond, later)
       (same-answer (append-assoc front (words x) _ ∙ ap (λ ws. front ++ ws) shown) (omega arith) (sym (eqb·suc-suc (length served) (length xs))))
     where
       served : List A
@@ -135,17 +135,17 @@ module _ {A : Type 0} (words : A → List ℕ) (width : ℕ) where
       next : count < length (front ++ rest) / width
       next = omega arith
 
-      behind : store words width (front ++ rest) count x ≡ front ++ words x ++ drop (length (words x)) rest
-      behind = store-behind front rest count x (w x) l next
+      beyond : store words width (front ++ rest) count x ≡ front ++ words x ++ drop (length (words x)) rest
+      beyond = store-beyond front rest count x (w x) l next
 
       longer : length (front ++ words x) ≡ width * (count + 1)
       longer = rw (length-append front (words x), l, w x, mul-add width count 1, mul-one width)
 
       same : length (front ++ words x ++ drop (length (words x)) rest) / width ≡ count + 1 + room
-      same = rw (← behind, store-length (front ++ rest) count x, e) (omega arith)
+      same = rw (← beyond, store-length (front ++ rest) count x, e) (omega arith)
 
       shown : words x ++ written (wordsIn words served) (drop (length (words x)) rest) ≡ written (words x ++ wordsIn words served) rest
-      shown = written-behind (words x) (wordsIn words served) rest
+      shown = written-beyond (words x) (wordsIn words served) rest
 
   -- serving from the beginning shows the first items, as many as find room
   pub serve-shows : ((x : A) → length (words x) ≡ width) → (out : List ℕ) (xs : List A)
@@ -156,5 +156,5 @@ module _ {A : Type 0} (words : A → List ℕ) (width : ℕ) where
         eqb (length (take (length out / width) xs)) (length xs),
       )
   serve-shows w out xs =
-      serve-behind w [] out 0 (length out / width) xs (sym (mul-zero width)) (sym (zero-add (length out / width)))
+      serve-beyond w [] out 0 (length out / width) xs (sym (mul-zero width)) (sym (zero-add (length out / width)))
       ∙ same-answer refl (zero-add (length (take (length out / width) xs))) refl

@@ -31,10 +31,10 @@ module _ {A : Type 0} (key : A → List ℕ) where
   end-past place (x ∷ xs) r k p = past-trans key place (key x) k (r .0) (end-past (after (key x)) xs (r .1) k p)
 
   -- and the key of the place where the run began doesn't
-  end-behind : (j : List ℕ) (xs : List A) → Run key (after j) xs → pastb (end (after j) xs) j ≡ false
+  end-beyond : (j : List ℕ) (xs : List A) → Run key (after j) xs → pastb (end (after j) xs) j ≡ false
   unfolding reached pastb
-  end-behind j [] r = above-self j
-  end-behind j (x ∷ xs) r =
+  end-beyond j [] r = above-self j
+  end-beyond j (x ∷ xs) r =
       not-so (λ p. never (above-trans j (key x) j (end-past (after (key x)) xs (r .1) j p) (r .0)) (above-self j))
 
   -- all items of a run but its first n lie past the place that these reach
@@ -44,7 +44,7 @@ module _ {A : Type 0} (key : A → List ℕ) where
   run-rest place (suc n) [] r = refl
   run-rest place (suc n) (x ∷ xs) r =
       keep-failed (λ y. pastb (end (after (key x)) (take n xs)) (key y)) x xs
-      (end-behind (key x) (take n xs) (run-take key (after (key x)) n xs (r .1)))
+      (end-beyond (key x) (take n xs) (run-take key (after (key x)) n xs (r .1)))
       ∙ run-rest (after (key x)) n xs (r .1)
 
   -- past the place that a page reaches, there remains what it did not hand out

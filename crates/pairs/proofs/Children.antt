@@ -19,7 +19,7 @@ use Rattle.nodes.specs.Words.{node, nodes, count, nodeAt}
 use Rattle.laws.proofs.Choices.{all-map, keep-failed, all-at, every-two-at, every-two-drop}
 use Rattle.nodes.proofs.NodeLaws.{within, directly-inside, directly-make, inside-after, after-trans}
 use Rattle.laws.proofs.Tests.{either, not-so}
-use Rattle.nodes.proofs.WordLaws.{length-nodes, nodes-from, nodes-behind}
+use Rattle.nodes.proofs.WordLaws.{length-nodes, nodes-from, nodes-beyond}
 use Rattle.lists.specs.Two.{oddsb, checkTwo}
 use Rattle.lists.proofs.Faults.{Sound}
 use Rattle.lists.proofs.Merging.{even-fine}
@@ -58,7 +58,7 @@ module _ (ws : List ℕ) (a : Node) where
         | inl t ↦ ap (keep (λ d. directlyb d a)) (nodes-from ws k (ltb-true _ _ t))
             ∙ keep-failed (λ d. directlyb d a) (nodeAt ws k) (drop (k + 1) (nodes ws)) (f k (omega arith) (omega arith))
             ∙ none-from n (k + 1) r (omega arith) (λ j l m. f j (omega arith) m)
-        | inr t ↦ let h : count ws ≤ k = ltb-false _ _ t in rw (nodes-behind ws k h, nodes-behind ws r (omega arith)) refl
+        | inr t ↦ let h : count ws ≤ k = ltb-false _ _ t in rw (nodes-beyond ws k h, nodes-beyond ws r (omega arith)) refl
       ]
 
   none-passed : (k r : ℕ) → k ≤ r → ((j : ℕ) → k ≤ j → j < r → directlyb (nodeAt ws j) a ≡ false)

@@ -109,7 +109,7 @@ module _ (as′ ds : List ℕ) where
           opening = o;
           none = none;
           upon = upon-open d (opened used stack) (rw q sound-at) (all-among (λ f. Fine f d) (o .held)
-              (rw q (fine-at passed (o .passed-in .2) (rw q at (o .held .behind))))) b;
+              (rw q (fine-at passed (o .passed-in .2) (rw q at (o .held .beyond))))) b;
         })
 
       module _ (used passed : ℕ) (stack : List ℕ) (h : At (nodeAt ds (j / 4)) used passed stack) where

@@ -14,7 +14,7 @@ use Rattle.nodes.specs.Words.{nodes, count}
 use Rattle.laws.proofs.Choices.{all-map, all-both, keep-past, keep-every-two}
 use Rattle.nodes.proofs.NodeLaws.{after-starts}
 use Rattle.laws.proofs.Tests.{either}
-use Rattle.nodes.proofs.WordLaws.{nodes-behind}
+use Rattle.nodes.proofs.WordLaws.{nodes-beyond}
 use Rattle.lists.proofs.Taken.{Fine}
 use Rattle.paging.specs.Page.{remains}
 use Rattle.tickets.specs.declared.ticket.Order.{Order}
@@ -70,4 +70,4 @@ sweep-start relation order place as′ ds i q = rw q (sym (rest-served relation 
 pub sweep-end : (relation : Relation) (order : Order) (place : Place) (ws : List ℕ) (ys : List Node) (i : ℕ) → count ws ≤ i
     → rest-of relation order place (drop i (nodes ws)) ys ≡ []
 unfolding remains keep everyPair
-sweep-end relation order place ws ys i l = rw (nodes-behind ws i l) refl
+sweep-end relation order place ws ys i l = rw (nodes-beyond ws i l) refl

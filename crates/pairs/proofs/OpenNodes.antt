@@ -58,7 +58,7 @@ shut-from d m e p o b = ⊎-elim (λ q. subst (λ n. openb n e ≡ false) (sym q
 
 -- before any ancestor the chain is empty
 pub open-none : (d : Node) → Open d [] []
-open-none d = record { stands = record { chain = tt; keeps = λ n p test only. refl }; among = tt; behind = tt }
+open-none d = record { stands = record { chain = tt; keeps = λ n p test only. refl }; among = tt; beyond = tt }
 
 module _ (d a : Node) (before s : List Node) (h : afterb d a ≡ true) (k : Open d before s) where
   -- one more ancestor before d, fine with all before it, comes to lie on a chain all of which is
@@ -70,7 +70,7 @@ module _ (d a : Node) (before s : List Node) (h : afterb d a ≡ true) (k : Open
       record {
         stands = stands-push a (t .lowest) (upon-open a s t g opened) (k .stands);
         among = (List·Memᴰ·head refl, all-map (λ e m. List·Memᴰ·tail m) s (k .among));
-        behind = (h, k .behind);
+        beyond = (h, k .beyond);
       }
 
   -- one that isn't open at d is left out
@@ -81,15 +81,15 @@ module _ (d a : Node) (before s : List Node) (h : afterb d a ≡ true) (k : Open
       keeps = λ n p test only. keep-failed test a before (not-so (λ t. never (only a t) (shut-from d n a p o h))) ∙ k .stands .keeps n p test only;
     };
     among = all-map (λ e m. List·Memᴰ·tail m) s (k .among);
-    behind = (h, k .behind);
+    beyond = (h, k .beyond);
   }
 
 -- those that ended before d are taken off
 pub open-left : (d : Node) (before s : List Node) → Open d before s → Open d before (unended d s)
 open-left d before s k = record {
-  stands = stands-left d (λ m e p o b. shut-from d m e p o b) s (all-among (λ e. afterb d e ≡ true) k (k .behind)) (k .stands);
+  stands = stands-left d (λ m e p o b. shut-from d m e p o b) s (all-among (λ e. afterb d e ≡ true) k (k .beyond)) (k .stands);
   among = among-left d before s (k .among);
-  behind = k .behind;
+  beyond = k .beyond;
 }
 
 -- the chain stands at a later node too
@@ -97,5 +97,5 @@ pub open-later : (d n : Node) (before s : List Node) → afterb n d ≡ true →
 open-later d n before s h k = record {
   stands = stands-later (λ m p. inr (⊎-elim (λ q. subst (λ x. afterb x d ≡ true) (sym q) h) (λ q. after-trans m n d q h) p)) (k .stands);
   among = k .among;
-  behind = all-map (λ e b. after-trans n d e h b) before (k .behind);
+  beyond = all-map (λ e b. after-trans n d e h b) before (k .beyond);
 }

@@ -20,7 +20,7 @@ use Rattle.nodes.specs.Words.{node, nodes, count, nodeAt}
 use Rattle.laws.proofs.Choices.{all-map, all-both, keep-append, keep-none, all-at, all-drop, every-two-drop}
 use Rattle.nodes.proofs.NodeLaws.{after-trans, inside-after, inside-open, open-read, shut-later}
 use Rattle.laws.proofs.Tests.{either, never, not-so, not-none, and-read}
-use Rattle.nodes.proofs.WordLaws.{length-nodes, nodes-from, nodes-behind}
+use Rattle.nodes.proofs.WordLaws.{length-nodes, nodes-from, nodes-beyond}
 use Rattle.lists.proofs.Faults.{Sound}
 use Rattle.lists.proofs.Merging.{even-fine}
 use Rattle.lists.proofs.Taken.{Fine, nested-read, fine-settles, words-taken-iff}
@@ -163,7 +163,7 @@ module _ (ws : List ℕ) (a : Node) where
     where
       ends : (ltb k (count ws) ≡ true) ⊎ (ltb k (count ws) ≡ false) → firstAt (λ d. not (openb d a)) (drop k (nodes ws)) ≡ 0
       ends (inl t) = rw (nodes-from ws k (ltb-true _ _ t), rw t at h) refl
-      ends (inr t) = rw (nodes-behind ws k (ltb-false _ _ t)) refl
+      ends (inr t) = rw (nodes-beyond ws k (ltb-false _ _ t)) refl
 
   -- after a descendant at which it is open, from some index on, the search for the run's end finds
   -- the same
@@ -174,9 +174,9 @@ module _ (ws : List ℕ) (a : Node) where
       let l = p .0 in
       let zs : List Node = drop k (nodes ws) in
       let here : k + (n - k) ≡ n = omega arith in
-      let behind : k + suc (n - k) ≡ n + 1 = omega arith in
+      let beyond : k + suc (n - k) ≡ n + 1 = omega arith in
       let rest : drop (n + 1) (nodes ws) ≡ drop (suc (n - k)) zs =
-      sym (drop-drop (suc (n - k)) k (nodes ws) ∙ ap (λ i. drop i (nodes ws)) behind) in
+      sym (drop-drop (suc (n - k)) k (nodes ws) ∙ ap (λ i. drop i (nodes ws)) beyond) in
       let there : getD zs (n - k) (node 0 0 0 0) ≡ getD (nodes ws) n (node 0 0 0 0) =
       getD-drop k (nodes ws) (n - k) (node 0 0 0 0) ∙ ap (λ i. getD (nodes ws) i (node 0 0 0 0)) here in
       let q = run-past a zs (n - k) (running-run k r) (omega (arith, length-drop k (nodes ws), length-nodes ws)) (ap (λ z. openb z a) there ∙ p .1) in

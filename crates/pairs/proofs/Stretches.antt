@@ -17,7 +17,7 @@ use Rattle.nodes.specs.declared.node.Node.{Node}
 use Rattle.laws.specs.Choose.{firstAt}
 use Rattle.nodes.specs.Words.{nodes, count, nodeAt}
 use Rattle.laws.proofs.Tests.{either}
-use Rattle.nodes.proofs.WordLaws.{length-nodes, nodes-from, nodes-behind, nodes-drop, nodes-take}
+use Rattle.nodes.proofs.WordLaws.{length-nodes, nodes-from, nodes-beyond, nodes-drop, nodes-take}
 use Rattle.paging.specs.Private.Serve.{serve, store}
 use Rattle.paging.proofs.Serving.{serve-next, serve-full, serve-on, serve-length}
 use Rattle.tickets.specs.declared.ticket.Order.{Order}
@@ -70,7 +70,7 @@ module _ (order : Order) (x : Node) where
         (sym (serve-next pairWords PAIR-WORDS out (written + k) (pairOf order x y) (group order x (drop (k + 1) (nodes ws))) r))
 
     pub ended : (out : List ℕ) (n k : ℕ) → count ws ≤ k → _≡_ {A = List ℕ × ℕ × Bool} (out, n, true) (servedGroup order out n x (drop k (nodes ws)))
-    ended out n k h = all-fit out n (drop k (nodes ws)) (nodes-behind ws k h)
+    ended out n k h = all-fit out n (drop k (nodes ws)) (nodes-beyond ws k h)
 
     module _ (from to : ℕ) (p : Placed ws from) (q : Placed ws to) where
       -- the first pair of a stretch is stored

@@ -9,7 +9,7 @@ use lib.ListN.{drop}
 use Rattle.nodes.specs.declared.node.Node.{Node}
 use Rattle.laws.specs.Choose.{firstAt}
 use Rattle.nodes.specs.Words.{nodes, count, nodeAt}
-use Rattle.nodes.proofs.WordLaws.{nodes-from, nodes-behind}
+use Rattle.nodes.proofs.WordLaws.{nodes-from, nodes-beyond}
 use Rattle.laws.proofs.First.{first-hit, first-miss, first-empty}
 
 -- a search through the nodes of words has passed k nodes: they are none of those sought, so with k
@@ -45,5 +45,5 @@ module _ (test : Node → Bool) (ws : List ℕ) where
   pub search-end : (answer k : ℕ) → Searched test ws answer k → count ws ≤ k → k ≡ answer
   search-end answer k s h =
       let p = s .1 in
-      let e : firstAt test (drop k (nodes ws)) ≡ 0 = rw (nodes-behind ws k h) (first-empty test) in
+      let e : firstAt test (drop k (nodes ws)) ≡ 0 = rw (nodes-beyond ws k h) (first-empty test) in
       omega arith

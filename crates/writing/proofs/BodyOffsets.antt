@@ -74,12 +74,12 @@ laid-wants at (e ∷ es) size h =
     λ k. entry (e .tag) (sym (p .0) k) (e .count) ∷ later k
 
 -- the nodes after the contents of a book of `lists` lists
-abbrev pub behind : ℕ → List ℕ → List Node
-behind lists book = nodes (drop (1 + 3 * lists) (numbers book))
+abbrev pub beyond : ℕ → List ℕ → List Node
+beyond lists book = nodes (drop (1 + 3 * lists) (numbers book))
 
 module _ (book : List ℕ) (lists : ℕ) where
   -- the body that starts `k` nodes after the contents
-  body-there : (k : ℕ) (e : Entry) → e .offset ≡ contentsEnd lists + NODE-BYTES * k → nodesOf book e ≡ take (e .count) (drop k (behind lists book))
+  body-there : (k : ℕ) (e : Entry) → e .offset ≡ contentsEnd lists + NODE-BYTES * k → nodesOf book e ≡ take (e .count) (drop k (beyond lists book))
   unfolding nodesOf bodyOf partOf contentsEnd
   body-there k e h =
       let ns = numbers book in
@@ -94,24 +94,24 @@ module _ (book : List ℕ) (lists : ℕ) where
 
   -- the bodies that start `k` nodes after the contents and later are those of their tags and counts
   pub bodies-laid : (k at : ℕ) (es : List Entry) (size : ℕ) → at ≡ contentsEnd lists + NODE-BYTES * k → laidb at es size ≡ true
-      → map (nodesOf book) es ≡ bodiesFor (wants es) (drop k (behind lists book))
+      → map (nodesOf book) es ≡ bodiesFor (wants es) (drop k (beyond lists book))
   unfolding bodiesFor
   bodies-laid k at [] size q h = refl
   bodies-laid k at (e ∷ es) size q h =
       let p = laid-first at e es size h in
       let later = bodies-laid (k + e .count) (at + NODE-BYTES * e .count) es size (omega arith) (p .1) in
-      let rest = later ∙ ap (bodiesFor (wants es)) (sym (drop-drop (e .count) k (behind lists book))) in
+      let rest = later ∙ ap (bodiesFor (wants es)) (sym (drop-drop (e .count) k (beyond lists book))) in
       λ t. body-there k e (p .0 ∙ q) t ∷ rest t
 
   -- and put one after the other they are all those nodes
   pub nodes-laid : (k at : ℕ) (es : List Entry) (size : ℕ) → at ≡ contentsEnd lists + NODE-BYTES * k → laidb at es size ≡ true
-      → size ≡ contentsEnd lists + NODE-BYTES * length (behind lists book) → flatMap (nodesOf book) es ≡ drop k (behind lists book)
+      → size ≡ contentsEnd lists + NODE-BYTES * length (beyond lists book) → flatMap (nodesOf book) es ≡ drop k (beyond lists book)
   unfolding flatMap laidb
   nodes-laid k at [] size q h s =
       let e : at ≡ size = eqb-true _ _ h in
-      sym (drop-of-length-le (behind lists book) {i = k} (omega arith))
+      sym (drop-of-length-le (beyond lists book) {i = k} (omega arith))
   nodes-laid k at (e ∷ es) size q h s =
       let p = laid-first at e es size h in
       let later = nodes-laid (k + e .count) (at + NODE-BYTES * e .count) es size (omega arith) (p .1) s in
-      let rest = later ∙ sym (drop-drop (e .count) k (behind lists book)) in
-      (λ t. body-there k e (p .0 ∙ q) t ++ rest t) ∙ take-append-drop (e .count) (drop k (behind lists book))
+      let rest = later ∙ sym (drop-drop (e .count) k (beyond lists book)) in
+      (λ t. body-there k e (p .0 ∙ q) t ++ rest t) ∙ take-append-drop (e .count) (drop k (beyond lists book))

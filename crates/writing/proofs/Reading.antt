@@ -23,14 +23,14 @@ use Rattle.books.specs.Book.{nodesOf, checkParts, bookVerdict}
 use Rattle.writing.specs.declared.wanted.Wanted.{Wanted}
 use Rattle.writing.specs.Back.{wantedIn, bodiesIn}
 use Rattle.writing.specs.Wanted.{contentsFor, bodiesFor, sizeFor, wantedFault, bookNumbers, bookBytes}
-use Rattle.writing.proofs.BodyOffsets.{wants, wants-laid, length-laid, length-contents, behind, bodies-laid, nodes-laid}
+use Rattle.writing.proofs.BodyOffsets.{wants, wants-laid, length-laid, length-contents, beyond, bodies-laid, nodes-laid}
 use Rattle.writing.proofs.Rules.{Rules, Small}
 
 pub record Reads (book : List ℕ) (ws : List Wanted) (ns : List Node) : Type 0 where
   pub lists : listsIn book ≡ length ws
   pub contents : contentsOf book ≡ contentsFor ws
   pub size : length book ≡ sizeFor ws ns
-  pub nodes-behind : behind (length ws) book ≡ ns
+  pub nodes-beyond : beyond (length ws) book ≡ ns
 
 -- what is read of such a book
 module _ (book : List ℕ) (ws : List Wanted) (ns : List Node) (r : Reads book ws ns) where
@@ -48,15 +48,15 @@ module _ (book : List ℕ) (ws : List Wanted) (ns : List Node) (r : Reads book w
     same-bodies =
         ap (map (nodesOf book)) (r .contents)
         ∙ bodies-laid book (length ws) 0 (contentsEnd (length ws)) (contentsFor ws) (sizeFor ws ns) (omega arith) (k .laid)
-        ∙ (λ t. bodiesFor (wants-laid (contentsEnd (length ws)) ws t) (r .nodes-behind t))
+        ∙ (λ t. bodiesFor (wants-laid (contentsEnd (length ws)) ws t) (r .nodes-beyond t))
 
     pub same-nodes : flatMap (nodesOf book) (contentsOf book) ≡ ns
     unfolding sizeFor
     same-nodes =
-        let e = ap length (r .nodes-behind) in
+        let e = ap length (r .nodes-beyond) in
         ap (flatMap (nodesOf book)) (r .contents)
         ∙ nodes-laid book (length ws) 0 (contentsEnd (length ws)) (contentsFor ws) (sizeFor ws ns) (omega arith) (k .laid) (omega arith)
-        ∙ r .nodes-behind
+        ∙ r .nodes-beyond
 
     pub same-check : bookVerdict book ≡ checkParts (wantedFault ws ns) (bodiesFor ws ns)
     unfolding bookVerdict bodiesIn
@@ -88,13 +88,13 @@ module _ (ws : List Wanted) (ns : List Node) (small : All Small (bookNumbers ws 
       ∙ ap (take (length ws)) (entries-of (contentsFor ws) (wordsIn wordsOf ns))
       ∙ take-at (contentsFor ws) (entries (wordsIn wordsOf ns)) (length ws) (length-laid (contentsEnd (length ws)) ws)
 
-  behind-written : behind (length ws) (bookBytes ws ns) ≡ ns
+  beyond-written : beyond (length ws) (bookBytes ws ns) ≡ ns
   unfolding bookNumbers
-  behind-written =
+  beyond-written =
       let one : 1 + 3 * length ws ≡ suc (3 * length ws) = omega arith in
       (λ k. nodes (drop (one k) (numbers-written k)))
       ∙ ap nodes (drop-at (wordsIn entryNumbers (contentsFor ws)) (wordsIn wordsOf ns) (3 * length ws) (length-contents ws))
       ∙ nodes-of-words ns
 
   pub reads-written : Reads (bookBytes ws ns) ws ns
-  reads-written = record { lists = lists-written; contents = contents-written; size = size-written ws ns; nodes-behind = behind-written }
+  reads-written = record { lists = lists-written; contents = contents-written; size = size-written ws ns; nodes-beyond = beyond-written }

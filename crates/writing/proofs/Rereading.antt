@@ -21,7 +21,7 @@ use Rattle.contents.proofs.ContentLaws.{count-contents}
 use Rattle.writing.specs.declared.wanted.Wanted.{Wanted}
 use Rattle.writing.specs.Back.{wantedIn}
 use Rattle.writing.specs.Wanted.{laidOut, contentsFor, sizeFor, bookNumbers, bookBytes}
-use Rattle.writing.proofs.BodyOffsets.{laid-end, laid-wants, behind}
+use Rattle.writing.proofs.BodyOffsets.{laid-end, laid-wants, beyond}
 use Rattle.writing.proofs.Reading.{Reads}
 use Rattle.writing.proofs.Rules.{Rules, rules-read}
 
@@ -40,7 +40,7 @@ module _ (book : List ℕ) (good : contentsFault book ≡ TAKEN) where
       sym (laid-wants (contentsEnd (listsIn book)) (contentsOf book) (length book) (kept .laid))
       ∙ ap (λ n. laidOut (contentsEnd n) (wantedIn book)) (sym lists-read)
 
-  size-read : length book ≡ contentsEnd (listsIn book) + NODE-BYTES * length (behind (listsIn book) book)
+  size-read : length book ≡ contentsEnd (listsIn book) + NODE-BYTES * length (beyond (listsIn book) book)
   unfolding contentsEnd
   size-read =
       let ns = numbers book in
@@ -50,13 +50,13 @@ module _ (book : List ℕ) (good : contentsFault book ≡ TAKEN) where
       let e = laid-end (contentsEnd (listsIn book)) (contentsOf book) (length book) (kept .laid) in
       omega arith
 
-  pub reads-read : Reads book (wantedIn book) (behind (listsIn book) book)
+  pub reads-read : Reads book (wantedIn book) (beyond (listsIn book) book)
   unfolding sizeFor
   reads-read = record {
     lists = sym lists-read;
     contents = contents-read;
-    size = size-read ∙ ap (λ n. contentsEnd n + NODE-BYTES * length (behind (listsIn book) book)) (sym lists-read);
-    nodes-behind = ap (λ n. behind n book) lists-read;
+    size = size-read ∙ ap (λ n. contentsEnd n + NODE-BYTES * length (beyond (listsIn book) book)) (sym lists-read);
+    nodes-beyond = ap (λ n. beyond n book) lists-read;
   }
 
 -- the numbers of entries are written as they were read
@@ -87,7 +87,7 @@ module _ (book : List ℕ) (ws : List Wanted) (ns : List Node) (r : Reads book w
       let s = r .size in
       let l = length-numbers book in
       let d = length-drop (1 + 3 * length ws) (numbers book) in
-      ap (wordsIn wordsOf) (sym (r .nodes-behind))
+      ap (wordsIn wordsOf) (sym (r .nodes-beyond))
       ∙ words-of-nodes (drop (1 + 3 * length ws) (numbers book)) (omega arith)
       ∙ sym (drop-drop (3 * length ws) 1 (numbers book))
 

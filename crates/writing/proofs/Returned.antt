@@ -20,7 +20,7 @@ use Rattle.writing.specs.Back.{wantedIn, bodiesIn, entriesFrom, nodesFro
 use Rattle.writing.specs.Wanted.{WANTED-WORDS, wanted, wantedWords, contentsFor, bodiesFor, sizeFor, wantedFault, bookNumbers, bookBytes}
 use Rattle.writing.specs.WriteCall.{checkWanted, bytesFor}
 use Rattle.writing.proofs.Checking.{whole-checked, taken-whole, taken-fault, taken-parts}
-use Rattle.writing.proofs.BodyOffsets.{behind}
+use Rattle.writing.proofs.BodyOffsets.{beyond}
 use Rattle.writing.proofs.Outcomes.{WritesBook, write-taken}
 use Rattle.writing.proofs.Reading.{Reads, same-wanted, same-fault, same-bodies, same-nodes, same-check, reads-written}
 use Rattle.writing.proofs.Rereading.{reads-read, same-bytes}
@@ -77,18 +77,18 @@ module _ (book : List ℕ) (t : bookVerdict book .answer ≡ TAKEN) where
   unfolding bookVerdict
   faultless = parts-faultless (contentsFault book) (map (nodesOf book) (contentsOf book)) t
 
-  reads-book : Reads book (wantedIn book) (behind (listsIn book) book)
+  reads-book : Reads book (wantedIn book) (beyond (listsIn book) book)
   reads-book = reads-read book faultless
 
-  kept-back : Rules (length (wantedIn book)) (contentsFor (wantedIn book)) (sizeFor (wantedIn book) (behind (listsIn book) book))
-  kept-back = rules-written (wantedIn book) (behind (listsIn book) book)
-      (sym (same-fault book (wantedIn book) (behind (listsIn book) book) reads-book) ∙ faultless)
+  kept-back : Rules (length (wantedIn book)) (contentsFor (wantedIn book)) (sizeFor (wantedIn book) (beyond (listsIn book) book))
+  kept-back = rules-written (wantedIn book) (beyond (listsIn book) book)
+      (sym (same-fault book (wantedIn book) (beyond (listsIn book) book) reads-book) ∙ faultless)
 
-  nodes-read : nodes (nodesFrom book) ≡ behind (listsIn book) book
+  nodes-read : nodes (nodesFrom book) ≡ beyond (listsIn book) book
   unfolding nodesFrom
   nodes-read =
       nodes-of-words (flatMap (nodesOf book) (contentsOf book))
-      ∙ same-nodes book (wantedIn book) (behind (listsIn book) book) reads-book kept-back
+      ∙ same-nodes book (wantedIn book) (beyond (listsIn book) book) reads-book kept-back
 
   entries-read : wanted (entriesFrom book) ≡ wantedIn book
   unfolding entriesFrom
@@ -106,7 +106,7 @@ module _ (book : List ℕ) (t : bookVerdict book .answer ≡ TAKEN) where
   read-checked =
       sym (whole-checked (entriesFrom book) (nodesFrom book) whole-entries whole-nodes)
       ∙ (λ k. checkParts (wantedFault (entries-read k) (nodes-read k)) (bodiesFor (entries-read k) (nodes-read k)))
-      ∙ sym (same-check book (wantedIn book) (behind (listsIn book) book) reads-book kept-back)
+      ∙ sym (same-check book (wantedIn book) (beyond (listsIn book) book) reads-book kept-back)
 
   pub read-taken : checkWanted (entriesFrom book) (nodesFrom book) .answer ≡ TAKEN
   read-taken = ap (λ v. v .answer) read-checked ∙ t
@@ -114,7 +114,7 @@ module _ (book : List ℕ) (t : bookVerdict book .answer ≡ TAKEN) where
   pub bytes-back : All (λ b. b < 256) book → bytesFor (entriesFrom book) (nodesFrom book) ≡ book
   unfolding bytesFor
   bytes-back small =
-      (λ k. bookBytes (entries-read k) (nodes-read k)) ∙ same-bytes book (wantedIn book) (behind (listsIn book) book) reads-book small
+      (λ k. bookBytes (entries-read k) (nodes-read k)) ∙ same-bytes book (wantedIn book) (beyond (listsIn book) book) reads-book small
 
 -- with room for it, the call writes a book that is read back as the words that the call was given
 pub words-return : (entries list out : List ℕ) → All Small entries → All Small list → checkWanted entries list .answer ≡ TAKEN

@@ -63,7 +63,7 @@ From d n = (n ≡ d) ⊎ (afterb n d ≡ true)
 pub record Open (d : Node) (before s : List Node) : Type 0 where
   pub stands : Stands (From d) before s
   pub among : All (λ e. In e before) s
-  pub behind : All (λ e. afterb d e ≡ true) before
+  pub beyond : All (λ e. afterb d e ≡ true) before
 
 -- The ancestors up to the place `passed` are passed. Those that stand for them lie in the words of
 -- the stack that are in use.

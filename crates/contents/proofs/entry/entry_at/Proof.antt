@@ -9,7 +9,7 @@ use Prim.Native.Nat.{ℕ, _+_, _*_, _<_}
 use native.Mathlib.Omega.{arith}
 use Rattle.numbers.specs.Little.{numberAt}
 use Rattle.contents.specs.Contents.{entry, entryCount, entryAt}
-use Rattle.contents.proofs.ContentLaws.{entry-there, entry-behind}
+use Rattle.contents.proofs.ContentLaws.{entry-there, entry-beyond}
 use Rattle.contents.proofs.entry.entry_at.Statement.{statement}
 use Rattle.contents.proofs.entry.entry_at.Tie as tie
 
@@ -21,7 +21,7 @@ entry-count-requires : tie.Need-entry-count-requires
 entry-count-requires c κs = search needs
 
 returns : tie.Need-returns
-returns c = sym (entry-behind _ _ (omega arith))
+returns c = sym (entry-beyond _ _ (omega arith))
 
 mul-at : tie.Need-mul-at
 mul-at c = search needs

@@ -14,7 +14,7 @@ use denote.Ref.{now}
 use Rattle.nodes.specs.declared.node.Node.{Node}
 use Rattle.nodes.specs.Words.{nodes}
 use Rattle.numbers.specs.Little.{NODE-BYTES, numbers, nodeIn}
-use Rattle.numbers.proofs.LittleLaws.{node-in-from, node-in-behind}
+use Rattle.numbers.proofs.LittleLaws.{node-in-from, node-in-beyond}
 use Rattle.lists.specs.Check.{checkNodes}
 use Rattle.lists.specs.Private.Walk.{firsts, opened, Fits}
 use Rattle.lists.proofs.Walking.{Walk, walk-as, walk-start, walk-on, walk-stop, walk-end}
@@ -76,7 +76,7 @@ loop-again c =
 returns-2 : tie.Need-returns-2 Inv-loop μ-loop
 returns-2 c =
     let l = c .before .loop in
-    walk-end (walk-as (node-in-behind (now (c .before .before .before .args .bytes)) (l .index) (omega arith)) (l .inv .3))
+    walk-end (walk-as (node-in-beyond (now (c .before .before .before .args .bytes)) (l .index) (omega arith)) (l .inv .3))
 
 pub pass-bytes-spec : {M : Type 1} → statement M
 pass-bytes-spec =

@@ -13,7 +13,7 @@ use denote.Ref.{now}
 use Rattle.nodes.specs.Words.{nodes}
 use Rattle.lists.specs.Fault.{orderb}
 use Rattle.lists.specs.Private.Walk.{opened, AfterHead, Chain}
-use Rattle.lists.proofs.WalkLaws.{chain-left, chain-after, behind-left, not-first, next-document}
+use Rattle.lists.proofs.WalkLaws.{chain-left, chain-after, beyond-left, not-first, next-document}
 use Rattle.lists.proofs.Steps.{passed-low, passed-high, passed-span, passed-first, passed-order, passed-rest}
 use Rattle.lists.proofs.walk.pass_node.Statement.{statement}
 use Rattle.lists.proofs.walk.pass_node.Tie as tie
@@ -105,7 +105,7 @@ put-on-top-requires c κs =
       omega arith,
       omega arith,
       subst Chain (sym (left .left)) (chain-left (start .args .node) _ (start .pre .2)),
-      subst (AfterHead (start .args .node)) (sym (left .left)) (behind-left (start .args .node) _ (chain-after (start .args .node) _ (start .pre .2) next)),
+      subst (AfterHead (start .args .node)) (sym (left .left)) (beyond-left (start .args .node) _ (chain-after (start .args .node) _ (start .pre .2) next)),
     )
 
 returns-6 : tie.Need-returns-6

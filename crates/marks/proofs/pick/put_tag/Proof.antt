@@ -17,7 +17,7 @@ use Rattle.answers.specs.Output.{wordsIn, written}
 use Rattle.marks.specs.declared.row.Row.{Row}
 use Rattle.marks.specs.Outcome.{nodesWith, pickedWords}
 use Rattle.marks.specs.Table.{ROW-WORDS, rows, rowIn}
-use Rattle.marks.proofs.Picking.{firstsWith, firsts-none, firsts-few, firsts-all, firsts-part, firsts-yes, firsts-no, put-behind, length-put}
+use Rattle.marks.proofs.Picking.{firstsWith, firsts-none, firsts-few, firsts-all, firsts-part, firsts-yes, firsts-no, put-beyond, length-put}
 use Rattle.marks.proofs.pick.put_tag.Statement.{statement}
 use Rattle.marks.proofs.pick.put_tag.Tie as tie
 
@@ -41,7 +41,7 @@ module _ (tag : ℕ) (table out₀ : List ℕ) (index : ℕ) (h : index < length
       record {
         few = omega arith;
         same = ap length f ∙ length-put out found (r .node) ∙ same;
-        output = f ∙ put-behind (firstsWith tag table index) (r .node) out₀ out found few (omega arith) same (p .output)
+        output = f ∙ put-beyond (firstsWith tag table index) (r .node) out₀ out found few (omega arith) same (p .output)
             ∙ ap (λ ns. written (wordsIn wordsOf ns) out₀) (sym more);
       }
 

@@ -14,7 +14,7 @@ use Rattle.laws.specs.Choose.{All}
 use Rattle.marks.specs.declared.row.Row.{Row}
 use Rattle.marks.specs.Back.{tagged}
 use Rattle.marks.specs.Table.{ROW-WORDS, rows, rowIn}
-use Rattle.marks.proofs.RowLaws.{length-rows, rows-from, rows-behind}
+use Rattle.marks.proofs.RowLaws.{length-rows, rows-from, rows-beyond}
 use Rattle.marks.proofs.Tagging.{Within, within-at}
 use Rattle.marks.proofs.unnumber.put_tags.Statement.{statement}
 use Rattle.marks.proofs.unnumber.put_tags.Tie as tie
@@ -32,7 +32,7 @@ put-on ws out i r e h = rw (rows-from ws i h, e) refl
 
 put-all : (ws out : List ℕ) (i : ℕ) → length ws / ROW-WORDS ≤ i → out ≡ tagged (drop i (rows ws)) out
 unfolding tagged
-put-all ws out i h = rw (rows-behind ws i h) refl
+put-all ws out i h = rw (rows-beyond ws i h) refl
 
 abbrev Inv-loop : tie.InvT-loop
 Inv-loop table out₀ index₀ out index =

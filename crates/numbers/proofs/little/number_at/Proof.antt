@@ -6,7 +6,7 @@
 use borrow.Author.Needs.{needs}
 use mathlib.Core.Path.{sym, _∙_}
 use native.Mathlib.Omega.{arith}
-use Rattle.numbers.proofs.LittleLaws.{number-bytes, number-behind}
+use Rattle.numbers.proofs.LittleLaws.{number-bytes, number-beyond}
 use Rattle.numbers.proofs.little.number_at.Statement.{statement}
 use Rattle.numbers.proofs.little.number_at.Tie as tie
 
@@ -14,7 +14,7 @@ number-count-requires : tie.Need-number-count-requires
 number-count-requires c κs = search needs
 
 returns : tie.Need-returns
-returns c = sym (number-behind _ _ (omega arith))
+returns c = sym (number-beyond _ _ (omega arith))
 
 mul-number-from : tie.Need-mul-number-from
 mul-number-from c = search needs

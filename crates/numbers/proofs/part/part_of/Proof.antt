@@ -17,9 +17,9 @@ use Rattle.numbers.proofs.part.part_of.Statement.{statement}
 use Rattle.numbers.proofs.part.part_of.Tie as tie
 
 module _ (bs : List ℕ) (from count : ℕ) where
-  behind : length bs ≤ from → [] ≡ partOf bs from count
+  beyond : length bs ≤ from → [] ≡ partOf bs from count
   unfolding partOf
-  behind h = sym (ap (take count) (drop-of-length-le bs {i = from} h) ∙ take-nil count)
+  beyond h = sym (ap (take count) (drop-of-length-le bs {i = from} h) ∙ take-nil count)
 
   to-the-end : length bs - from ≤ count → take (length bs - from) (drop from bs) ≡ partOf bs from count
   unfolding partOf
@@ -37,7 +37,7 @@ slice-aggregate-result : tie.Need-slice-aggregate-result
 slice-aggregate-result c = search needs
 
 returns : tie.Need-returns
-returns c = record { contents = behind _ _ _ (omega arith); place = at-the-beginning _ _ _ (omega arith) }
+returns c = record { contents = beyond _ _ _ (omega arith); place = at-the-beginning _ _ _ (omega arith) }
 
 sub-if2 : tie.Need-sub-if2
 sub-if2 c = search needs

@@ -18,8 +18,8 @@ use Rattle.repairs.specs.Part.{placeFrom}
 use Rattle.repairs.proofs.part.part_from.Statement.{statement}
 use Rattle.repairs.proofs.part.part_from.Tie as tie
 
-behind : (ws : List ℕ) (i : ℕ) → count ws < i → [] ≡ drop (NODE-WORDS * i) ws
-behind ws i h = sym (drop-of-length-le ws {i = NODE-WORDS * i} (omega arith))
+beyond : (ws : List ℕ) (i : ℕ) → count ws < i → [] ≡ drop (NODE-WORDS * i) ws
+beyond ws i h = sym (drop-of-length-le ws {i = NODE-WORDS * i} (omega arith))
 
 rest : (ws : List ℕ) (i : ℕ) → take (length ws - NODE-WORDS * i) (drop (NODE-WORDS * i) ws) ≡ drop (NODE-WORDS * i) ws
 rest ws i = take-all (length ws - NODE-WORDS * i) (drop (NODE-WORDS * i) ws) (omega (arith, length-drop (NODE-WORDS * i) ws))
@@ -42,7 +42,7 @@ returns : tie.Need-returns
 returns c =
     let a = c .before .before .before .before .args in
     record {
-      contents = behind (now (a .words)) (a .index) (omega arith);
+      contents = beyond (now (a .words)) (a .index) (omega arith);
       place = at-front (a .words .ptr) (now (a .words)) (a .index) (omega arith);
     }
 
