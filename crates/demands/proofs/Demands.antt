@@ -1,5 +1,5 @@
 -- The customer's three demands on listings (docs/SCOPE.md). Each clause is a comment in words and,
--- below it, the theorem that says it; what follows the second `=` only cites the proof.
+-- below it, the theorem that says it. The lines after its claim only cite the proof.
 -- docs/READING.md says how to read them. A change that lost a sample would be caught here.
 -- `answer` and `output` are what the contract of `next_page` promises; `shown` is the pairs that
 -- its caller finds in the output.
@@ -32,6 +32,7 @@ use Rattle.pairs.proofs.Unaltered.{whole-through, ends-through}
 -- Demand 1. A call c takes any two lists, any ticket t and any output. It is refused exactly as the
 -- table of answers says, and alters nothing but what it hands out.
 module _ (t : Ticket) (c : Call) where
+  -- `Refused` is short for: its answer isn't TAKEN.
   abbrev Refused : Type 0
   Refused = answer t c .verdict .answer ≡ TAKEN → ⊥
 
@@ -80,7 +81,8 @@ module _ (ask : Asked) (c : Call) where
       → (shown (freshTicket ask) c ≡ fullListing ask c) × (answer (freshTicket ask) c .done ≡ true)
   listing-is-handed-out a l = whole-listing ask c a l
 
-  -- Calls on the same lists, whatever their rooms, hand out the full listing once one is done.
+  -- Calls on the same lists, whatever their rooms, have handed out the full listing when the last
+  -- of them says done.
   pub pages-are-the-listing : AcceptedCall c → (cs : List Call) → All (λ k. SameLists k c) cs
       → answer (ticketThrough (freshTicket ask) cs) c .done ≡ true → shownThrough (freshTicket ask) (cs ++ c ∷ []) ≡ fullListing ask c
   pages-are-the-listing a cs s d = whole-through ask c a cs s d

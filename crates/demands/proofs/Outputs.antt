@@ -76,23 +76,23 @@ module _ (table out : List ℕ) where
       let marks = tableMarks table in
       (beyond-unaltered fault marks out 1 (length marks) (unnumbering .count) (omega arith) (omega arith), output-length fault marks out)
 
-  -- Picking a tag out of a table:
-  module _ (tag : ℕ) where
-    abbrev picking : Counted
-    picking = pickOutcome table tag out
+-- Picking a tag out of a table:
+module _ (table out : List ℕ) (tag : ℕ) where
+  abbrev picking : Counted
+  picking = pickOutcome table tag out
 
-    -- a refusal counts no node and alters no word,
-    pub refused-pick-alters-nothing : AltersNothing (picking .verdict .answer) (picking .count) out (pickOutput table tag out)
-    unfolding pickOutcome outcomeOf pickOutput
-    refused-pick-alters-nothing = refused-alters-nothing (rowFault table) (pickedWords tag table) out (length (nodesWith tag (rows table)))
+  -- a refusal counts no node and alters no word,
+  pub refused-pick-alters-nothing : AltersNothing (picking .verdict .answer) (picking .count) out (pickOutput table tag out)
+  unfolding pickOutcome outcomeOf pickOutput
+  refused-pick-alters-nothing = refused-alters-nothing (rowFault table) (pickedWords tag table) out (length (nodesWith tag (rows table)))
 
-    -- and no word after the nodes that it counts is altered.
-    pub pick-keeps-beyond : KeepsBeyond (NODE-WORDS * picking .count) out (pickOutput table tag out)
-    unfolding pickOutcome outcomeOf pickOutput
-    pick-keeps-beyond =
-        let fault = rowFault table in
-        let words = pickedWords tag table in
-        (beyond-unaltered fault words out NODE-WORDS _ _ (length-picked tag table) refl, output-length fault words out)
+  -- and no word after the nodes that it counts is altered.
+  pub pick-keeps-beyond : KeepsBeyond (NODE-WORDS * picking .count) out (pickOutput table tag out)
+  unfolding pickOutcome outcomeOf pickOutput
+  pick-keeps-beyond =
+      let fault = rowFault table in
+      let words = pickedWords tag table in
+      (beyond-unaltered fault words out NODE-WORDS _ _ (length-picked tag table) refl, output-length fault words out)
 
 -- Linking a list:
 module _ (list out : List ℕ) where

@@ -1,5 +1,5 @@
--- docs/SCOPE.md, "Figures to hold against it": the cases marked [P], as rows of one table. Each row
--- has its number above it.
+-- docs/SCOPE.md, "Figures to hold against it": the cases marked [P] and some of our own, as rows of
+-- one table. Each row has its number above it.
 use Prim.Native.Nat.{ℕ, _*_}
 use mathlib.Core.Bool.{Bool, true, false, cond, _&&_}
 use mathlib.Core.List.{List, [], _∷_, _++_, map}
