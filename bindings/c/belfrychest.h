@@ -1,4 +1,4 @@
-/* Belfrychest for C99 and C++: it pairs every zone with the samples under it, and loses none.
+/* Belfrychest for C99 and C++: it pairs every zone with the samples inside it, and loses none.
  *
  * A node is four numbers: document, start, end, level. A list is an array of nodes, sorted by
  * document and start. A listing joins two lists: the ancestors (zones) and the descendants
@@ -138,7 +138,7 @@ typedef enum belfry_order {
 /* The answers, written by bin/tables. */
 /* Nothing below applies. */
 #define BELFRY_TAKEN 0
-/* The words don't make whole nodes, rows or entries. */
+/* The words don't divide evenly into nodes, rows or entries. */
 #define BELFRY_RAGGED 1
 /* There are more than 4,096 nodes, rows or marks. For the program: more than 61,440 bytes. */
 #define BELFRY_LONG 2
@@ -155,7 +155,7 @@ typedef enum belfry_order {
 /* Each list passes alone, but two nodes of one document, one of each list, overlap. They aren't
  * identical, and neither is inside the other with a higher level. */
 #define BELFRY_JOINT 8
-/* The output is shorter than the result. */
+/* The result is longer than the output. */
 #define BELFRY_ROOM 9
 /* A mark is above 65,536. */
 #define BELFRY_MARK 10
@@ -163,14 +163,14 @@ typedef enum belfry_order {
 #define BELFRY_STRAY 11
 /* An element or a text would have a level above 64. */
 #define BELFRY_DEEP 12
-/* The marks end with an element open, or there are none. */
+/* An element is still open after the last mark, or there isn't any mark. */
 #define BELFRY_UNCLOSED 13
 /* No accepted marks have this table. */
 #define BELFRY_TABLE 14
 /* A book's contents are wrong: the number of lists, the order of the tags, an offset, a count, or
  * where the book ends. */
 #define BELFRY_CONTENTS 15
-/* The book has no list of that tag, or fewer lists than wanted. */
+/* No list of the book has that tag, or the book has fewer lists than asked for. */
 #define BELFRY_ABSENT 16
 
 /* A node of a list. */
@@ -218,10 +218,10 @@ typedef struct {
     size_t from, count;
 } belfry_node_part;
 
-/* What a caller keeps between two pages: which pairs, in which order, and the sort key of the last
- * pair handed out. The key is ignored when the ticket is fresh. Any words make a usable ticket.
- * BELFRY_TICKET makes the first one; belfry_store_ticket and belfry_stored_ticket store it as bytes
- * and read it back. */
+/* What a caller keeps between two pages: which pairs, in which order, and where the listing
+ * has got to, as the last pair's sort key. The key is ignored when the ticket is fresh. Any words
+ * make a usable ticket. BELFRY_TICKET makes the first one; belfry_store_ticket and
+ * belfry_stored_ticket store it as bytes and read it back. */
 typedef struct {
     uint32_t relation, order, placed, document, first, second;
 } belfry_ticket;
@@ -343,10 +343,9 @@ BELFRY_NONNULL
 belfry_unnumbered belfry_unnumber(const uint32_t *table, size_t table_words, uint32_t *out,
                                   size_t out_words);
 
-/* Picks a tag's list out of a table. It reads the table and writes the node of each row with that
- * tag, in row order; as many nodes as there are rows are always enough. It checks nothing else of
- * the table.
- * Answers: RAGGED, LONG, ROOM; list and index are 0. */
+/* Picks a tag's list out of a table. It reads the table and writes the node of every row that has
+ * the tag, in the order of the rows. As many nodes as there are rows are always enough. It checks
+ * nothing else of the table. Answers: RAGGED, LONG, ROOM; list and index are 0. */
 BELFRY_MUST_USE
 BELFRY_NONNULL
 belfry_result belfry_pick(const uint32_t *table, size_t table_words, uint32_t tag, uint32_t *out,
@@ -354,8 +353,8 @@ belfry_result belfry_pick(const uint32_t *table, size_t table_words, uint32_t ta
 
 /* Links a list's nodes to the forest of what contains what. It reads the list and writes a link for
  * each node. A link has the index of the node's parent, which is the innermost node that contains
- * it, and of its first child. Its third index is that of the next node with the same parent in the
- * same document. BELFRY_NONE says that there is none. Answers: those of belfry_check, then ROOM. */
+ * it, and of its first child. Its third index is that of the next node in its document that has the
+ * same parent. BELFRY_NONE says that there is none. Answers: those of belfry_check, then ROOM. */
 BELFRY_MUST_USE
 BELFRY_NONNULL
 belfry_result belfry_links(const uint32_t *list, size_t words, uint32_t *out, size_t out_words);

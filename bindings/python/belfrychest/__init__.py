@@ -1,4 +1,4 @@
-"""Belfrychest for Python: every zone with the samples under it, out of the proved archive.
+"""Belfrychest for Python: every zone with the samples inside it, out of the proved archive.
 
 A list is a buffer of 32-bit words, four for each node: document, start, end, level. Any
 C-contiguous memory of such words will do: an array('I'), a memoryview of format 'I', a numpy array

@@ -47,7 +47,7 @@ _STORED = f"<{1 + TICKET_WORDS}I"
 @dataclass(frozen=True, init=False)
 class Ticket:
     """What is kept between two pages: which pairs are asked for, in which order, and, if it is
-    placed, the sort key of the last pair handed out.
+    placed, the last pair's sort key.
 
     Where `placed` is false the ticket is fresh, and the last three numbers say nothing.
     """

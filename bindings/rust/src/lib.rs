@@ -1,4 +1,4 @@
-//! Pairs every zone with the samples under it, and loses none: the Belfrychest library for Rust.
+//! Pairs every zone with the samples inside it, and loses none: the Belfrychest library for Rust.
 //!
 //! A [`Node`] has a document, a start, an end and a level. A list is a slice of nodes; the lists
 //! that are joined are the ancestors (zones) and the descendants (samples).

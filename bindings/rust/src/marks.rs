@@ -38,8 +38,8 @@ pub fn unnumber_into(table: &[Row], out: &mut [u32]) -> Result<(u32, usize), Ref
     Ok((back.document, back.count))
 }
 
-/// Returns the node of each row with that tag, in row order. Nothing else of the table is judged.
-/// Refused with LONG.
+/// Returns the node of every row that has the tag, in the order of the rows. Nothing else of the
+/// table is judged. Refused with LONG.
 pub fn pick(table: &[Row], tag: u32) -> Result<Vec<Node>, Refusal> {
     let mut out = vec![Node::default(); table.len().min(MOST_NODES)];
     let count = pick_into(table, tag, &mut out)?;

@@ -11,7 +11,7 @@ use crate::ticket::Order;
 #[repr(C)]
 #[derive(Clone, Copy, Debug, Default, PartialEq, Eq, Hash)]
 pub struct Node {
-    /// The number of its document. Nodes of different documents are never inside one another.
+    /// The number of its document. No node is inside one of another document.
     pub document: u32,
     /// Where it starts in its document.
     pub start: u32,

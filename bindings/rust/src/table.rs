@@ -9,7 +9,7 @@ pub const VERSION: u32 = 1;
 pub enum Answer {
     /// Nothing below applies.
     Taken,
-    /// The words don't make whole nodes, rows or entries.
+    /// The words don't divide evenly into nodes, rows or entries.
     Ragged,
     /// There are more than 4,096 nodes, rows or marks. For the program: more than 61,440 bytes.
     Long,
@@ -26,7 +26,7 @@ pub enum Answer {
     /// Each list passes alone, but two nodes of one document, one of each list, overlap. They
     /// aren't identical, and neither is inside the other with a higher level.
     Joint,
-    /// The output is shorter than the result.
+    /// The result is longer than the output.
     Room,
     /// A mark is above 65,536.
     Mark,
@@ -34,14 +34,14 @@ pub enum Answer {
     Stray,
     /// An element or a text would have a level above 64.
     Deep,
-    /// The marks end with an element open, or there are none.
+    /// An element is still open after the last mark, or there isn't any mark.
     Unclosed,
     /// No accepted marks have this table.
     Table,
     /// A book's contents are wrong: the number of lists, the order of the tags, an offset, a count,
     /// or where the book ends.
     Contents,
-    /// The book has no list of that tag, or fewer lists than wanted.
+    /// No list of the book has that tag, or the book has fewer lists than asked for.
     Absent,
     /// An answer that this crate doesn't know, by its number.
     Unknown(u32),

@@ -14,7 +14,7 @@ use Rattle.ticket_words.specs.Words.{ticketBack}
 use Rattle.belfrychest.specs.declared.list.BelfryPart.{BelfryPart}
 use Rattle.belfrychest.specs.declared.page.BelfryPage.{BelfryPage}
 
--- The part that starts at the faulty node, as its place in the list that the verdict names. It is 0
+-- The part at the faulty node, as its place in the list that the verdict names. It is 0
 -- and 0 where the part is empty.
 unfoldable pub shownPart : List ℕ → List ℕ → BelfryPart
 shownPart ancestors descendants =

@@ -60,8 +60,8 @@ module _ (t : Ticket) (c : Call) where
   pub shows-what-it-hands-out : (shown t c ≡ handedOut (c .ancestors) (c .descendants) t (c .out)) × (answer t c .count ≡ length (shown t c))
   shows-what-it-hands-out = (shown-is t c, count-shown t c)
 
--- Demand 2. The full listing of two accepted lists is every pair with the relation asked for, once
--- each, in the order asked for.
+-- Demand 2. Two accepted lists have a full listing: all pairs with the wanted relation, each once,
+-- in the wanted order.
 module _ (ask : Asked) (c : Call) where
   -- A pair is listed exactly when both its nodes stand in their lists and the relation holds.
   pub listed-exactly-when : (p : Pair) → In p (fullListing ask c)

@@ -41,7 +41,7 @@ module _ (document : ℕ) (marks : List ℕ) (taken : checkMarks marks ≡ TAKEN
   pub rows-stand-at-their-marks : All (Marked 1 marks) (tableOf document marks)
   rows-stand-at-their-marks = table-marked document marks taken
 
-  -- y is inside x exactly when y's opening or text mark stands between x's opening and its close.
+  -- y is inside x exactly when y's first mark comes after x's opening and before x's close.
   pub inside-exactly-between : (x y : Row) → In x (tableOf document marks) → In y (tableOf document marks)
       → (insideb (y .node) (x .node) ≡ true) ↔ ((x .node .start < y .node .start) × (y .node .start < x .node .end))
   inside-exactly-between x y i j = inside-between document marks taken x y i j

@@ -34,8 +34,8 @@ fn end_at(list: &[u32], index: usize) -> u32
     list[NODE_WORDS * index + 2]
 }
 
-// Returns the index of the elder of the node at `index`: the last node before it with the same
-// parent in the same document. The node before has ended, and the links of all nodes before are
+// Returns the index of the elder of the node at `index`: the last node before it, in its document,
+// that has the same parent. The node before has ended, and the links of all nodes before are
 // written.
 pub(crate) fn elder_of(list: &[u32], links: &[u32], index: usize) -> usize
     requires { ⌜ (checkWords (now list) .answer ≡ TAKEN) × (index < count (now list)) × (index ≤ length (now links) / LINK-WORDS)

@@ -13,7 +13,7 @@ pub const NONE: u32 = 4294967295;
 
 // The links of a node, each the index of another node of the list or NONE. The parent is the
 // innermost node that contains it, the child the first node whose parent it is. The next is the
-// next node with the same parent in the same document.
+// next node in its document that has the same parent.
 pub struct Link {
     pub parent: u32,
     pub child: u32,

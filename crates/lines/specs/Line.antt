@@ -61,10 +61,10 @@ LINE-BYTES = 33
 unfoldable pub linesFor : List ℕ → List ℕ → List ℕ
 linesFor pairs text = wordsIn pairLine (take (length text / LINE-BYTES) (pairsIn (nodes pairs)))
 
--- the last line: the word `pairs` and their number
+-- the line after all pairs: the word `pairs` and how many there were
 unfoldable pub totalLine : ℕ → List ℕ
 totalLine count = word "pairs" ++ BLANK ∷ decimal count ++ LINE-FEED ∷ []
 
--- a refusal's line: the word `refused`, the number, and the name without its filling blanks
+-- a refusal's line: the word `refused`, the number, and the name up to its blanks
 unfoldable pub refusalLine : ℕ → List ℕ
 refusalLine answer = word "refused" ++ BLANK ∷ decimal answer ++ BLANK ∷ unfilled (nameOf answer) ++ LINE-FEED ∷ []

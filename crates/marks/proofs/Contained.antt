@@ -154,7 +154,7 @@ module _ (document : ℕ) (marks : List ℕ) (taken : checkMarks marks ≡ TAKEN
     settled : (x ≡ y) ⊎ (Settled x y ⊎ Settled y x)
     settled = every-two-in Settled (tableOf document marks) x y table-settled x-in y-in
 
-    -- y is inside x exactly when its opening or text mark stands between x's opening and its close
+    -- y is inside x exactly when its first mark comes after x's opening and before x's close
     pub inside-between : (insideb (y .node) (x .node) ≡ true) ↔ ((x .node .start < y .node .start) × (y .node .start < x .node .end))
     inside-between = (
       λ h. let w = within (y .node) (x .node) h in

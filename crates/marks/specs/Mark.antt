@@ -28,13 +28,13 @@ textb mark = eqb mark TEXT
 unfoldable pub openAfter : ℕ → ℕ → ℕ
 openAfter depth mark = cond (closeb mark) (depth - 1) (cond (textb mark) depth (depth + 1))
 
--- STRAY: a close or a text with nothing open, or an opening after the root has closed; after the
--- root nothing is open, and the position isn't the first
+-- STRAY: the mark closes, or is a text, while no element is open; or it opens one although the root
+-- has closed. Then nothing is open, and the position isn't the first.
 unfoldable pub strayb : ℕ → ℕ → ℕ → Bool
 strayb position depth mark = eqb depth 0 && ((closeb mark || textb mark) || ltb 1 position)
 
--- DEEP: an opening or a text whose level would be 65; its level is one more than `depth`, the
--- number of elements open
+-- DEEP: the mark opens an element, or is a text, that would have level 65; its level is one more
+-- than `depth`, the number of elements open
 unfoldable pub deepb : ℕ → ℕ → Bool
 deepb depth mark = not (closeb mark) && ltb MOST-LEVELS (depth + 1)
 

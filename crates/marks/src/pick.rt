@@ -52,8 +52,8 @@ fn put_tag(table: &[u32], tag: u32, out: &mut [u32])
     }
 }
 
-// Writes the first four words of each row with the tag `tag` into `out`, in row order, and returns
-// the number of nodes. On refusal `out` stays as it was. The rows may be any.
+// Copies words one to four of every row that has the tag `tag` into `out`, in the order of the
+// rows, and returns the number of nodes. On refusal `out` stays as it was. The rows may be any.
 pub fn pick(table: &[u32], tag: u32, out: &mut [u32]) -> Counted
     ensures { λ r. ⌜ record {
       answer : r ≡ pickOutcome (now (table .entry)) tag (now (out .entry));

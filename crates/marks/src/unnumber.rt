@@ -164,7 +164,7 @@ fn reads_back(table: &[u32], document: u32, last: u32) -> bool
 }
 
 // Returns whether `table` is that of an accepted list of marks, the last of which is the root's
-// close. No marks have no table.
+// close. An empty table is refused, since there must be a root.
 fn is_numbered(table: &[u32]) -> bool
     ensures { λ r. ⌜ r ≡ numberedb (rows (now (table .entry))) ⌝ }
 {

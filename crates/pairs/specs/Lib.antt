@@ -1,5 +1,5 @@
--- What the contracts of `pairs` cite: `Page` follows docs/SCOPE.md; `Calls` follows one listing
--- through calls.
+-- What the contract of `pairs` cites is in `Page`, which follows docs/SCOPE.md. `Calls` follows one
+-- listing through calls, for the demands.
 pub mod Calls
 pub mod Page
 pub mod Private

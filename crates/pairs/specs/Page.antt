@@ -38,8 +38,8 @@ module _ (ancestors descendants : List ℕ) (t : Ticket) (out : List ℕ) where
       cond (refusedb (checkTwo ancestors descendants)) false
       (doneb (sortKey (t .order)) (spotOf (t .place)) (room out) (listingOf t ancestors descendants))
 
-  -- The ticket that comes back. Its place is the key of the last pair written, or the old place
-  -- when none was.
+  -- The ticket that comes back. Its place is the last written pair's key; without a pair it is the
+  -- old place.
   unfoldable pub ticketAfter : Ticket
   ticketAfter = ticketAt (askedBy t) (reached (λ p. After (keyOf (t .order) p)) (t .place) handedOut)
 

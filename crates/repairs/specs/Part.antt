@@ -1,5 +1,5 @@
--- docs/SCOPE.md, "Answer numbers", last paragraph: the part that starts at the faulty node, and
--- where it lies.
+-- docs/SCOPE.md, "Answer numbers", last paragraph: the part at the faulty node, and where it
+-- lies.
 use Prim.Native.Nat.{ℕ, _*_}
 use mathlib.Core.Bool.{Bool, cond, _&&_}
 use mathlib.Core.List.{List, []}

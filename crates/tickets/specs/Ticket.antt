@@ -1,5 +1,5 @@
--- docs/SCOPE.md, "Listings and tickets": a ticket holds the relation, the order and the place
--- reached.
+-- docs/SCOPE.md, "Listings and tickets": which relation, which order and which place a
+-- ticket keeps.
 use Prim.Native.Nat.{ℕ}
 use mathlib.Core.List.{List, [], _∷_}
 use Rattle.paging.specs.Page.{Spot, fresh, after}

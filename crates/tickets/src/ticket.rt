@@ -28,7 +28,7 @@ pub enum Place {
     After(Key),
 }
 
-// What a caller keeps between two pages of a listing. Every ticket is usable, made up or not.
+// What a caller keeps between two pages of a listing. Any ticket can be used, even an invented one.
 pub struct Ticket {
     pub relation: Relation,
     pub order: Order,

@@ -1,5 +1,5 @@
--- What the contract of `writing` cites. `Wanted` and `WriteCall` have the scope's words, and `Back`
--- says what a book that was read gives for writing it again.
+-- What the contract of `writing` cites is in `Wanted` and `WriteCall`, in the scope's words. `Back`
+-- says what a book that was read gives for writing it again, for the demands.
 pub mod Back
 pub mod Wanted
 pub mod WriteCall

@@ -1,5 +1,5 @@
--- docs/SCOPE.md, "The field book": what a book is written from, which is (tag, count) entries and
--- all nodes one after the other.
+-- docs/SCOPE.md, "The field book": what a book is written from, which is entries of tag and count
+-- and the nodes of all lists in sequence.
 use Prim.Native.Nat.{ℕ, _+_, _*_, _%_}
 use mathlib.Core.Bool.{Bool, cond, not}
 use mathlib.Core.List.{List, [], _∷_, _++_}

@@ -47,7 +47,7 @@ pub record Ended (ns : List Node) (i : ℕ) : Type 0 where
   pub document : nodeIn ns (i - 1) .document ≡ nodeIn ns i .document
   pub ended : nodeIn ns (i - 1) .end < nodeIn ns i .start
 
--- e is node i's elder: the last node before it with the same parent in the same document
+-- e is node i's elder: the last node before it, in its document, that has the same parent
 pub record Elder (ns : List Node) (i e : ℕ) : Type 0 where
   pub before : e < i
   pub sibling : siblingb ns i e ≡ true
