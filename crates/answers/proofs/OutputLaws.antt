@@ -18,7 +18,7 @@ use Rattle.answers.specs.Answer.{TAKEN, ROOM}
 use Rattle.answers.specs.Output.{written, answerOf, ifTaken, outputOf, wordsIn}
 use Rattle.laws.proofs.Tests.{either}
 
--- items of `width` words each have `width` times as many words as there are items
+-- Items of `width` words each have `width` times as many words as there are items.
 module _ {A : Type 0} (words : A → List ℕ) (width : ℕ) (wide : (x : A) → length (words x) ≡ width) where
   pub length-items : (xs : List A) → length (wordsIn words xs) ≡ width * length xs
   unfolding wordsIn flatMap
@@ -31,7 +31,7 @@ module _ {A : Type 0} (words : A → List ℕ) (width : ℕ) (wide : (x : A) →
       ap (λ k. width * k) (sym (add-one (length xs))) ∙ mul-add width (length xs) 1 ∙ ap (λ k. width * length xs + k) (mul-one width) in
       omega arith
 
--- the words of two lists of items in a row
+-- The words of two lists of items in a row.
 module _ {A : Type 0} (words : A → List ℕ) where
   pub words-append : (xs ys : List A) → wordsIn words (xs ++ ys) ≡ wordsIn words xs ++ wordsIn words ys
   unfolding wordsIn flatMap
@@ -42,41 +42,41 @@ module _ {A : Type 0} (words : A → List ℕ) where
   unfolding wordsIn flatMap
   words-one-more xs x = words-append xs (x ∷ []) ∙ ap (λ zs. wordsIn words xs ++ zs) (append-nil (words x))
 
--- storing some words and then others right after them is one store of both
+-- Storing some words and then others right after them is one store of both.
 pub sets-more : (us vs ws : List ℕ) (at next : ℕ) → next ≡ at + length us → sets (sets ws at us) next vs ≡ sets ws at (us ++ vs)
 sets-more [] vs ws at next q =
     let e : next ≡ at = omega arith in
     ap (λ k. sets ws k vs) e
 sets-more (u ∷ us) vs ws at next q = sets-more us vs (set ws at u) (suc at) next (omega arith)
 
--- an output begins with the words written,
+-- An output begins with the words written,
 pub written-begins : (us out : List ℕ) → take (length us) (written us out) ≡ us
 unfolding written
 written-begins us out = take-append-seam us (drop (length us) out)
 
--- and the output is no shorter than it was
+-- And the output is no shorter than it was.
 pub no-shorter : (us out : List ℕ) → length out ≤ length (written us out)
 unfolding written
 no-shorter us out = omega (arith, length-append us (drop (length us) out), length-drop (length us) out)
 
--- storing words at the beginning is writing them
+-- Storing words at the beginning is writing them.
 pub sets-written : (us out : List ℕ) → length us ≤ length out → sets out 0 us ≡ written us out
 unfolding written
 sets-written us out h =
     let e : 0 + length us ≡ length us = omega arith in
     sets-eq us out 0 (omega arith) ∙ ap (λ k. us ++ drop k out) e
 
--- storing words right after a front part
+-- Storing words right after a front part.
 pub sets-beyond : (front rest vs : List ℕ) → length front + length vs ≤ length (front ++ rest)
     → sets (front ++ rest) (length front) vs ≡ front ++ vs ++ drop (length vs) rest
 sets-beyond front rest vs h = rw (sets-eq vs (front ++ rest) (length front) h, take-append-seam front rest, drop-append-add front rest (length vs))
 
--- writing words after others is one writing of both
+-- Writing words after others is one writing of both.
 pub written-beyond : (us vs rest : List ℕ) → us ++ written vs (drop (length us) rest) ≡ written (us ++ vs) rest
 unfolding written
 written-beyond us vs rest = rw (drop-drop (length vs) (length us) rest, length-append us vs) (sym (append-assoc us vs _))
 
--- storing words after those already written lengthens what is written
+-- Storing words after those already written lengthens what is written.
 pub written-more : (us vs out : List ℕ) → length us + length vs ≤ length out → sets (written us out) (length us) vs ≡ written (us ++ vs) out
 unfolding written
 written-more us vs out h =
@@ -84,13 +84,13 @@ written-more us vs out h =
     ∙ ap (λ rest. us ++ vs ++ rest) (drop-drop (length vs) (length us) out)
     ∙ ap (λ k. us ++ vs ++ drop k out) (sym (length-append us vs))
 
--- storing words over the end of a front part
+-- Storing words over the end of a front part.
 sets-last : (front rest vs : List ℕ) (at : ℕ) → length front ≡ at + length vs → sets (front ++ rest) at vs ≡ take at front ++ vs ++ rest
 sets-last front rest vs at e =
     sets-eq vs (front ++ rest) at (omega (arith, length-append front rest))
     ∙ rw (take-append-le at front rest (omega arith), ← e, drop-append-seam front rest) refl
 
--- storing words right before those already written lengthens what is written
+-- Storing words right before those already written lengthens what is written.
 pub sets-before : (out : List ℕ) (at : ℕ) (vs later : List ℕ) → at + length vs ≤ length out
     → sets (take (at + length vs) out ++ written later (drop (at + length vs) out)) at vs ≡ take at out ++ written (vs ++ later) (drop at out)
 sets-before out at vs later h =
@@ -100,7 +100,7 @@ sets-before out at vs later h =
     ∙ append-assoc (take at out) vs (written later (drop (length vs) (drop at out)))
     ∙ ap (λ words. take at out ++ words) (written-beyond vs later (drop at out))
 
--- what a call answers, by its fault and its room
+-- What a call answers, by its fault and its room.
 module _ (fault : ℕ) (result out : List ℕ) where
   pub answer-fault : (fault ≡ TAKEN → ⊥) → answerOf fault result out ≡ fault
   unfolding answerOf
@@ -122,7 +122,7 @@ module _ (fault : ℕ) (result out : List ℕ) where
   unfolding ifTaken
   if-refused x y h = rw (ne-eqb (answerOf fault result out) TAKEN h)
 
-  -- a call that is taken has room for its result
+  -- A call that is taken has room for its result.
   pub taken-fits : answerOf fault result out ≡ TAKEN → length result ≤ length out
   unfolding answerOf
   taken-fits h =
@@ -134,13 +134,13 @@ module _ (fault : ℕ) (result out : List ℕ) where
         | inr f ↦ absurd (eqb-false fault TAKEN f (rw f at h))
       ]
 
-  -- a refused call counts nothing and alters no word;
+  -- A refused call counts nothing and alters no word;
   pub refused-alters-nothing : (count : ℕ) → (answerOf fault result out ≡ TAKEN → ⊥)
       → (ifTaken fault result out count 0 ≡ 0) × (outputOf fault result out ≡ out)
   unfolding outputOf
   refused-alters-nothing count h = (if-refused count 0 h, if-refused (written result out) out h)
 
-  -- no call alters a word beyond its result: after the items that it counts, of `width` words each,
+  -- No call alters a word beyond its result: after the items that it counts, of `width` words each,
   -- come the words that were there;
   pub beyond-unaltered : (width count words : ℕ) → length result ≡ width * count → words ≡ width * ifTaken fault result out count 0
       → drop words (outputOf fault result out) ≡ drop words out
@@ -154,7 +154,7 @@ module _ (fault : ℕ) (result out : List ℕ) where
       e : eqb (answerOf fault result out) TAKEN ≡ true → words ≡ length result
       e h = w ∙ rw h (sym wide)
 
-  -- and no call makes the output longer or shorter
+  -- And no call makes the output longer or shorter.
   pub output-length : length (outputOf fault result out) ≡ length out
   unfolding outputOf ifTaken written
   output-length =

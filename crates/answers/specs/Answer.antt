@@ -1,4 +1,4 @@
--- docs/SCOPE.md, "Answer numbers": the numbers by name, and the one table of names.
+-- Docs/SCOPE.md, "Answer numbers": the numbers by name, and the one table of names.
 use Prim.Native.Nat.{ℕ}
 use Prim.Native.Char.{code}
 use Prim.Native.String.{String, len, charAt}
@@ -62,20 +62,20 @@ CONTENTS = 15
 abbrev pub ABSENT : ℕ
 ABSENT = 16
 
--- the names, in the order of their numbers
+-- The names, in the order of their numbers.
 unfoldable pub names : List String
 names =
     "TAKEN" ∷ "RAGGED" ∷ "LONG" ∷ "LEVEL" ∷ "SPAN" ∷ "ORDER" ∷ "CROSS" ∷ "DEPTH" ∷ "JOINT" ∷ "ROOM" ∷ "MARK" ∷ "STRAY" ∷ "DEEP"
     ∷ "UNCLOSED" ∷ "TABLE" ∷ "CONTENTS" ∷ "ABSENT" ∷ []
 
--- the ASCII byte at a place of a text, and a blank after its end
+-- The ASCII byte at a place of a text, and a blank after its end.
 unfoldable pub letterAt : String → ℕ → ℕ
 letterAt text i = cond (ltb i (len text)) (code (charAt text i)) 32
 
--- a text as a name of eight bytes, filled up with blanks
+-- A text as a name of eight bytes, filled up with blanks.
 unfoldable pub padded : String → List ℕ
 padded text = map (letterAt text) (0 ∷ 1 ∷ 2 ∷ 3 ∷ 4 ∷ 5 ∷ 6 ∷ 7 ∷ [])
 
--- the name of an answer number, or eight blanks for a number above the last one
+-- The name of an answer number, or eight blanks for a number above the last one.
 unfoldable pub nameOf : ℕ → List ℕ
 nameOf number = getD (map padded names) number (padded "")

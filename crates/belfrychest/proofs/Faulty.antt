@@ -23,8 +23,8 @@ no-words : (part list : List ℕ) → length part ≡ 0 → take (length part) l
 no-words [] list e = refl
 no-words (w ∷ part) list e = absurd (omega (arith, e))
 
--- the words of a list from a place on, as many as the part has, are the part; the place is 0 where
--- there are none
+-- The words of a list from a place on, as many as the part has, are the part; the place is 0 where
+-- there are none.
 part-of : (b : Bool) (list : List ℕ) (at : ℕ)
     → take (length (cond b (drop at list) [])) (drop (cond (eqb (length (cond b (drop at list) [])) 0) 0 at) list) ≡ cond b (drop at list) []
 part-of false list at = refl
@@ -34,7 +34,7 @@ part-of true list at =
       | inr e ↦ rw e (take-length (drop at list))
     ]
 
--- the words that C reads where the answer says are the part that the library gives
+-- The words that C reads where the answer says are the part that the library gives.
 pub faulty-words : (ancestors descendants : List ℕ) → let p = shownPart ancestors descendants in
     take (p .words) (drop (p .from) (cond (eqb (p .verdict .list) DESCENDANTS) descendants ancestors)) ≡ faultyPart ancestors descendants
 unfolding shownPart faultyPart partAt

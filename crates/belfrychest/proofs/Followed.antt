@@ -18,19 +18,19 @@ use Rattle.ticket_words.proofs.Reached.{back}
 use Rattle.belfrychest.specs.Following.{answerToC, readByC, wordsThrough, readThrough}
 use Rattle.belfrychest.specs.Shown.{shownPage}
 
--- one call: the words that it returns stand for the ticket that the library returns
+-- One call: the words that it returns stand for the ticket that the library returns.
 pub one-call : (w : TicketWords) (c : Call) → ticketOf (answerToC w c .ticket) ≡ answer (ticketOf w) c .ticket
 unfolding shownPage pageOf ticketAfter ticketOf
 one-call w c = back (keyOf (orderOf (w .order))) w (handedOut (c .ancestors) (c .descendants) (ticketOf w) (c .out))
 
--- any sequence of calls from any six words ends with words that stand for the ticket with which the
--- library's own following ends
+-- Any sequence of calls from any six words ends with words that stand for the ticket with which the
+-- library's own following ends.
 pub same-ticket : (w : TicketWords) (cs : List Call) → ticketOf (wordsThrough w cs) ≡ ticketThrough (ticketOf w) cs
 unfolding wordsThrough ticketThrough
 same-ticket w [] = refl
 same-ticket w (c ∷ cs) = same-ticket (answerToC w c .ticket) cs ∙ ap (λ (t : Ticket). ticketThrough t cs) (one-call w c)
 
--- and C reads the pairs that the library's own following shows
+-- And C reads the pairs that the library's own following shows.
 pub same-pairs : (w : TicketWords) (cs : List Call) → readThrough w cs ≡ shownThrough (ticketOf w) cs
 unfolding readThrough shownThrough shownPage
 same-pairs w [] = refl
@@ -38,12 +38,12 @@ same-pairs w (c ∷ cs) =
     ap (λ ps. readByC w c ++ ps)
     (same-pairs (answerToC w c .ticket) cs ∙ ap (λ (t : Ticket). shownThrough t cs) (one-call w c))
 
--- the next call after them answers with the verdict, the count and done of the library's next call
+-- The next call after them answers with the verdict, the count and done of the library's next call.
 pub same-answer : (w : TicketWords) (cs : List Call) (c : Call)
     → answerToC (wordsThrough w cs) c ≡ shownPage (wordsThrough w cs) (answer (ticketThrough (ticketOf w) cs) c)
 same-answer w cs c = ap (λ (t : Ticket). shownPage (wordsThrough w cs) (answer t c)) (same-ticket w cs)
 
--- a refusal returns the six words as they were, whatever they are
+-- A refusal returns the six words as they were, whatever they are.
 pub refusal-keeps-words : (w : TicketWords) (c : Call) → (answerToC w c .verdict .answer ≡ TAKEN → ⊥) → answerToC w c .ticket ≡ w
 unfolding shownPage pageOf handedOut ticketBack refusedb
 refusal-keeps-words w c h = rw (ne-eqb (checkTwo (c .ancestors) (c .descendants) .answer) TAKEN h)

@@ -20,7 +20,7 @@ use Rattle.lists.specs.Fault.{levelb, spanb, orderb, crossb, depthb, fault}
 use Rattle.answers.specs.Verdict.{refusedb}
 use Rattle.books.specs.Book.{nodesOf, checkBodies, checkParts, bookVerdict}
 
--- TAKEN, or an answer that a node draws
+-- TAKEN, or an answer that a node draws.
 abbrev pub ByNode : ℕ → Type 0
 ByNode a = (a ≡ TAKEN) ⊎ ((LEVEL ≤ a) × (a ≤ DEPTH))
 
@@ -45,7 +45,7 @@ bodies-draw list [] = inl refl
 bodies-draw list (ns ∷ bodies) =
     chosen (λ (v : Verdict). ByNode (v .answer)) (refusedb (checkNodes ns)) (nodes-draw [] 0 ns) (bodies-draw (suc list) bodies)
 
--- one of these, or CONTENTS
+-- One of these, or CONTENTS.
 abbrev pub ByBook : ℕ → Type 0
 ByBook a = ByNode a ⊎ (a ≡ CONTENTS)
 
@@ -61,7 +61,7 @@ unfolding bookVerdict contentsFault
 book-draws book =
     parts-draw (contentsFault book) (map (nodesOf book) (contentsOf book)) (fault-draws (brokenb (listsIn book) (contentsOf book) (length book)))
 
--- none of these lies between TAKEN and LEVEL, where RAGGED and LONG lie
+-- None of these lies between TAKEN and LEVEL, where RAGGED and LONG lie.
 pub from-level : (a : ℕ) → ByBook a → 1 ≤ a → LEVEL ≤ a
 from-level a h l = elim h [ inl p ↦ elim p [ inl q ↦ omega arith | inr q ↦ q .0 ] | inr p ↦ omega arith ]
 
@@ -71,7 +71,7 @@ book-never-ragged book h = let l = from-level (bookVerdict book .answer) (book-d
 pub book-never-long : (book : List ℕ) → bookVerdict book .answer ≡ LONG → ⊥
 book-never-long book h = let l = from-level (bookVerdict book .answer) (book-draws book) (omega arith) in omega arith
 
--- what is taken has no fault before its bodies
+-- What is taken has no fault before its bodies.
 pub parts-faultless : (fault : ℕ) (bodies : List (List Node)) → checkParts fault bodies .answer ≡ TAKEN → fault ≡ TAKEN
 unfolding checkParts
 parts-faultless fault bodies t =

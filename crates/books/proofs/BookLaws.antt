@@ -29,7 +29,7 @@ use Rattle.answers.specs.Verdict.{refusedb, inList, taken}
 use Rattle.lists.proofs.InBytes.{whole-bytes}
 use Rattle.books.specs.Book.{bodyOf, nodesOf, checkBodies, checkParts, bookVerdict, checkBook}
 
--- a verdict is a refusal exactly when its answer isn't TAKEN
+-- A verdict is a refusal exactly when its answer isn't TAKEN.
 pub refuses : (v : Verdict) → (v .answer ≡ TAKEN → ⊥) → refusedb v ≡ true
 unfolding refusedb
 refuses v h = rw (ne-eqb (v .answer) TAKEN h)
@@ -54,12 +54,12 @@ pub bodies-end : (list : ℕ) (whole : Verdict) → checkBodies list [] ≡ whol
 unfolding checkBodies
 bodies-end list whole l = l
 
--- a body within the book has all its bytes
+-- A body within the book has all its bytes.
 pub length-body : (book : List ℕ) (e : Entry) → e .offset + NODE-BYTES * e .count ≤ length book → length (bodyOf book e) ≡ NODE-BYTES * e .count
 unfolding bodyOf partOf
 length-body book e h = length-take-le (NODE-BYTES * e .count) (drop (e .offset) book) (omega (arith, length-drop (e .offset) book))
 
--- so its bytes are judged as its nodes are
+-- So its bytes are judged as its nodes are.
 pub body-verdict : (book : List ℕ) (e : Entry) → e .count ≤ MOST-NODES → e .offset + NODE-BYTES * e .count ≤ length book
     → checkBytes (bodyOf book e) ≡ checkNodes (nodesOf book e)
 unfolding nodesOf
@@ -67,12 +67,12 @@ body-verdict book e m h =
     let l = length-body book e h in
     whole-bytes (bodyOf book e) (omega arith) (omega arith)
 
--- the same for each body of a book whose contents keep the rules
+-- The same for each body of a book whose contents keep the rules.
 pub whole-body : (book : List ℕ) → contentsFault book ≡ TAKEN → (i : ℕ) → i < listsIn book
     → checkBytes (bodyOf book (entryAt book i)) ≡ checkNodes (nodesOf book (entryAt book i))
 whole-body book good i h = let w = entry-within book good i h in body-verdict book (entryAt book i) (w .0) (w .1)
 
--- where the answer is TAKEN, the whole verdict is `taken`
+-- Where the answer is TAKEN, the whole verdict is `taken`.
 bodies-taken : (list : ℕ) (bodies : List (List Node)) → checkBodies list bodies .answer ≡ TAKEN → checkBodies list bodies ≡ taken
 unfolding checkBodies
 bodies-taken list [] t = refl
@@ -90,7 +90,7 @@ parts-taken fault bodies t =
       | inr h ↦ absurd (eqb-false fault TAKEN h (rw h at t))
     ]
 
--- the verdict and the number of lists that an opened book carries
+-- The verdict and the number of lists that an opened book carries.
 module _ (book : List ℕ) where
   pub book-taken : bookVerdict book .answer ≡ TAKEN → bookVerdict book ≡ taken
   unfolding bookVerdict

@@ -57,13 +57,13 @@ module _ (book : List ℕ) (position : ℕ) where
       → foundAt book position ≡ found (bookVerdict book) (entryAt book position .offset) (NODE-BYTES * entryAt book position .count)
   list-found t h = rw (book-taken book t) (there taken (taken-at t h) (accepts taken refl))
 
--- the contents of a book that is taken keep the rules
+-- The contents of a book that is taken keep the rules.
 pub book-faultless : (book : List ℕ) → bookVerdict book .answer ≡ TAKEN → contentsFault book ≡ TAKEN
 unfolding bookVerdict
 book-faultless book t = parts-faultless (contentsFault book) (map (nodesOf book) (contentsOf book)) t
 
--- where tags strictly ascend, a list's tag is below all later ones, so each list is the first of
--- its own tag
+-- Where tags strictly ascend, a list's tag is below all later ones, so each list is the first of
+-- its own tag.
 above-all : (e : Entry) (es : List Entry) → ascendb (e ∷ es) ≡ true → (i : ℕ) → i < length es → e .tag < getD es i (entry 0 0 0) .tag
 unfolding ascendb
 above-all e [] a i h = absurd (omega arith)
@@ -88,7 +88,7 @@ first-of-tag (e ∷ es) a (suc i) h =
     let below = above-all e es a i (omega arith) in
     rw (ne-eqb (e .tag) tag (λ q. omega arith)) (ap suc (first-of-tag es (later-ascend e es a) i (omega arith)))
 
--- in a book that is taken, looking for a list by its tag or by its position finds the same
+-- In a book that is taken, looking for a list by its tag or by its position finds the same.
 module _ (book : List ℕ) (t : bookVerdict book .answer ≡ TAKEN) (position : ℕ) (h : position < listsIn book) where
   good : contentsFault book ≡ TAKEN
   good = book-faultless book t
@@ -115,7 +115,7 @@ module _ (book : List ℕ) (t : bookVerdict book .answer ≡ TAKEN) (position : 
   unfolding tagEntry contentsOf
   tag-entry = ap (λ i. getD (contentsOf book) i (entry 0 0 0)) own-tag ∙ entry-of book good position h
 
-  -- and its body is the one that its entry names
+  -- And its body is the one that its entry names.
   pub tag-body-at : tagBody book (listsIn book) (entryAt book position .tag) ≡ bodyOf book (entryAt book position)
   unfolding tagBody
   tag-body-at = ap (bodyOf book) tag-entry

@@ -1,4 +1,4 @@
--- docs/SCOPE.md, "The field book": its bodies, and the answer for a book.
+-- Docs/SCOPE.md, "The field book": its bodies, and the answer for a book.
 use Prim.Native.Nat.{ℕ, suc, _*_}
 use mathlib.Core.Bool.{cond}
 use mathlib.Core.List.{List, [], _∷_, map}
@@ -16,40 +16,40 @@ use Rattle.lists.specs.Check.{checkNodes}
 use Rattle.answers.specs.Verdict.{refusedb, inList, ANCESTORS, verdict, taken}
 use Rattle.books.specs.declared.book.Opened.{Opened}
 
--- the body that an entry names, as a part of the book
+-- The body that an entry names, as a part of the book.
 unfoldable pub bodyOf : List ℕ → Entry → List ℕ
 bodyOf book e = partOf book (e .offset) (NODE-BYTES * e .count)
 
--- where that body lies, given where the book begins
+-- Where that body lies, given where the book begins.
 unfoldable pub bodyPlace : ℕ × ℕ → List ℕ → Entry → ℕ × ℕ
 bodyPlace start book e = placeIn start (length book) (e .offset)
 
--- the words of the list at a position of the book, the first list having position 0
+-- The words of the list at a position of the book, the first list having position 0.
 unfoldable pub listAt : List ℕ → ℕ → List ℕ
 listAt book position = numbers (bodyOf book (entryAt book position))
 
--- the nodes of the body that an entry names
+-- The nodes of the body that an entry names.
 unfoldable pub nodesOf : List ℕ → Entry → List Node
 nodesOf book e = nodes (numbers (bodyOf book e))
 
--- the verdict on the bodies in their order, the first of them with the number `list`: the first
--- fault, with that list's number and the node's index, or TAKEN
+-- The verdict on the bodies in their order, the first of them with the number `list`: the first
+-- fault, with that list's number and the node's index, or TAKEN.
 unfoldable pub checkBodies : ℕ → List (List Node) → Verdict
 checkBodies list [] = taken
 checkBodies list (ns ∷ later) = cond (refusedb (checkNodes ns)) (inList list (checkNodes ns)) (checkBodies (suc list) later)
 
--- the verdict on a book's parts: first `fault`, which belongs to no list, then the bodies
+-- The verdict on a book's parts: first `fault`, which belongs to no list, then the bodies.
 unfoldable pub checkParts : ℕ → List (List Node) → Verdict
 checkParts fault bodies = cond (eqb fault TAKEN) (checkBodies 0 bodies) (verdict fault ANCESTORS 0)
 
--- the verdict on a book: first the contents, then the bodies in their order
+-- The verdict on a book: first the contents, then the bodies in their order.
 unfoldable pub bookVerdict : List ℕ → Verdict
 bookVerdict book = checkParts (contentsFault book) (map (nodesOf book) (contentsOf book))
 
--- what opening a book answers: the verdict, and the number of its lists, 0 when it is refused
+-- What opening a book answers: the verdict, and the number of its lists, 0 when it is refused.
 abbrev pub opened : Verdict → ℕ → Opened
 opened v lists = record { verdict = v; lists = lists }
 
--- what opening these bytes answers
+-- What opening these bytes answers.
 unfoldable pub checkBook : List ℕ → Opened
 checkBook book = opened (bookVerdict book) (cond (refusedb (bookVerdict book)) 0 (listsIn book))

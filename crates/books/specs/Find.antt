@@ -1,4 +1,4 @@
--- docs/SCOPE.md, "The field book": a list of a book by its tag or by its position, or ABSENT.
+-- Docs/SCOPE.md, "The field book": a list of a book by its tag or by its position, or ABSENT.
 use Prim.Native.Nat.{ℕ, _*_}
 use mathlib.Core.Bool.{Bool, cond}
 use mathlib.Core.List.{List}
@@ -14,45 +14,45 @@ use Rattle.answers.specs.Verdict.{refusedb, ANCESTORS, verdict, taken}
 use Rattle.books.specs.declared.find.Found.{Found}
 use Rattle.books.specs.Book.{bodyOf, bodyPlace, bookVerdict}
 
--- the index of a tag's list among the entries, or the number of entries where no list has the tag
+-- The index of a tag's list among the entries, or the number of entries where no list has the tag.
 unfoldable pub tagAt : ℕ → List Entry → ℕ
 tagAt tag es = firstAt (λ e. eqb (e .tag) tag) es
 
--- what looking for a list answers: the verdict, the body's first byte in the book and its number of
--- bytes
+-- What looking for a list answers: the verdict, the body's first byte in the book and its number of
+-- bytes.
 abbrev pub found : Verdict → ℕ → ℕ → Found
 found v from bytes = record { verdict = v; from = from; bytes = bytes }
 
--- the verdict on looking for the list at a position: the book's own refusal, then ABSENT where the
--- book has fewer lists than wanted
+-- The verdict on looking for the list at a position: the book's own refusal, then ABSENT where the
+-- book has fewer lists than wanted.
 unfoldable pub verdictAt : List ℕ → ℕ → Verdict
 verdictAt book position =
     cond (refusedb (bookVerdict book)) (bookVerdict book)
     (cond (ltb position (listsIn book)) taken (verdict ABSENT ANCESTORS 0))
 
--- that verdict, and where the list's body lies; nowhere on refusal
+-- That verdict, and where the list's body lies; nowhere on refusal.
 unfoldable pub foundAt : List ℕ → ℕ → Found
 foundAt book position =
     let v = verdictAt book position in
     let e = entryAt book position in
     cond (refusedb v) (found v 0 0) (found v (e .offset) (NODE-BYTES * e .count))
 
--- the same for the list of a tag
+-- The same for the list of a tag.
 unfoldable pub foundTag : List ℕ → ℕ → Found
 foundTag book tag = foundAt book (tagAt tag (contentsOf book))
 
--- whether one of the `lists` lists of a book that was opened before has the tag
+-- Whether one of the `lists` lists of a book that was opened before has the tag.
 unfoldable pub hasTag : List ℕ → ℕ → ℕ → Bool
 hasTag book lists tag = any (λ e. eqb (e .tag) tag) (take lists (entriesIn book))
 
--- the entry of a tag, or an entry of zeros where no list has it
+-- The entry of a tag, or an entry of zeros where no list has it.
 unfoldable pub tagEntry : List ℕ → ℕ → ℕ → Entry
 tagEntry book lists tag =
     let es = take lists (entriesIn book) in
     getD es (tagAt tag es) (entry 0 0 0)
 
--- the body of a tag as a part of the book, and where it lies; where no list has the tag, that is an
--- empty part at the book's beginning
+-- The body of a tag as a part of the book, and where it lies; where no list has the tag, that is an
+-- empty part at the book's beginning.
 unfoldable pub tagBody : List ℕ → ℕ → ℕ → List ℕ
 tagBody book lists tag = bodyOf book (tagEntry book lists tag)
 

@@ -40,7 +40,7 @@ length-entries (t ∷ o ∷ c ∷ ns) = let h = length-entries ns in omega arith
 beyond : (t o c : ℕ) (ns : List ℕ) {k m : ℕ} → m ≡ suc (suc (suc k)) → getD (t ∷ o ∷ c ∷ ns) m 0 ≡ getD ns k 0
 beyond t o c ns q = rw q
 
--- entry i has the numbers from 3 * i on
+-- Entry i has the numbers from 3 * i on.
 pub entry-numbers : (ns : List ℕ) (i : ℕ) → i < length ns / 3
     → getD (entries ns) i (entry 0 0 0) ≡ entry (getD ns (3 * i) 0) (getD ns (3 * i + 1) 0) (getD ns (3 * i + 2) 0)
 unfolding entries
@@ -55,13 +55,13 @@ entry-numbers (t ∷ o ∷ c ∷ ns) (suc i) h =
     (sym (beyond t o c ns {k = 3 * i + 1} {m = 3 * suc i + 1} (omega arith)) k)
     (sym (beyond t o c ns {k = 3 * i + 2} {m = 3 * suc i + 2} (omega arith)) k)
 
--- entries written as numbers are read as the same entries
+-- Entries written as numbers are read as the same entries.
 pub entries-of : (es : List Entry) (ns : List ℕ) → entries (wordsIn entryNumbers es ++ ns) ≡ es ++ entries ns
 unfolding entries wordsIn flatMap entryNumbers
 entries-of [] ns = refl
 entries-of (e ∷ es) ns = ap (λ fs. e ∷ fs) (entries-of es ns)
 
--- the entries of a book, as they lie in its bytes
+-- The entries of a book, as they lie in its bytes.
 module _ (book : List ℕ) where
   pub count-entries : length (entriesIn book) ≡ entryCount book
   unfolding entriesIn
@@ -91,8 +91,8 @@ module _ (book : List ℕ) where
   pub few-entries : (lists : ℕ) → length (take lists (entriesIn book)) ≤ lists
   few-entries lists = few-taken lists (entriesIn book) .0
 
-  -- the first `lists` entries, from an index on, begin with the entry there; after the last there
-  -- is none
+  -- The first `lists` entries, from an index on, begin with the entry there; after the last there
+  -- is none.
   pub entry-from : (lists i : ℕ) → i < lists → i < entryCount book
       → drop i (take lists (entriesIn book)) ≡ entryAt book i ∷ drop (i + 1) (take lists (entriesIn book))
   unfolding entryAt
@@ -104,7 +104,7 @@ module _ (book : List ℕ) where
       let l = count-entries in
       drop-of-length-le (take lists (entriesIn book)) {i = i} (elim h [ inl k ↦ omega (arith, f .0, k) | inr k ↦ omega (arith, f .1, k) ])
 
-  -- a book that is long enough for its contents has an entry for each list
+  -- A book that is long enough for its contents has an entry for each list.
   module _ (lists : ℕ) (whole : contentsEnd lists ≤ length book) where
     lists-fit : lists ≤ entryCount book
     unfolding contentsEnd
@@ -117,7 +117,7 @@ module _ (book : List ℕ) where
         → drop i (take lists (entriesIn book)) ≡ entryAt book i ∷ drop (i + 1) (take lists (entriesIn book))
     entries-from i h = entry-from lists i h (omega (arith, lists-fit))
 
--- a number is up to the most exactly when it isn't above it
+-- A number is up to the most exactly when it isn't above it.
 up-to : (n most : ℕ) → leb n most ≡ not (ltb most n)
 up-to n most =
     elim (either (ltb most n)) [
@@ -125,7 +125,7 @@ up-to n most =
       | inr h ↦ rw h (le-leb n most (ltb-false most n h))
     ]
 
--- the tags of the lists ascend, and the first is above `tag`, where a list was already passed
+-- The tags of the lists ascend, and the first is above `tag`, where a list was already passed.
 ascendFrom : Bool → ℕ → List Entry → Bool
 ascendFrom begun tag [] = true
 ascendFrom begun tag (e ∷ es) = (not begun || ltb tag (e .tag)) && ascendFrom true (e .tag) es
@@ -140,7 +140,7 @@ unfolding ascendFrom ascendb
 ascend-all tag [] = refl
 ascend-all tag (e ∷ es) = ascend-on e es
 
--- the three rules of the first list and those of the later lists, sorted by rule
+-- The three rules of the first list and those of the later lists, sorted by rule.
 regroup : (a b c x y z : Bool) → (a && (not b && c)) && (not x && (y && z)) ≡ not (b || x) && ((c && y) && (a && z))
 regroup true true c x y z = refl
 regroup false true c x y z = refl
@@ -165,19 +165,19 @@ one-broken true y z = refl
 one-broken false true z = refl
 one-broken false false z = refl
 
--- the scope's rules are those that the walk keeps to
+-- The scope's rules are those that the walk keeps to.
 keeps-rules : (lists : ℕ) (es : List Entry) (size : ℕ) → lists ≤ MOST-LISTS → brokenb lists es size ≡ not (keepsb (startOf lists) es size)
 unfolding brokenb startOf
 keeps-rules lists es size h =
     rw (le-ltb MOST-LISTS lists h, rules-from (startOf lists) es size, ascend-all 0 es)
     (one-broken (any (λ e. ltb MOST-NODES (e .count)) es) (ascendb es) (laidb (contentsEnd lists) es size))
 
--- what the walk has still to find out at a place decides the whole: the lists left keep the rules
--- exactly when all lists do
+-- What the walk has still to find out at a place decides the whole: the lists left keep the rules
+-- exactly when all lists do.
 abbrev pub Left : ContentsPlace → List Entry → ContentsPlace → List Entry → Type 0
 Left p rest start all = (size : ℕ) → keepsb p rest size ≡ keepsb start all size
 
--- what a step's answer says: at a place reached the rest decides, and a refusal decides at once
+-- What a step's answer says: at a place reached the rest decides, and a refusal decides at once.
 Steps : List Entry → ContentsPlace → List Entry → Step → Type 0
 Steps rest start all (Reached q) = Left q rest start all
 Steps rest start all (Refused answer) = Kept start all (Refused answer)
@@ -204,7 +204,7 @@ pub kept-end : (start : ContentsPlace) (all : List Entry) (q : ContentsPlace) �
 unfolding keepsb
 kept-end start all q l = λ size. ap (λ b. cond b TAKEN CONTENTS) (sym (l size))
 
--- the last step's answer is CONTENTS exactly where a rule is broken
+-- The last step's answer is CONTENTS exactly where a rule is broken.
 pub walk-answers : (lists : ℕ) (es : List Entry) (size : ℕ) → lists ≤ MOST-LISTS → (r : Step) → Kept (startOf lists) es r
     → stepAnswer r size ≡ cond (brokenb lists es size) CONTENTS TAKEN
 walk-answers lists es size few r k =
@@ -214,7 +214,7 @@ walk-answers lists es size few r k =
     turned true = refl
     turned false = refl
 
--- bodies that would begin after the book's end don't end with it
+-- Bodies that would begin after the book's end don't end with it.
 laid-beyond : (at : ℕ) (es : List Entry) (size : ℕ) → size < at → laidb at es size ≡ false
 unfolding laidb
 laid-beyond at [] size h = ne-eqb at size (λ e. omega arith)
@@ -231,7 +231,7 @@ laid-before at es size t =
       | inr h ↦ ltb-false _ _ h
     ]
 
--- the body of an entry ends within the book
+-- The body of an entry ends within the book.
 within : ℕ → Entry → Type 0
 within size e = e .offset + NODE-BYTES * e .count ≤ size
 
@@ -243,7 +243,7 @@ laid-within at (e ∷ es) size t =
     let o : e .offset ≡ at = eqb-true _ _ (p .0) in
     (omega (arith, laid-before (at + NODE-BYTES * e .count) es size (p .1)), laid-within (at + NODE-BYTES * e .count) es size (p .1))
 
--- a book too short for its contents breaks a rule, and so does one with too many lists
+-- A book too short for its contents breaks a rule, and so does one with too many lists.
 pub short-broken : (lists : ℕ) (es : List Entry) (size : ℕ) → size < contentsEnd lists → brokenb lists es size ≡ true
 unfolding brokenb
 short-broken lists es size h =
@@ -255,13 +255,13 @@ pub many-broken : (lists : ℕ) (es : List Entry) (size : ℕ) → MOST-LISTS < 
 unfolding brokenb
 many-broken lists es size h = or-left _ (lt-ltb MOST-LISTS lists h)
 
--- what the check answers for a book
+-- What the check answers for a book.
 module _ (book : List ℕ) where
   pub fault-broken : brokenb (listsIn book) (contentsOf book) (length book) ≡ true → contentsFault book ≡ CONTENTS
   unfolding contentsFault
   fault-broken h = rw h
 
-  -- what follows for a book whose contents keep the rules
+  -- What follows for a book whose contents keep the rules.
   module _ (good : contentsFault book ≡ TAKEN) where
     rules : brokenb (listsIn book) (contentsOf book) (length book) ≡ false
     rules =

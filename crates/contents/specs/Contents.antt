@@ -1,4 +1,4 @@
--- docs/SCOPE.md, "The field book": the table of contents and its rules.
+-- Docs/SCOPE.md, "The field book": the table of contents and its rules.
 use Prim.Native.Nat.{ℕ, _+_, _*_, _-_, _/_}
 use mathlib.Core.Bool.{Bool, true, cond, not, _&&_, _||_}
 use mathlib.Core.List.{List, [], _∷_}
@@ -10,61 +10,62 @@ use Rattle.nodes.specs.Words.{MOST-NODES}
 use Rattle.numbers.specs.Little.{NUMBER-BYTES, NODE-BYTES, numbers, numberCount, numberAt}
 use Rattle.contents.specs.declared.entry.Entry.{Entry}
 
--- the most lists that a book may have
+-- The most lists that a book may have.
 abbrev pub MOST-LISTS : ℕ
 MOST-LISTS = 16
 
--- an entry of the contents: a list's tag, where its body starts in the book, and how many nodes it
--- has
+-- An entry of the contents: a list's tag, where its body starts in the book, and how many nodes it
+-- has.
 abbrev pub entry : ℕ → ℕ → ℕ → Entry
 entry tag offset count = record { tag = tag; offset = offset; count = count }
 
--- how many numbers an entry takes
+-- How many numbers an entry takes.
 abbrev pub ENTRY-NUMBERS : ℕ
 ENTRY-NUMBERS = 3
 
--- the entries that the numbers make, three numbers each; up to two numbers at the end are left over
+-- The entries that the numbers make, three numbers each; up to two numbers at the end are left
+-- over.
 unfoldable pub entries : List ℕ → List Entry
 entries [] = []
 entries (t ∷ []) = []
 entries (t ∷ o ∷ []) = []
 entries (t ∷ o ∷ c ∷ ns) = entry t o c ∷ entries ns
 
--- the three numbers of an entry
+-- The three numbers of an entry.
 unfoldable pub entryNumbers : Entry → List ℕ
 entryNumbers e = e .tag ∷ e .offset ∷ e .count ∷ []
 
--- the number of lists, which is the book's first number
+-- The number of lists, which is the book's first number.
 unfoldable pub listsIn : List ℕ → ℕ
 listsIn book = numberAt book 0
 
--- all whole entries that the bytes after that number could hold, and how many they are
+-- All whole entries that the bytes after that number could hold, and how many they are.
 unfoldable pub entriesIn : List ℕ → List Entry
 entriesIn book = entries (drop 1 (numbers book))
 
 abbrev pub entryCount : List ℕ → ℕ
 entryCount book = (numberCount book - 1) / ENTRY-NUMBERS
 
--- the entry at an index, or an entry of zeros where there is none
+-- The entry at an index, or an entry of zeros where there is none.
 unfoldable pub entryAt : List ℕ → ℕ → Entry
 entryAt book index = getD (entriesIn book) index (entry 0 0 0)
 
--- the book's own entries, one for each list
+-- The book's own entries, one for each list.
 unfoldable pub contentsOf : List ℕ → List Entry
 contentsOf book = take (listsIn book) (entriesIn book)
 
--- the place right after the contents of `lists` lists
+-- The place right after the contents of `lists` lists.
 unfoldable pub contentsEnd : ℕ → ℕ
 contentsEnd lists = NUMBER-BYTES * (1 + ENTRY-NUMBERS * lists)
 
--- each entry's tag is above the one before
+-- Each entry's tag is above the one before.
 unfoldable pub ascendb : List Entry → Bool
 ascendb [] = true
 ascendb (e ∷ []) = true
 ascendb (e ∷ f ∷ es) = ltb (e .tag) (f .tag) && ascendb (f ∷ es)
 
--- the bodies lie one right after the other from byte `at` on, up to the end of the book's `size`
--- bytes
+-- The bodies lie one right after the other from byte `at` on, up to the end of the book's `size`
+-- bytes.
 unfoldable pub laidb : ℕ → List Entry → ℕ → Bool
 laidb at [] size = eqb at size
 laidb at (e ∷ es) size = eqb (e .offset) at && laidb (at + NODE-BYTES * e .count) es size
@@ -79,6 +80,6 @@ brokenb lists es size =
     || (not (ascendb es)
     || not (laidb (contentsEnd lists) es size)))
 
--- the answer for a book's contents: CONTENTS where they break a rule, otherwise TAKEN
+-- The answer for a book's contents: CONTENTS where they break a rule, otherwise TAKEN.
 unfoldable pub contentsFault : List ℕ → ℕ
 contentsFault book = cond (brokenb (listsIn book) (contentsOf book) (length book)) CONTENTS TAKEN

@@ -1,4 +1,4 @@
--- docs/SCOPE.md, "The field book": the rules of the contents, list by list, as the step along them
+-- Docs/SCOPE.md, "The field book": the rules of the contents, list by list, as the step along them
 -- answers.
 use Prim.Native.Nat.{ℕ, _+_, _*_}
 use mathlib.Core.Bool.{Bool, true, false, cond, not, _&&_, _||_}
@@ -12,24 +12,24 @@ use Rattle.contents.specs.declared.step.Step.{Step}
 use Rattle.contents.specs.declared.step.Step.the-variants.{Reached, Refused}
 use Rattle.contents.specs.Contents.{contentsEnd}
 
--- a place of the walk: whether a list was passed, that list's tag, and where its body ended
+-- A place of the walk: whether a list was passed, that list's tag, and where its body ended.
 abbrev pub contentsPlace : Bool → ℕ → ℕ → ContentsPlace
 contentsPlace begun tag end = record { begun = begun; tag = tag; end = end }
 
--- the place before the first of `lists` lists: the first body starts right after the contents
+-- The place before the first of `lists` lists: the first body starts right after the contents.
 unfoldable pub startOf : ℕ → ContentsPlace
 startOf lists = contentsPlace false 0 (contentsEnd lists)
 
--- the next list keeps the rules: its body starts where the last ended, it isn't too long, and its
--- tag is above the last one's
+-- The next list keeps the rules: its body starts where the last ended, it isn't too long, and its
+-- tag is above the last one's.
 unfoldable pub passesb : ContentsPlace → Entry → Bool
 passesb p e = eqb (e .offset) (p .end) && (leb (e .count) MOST-NODES && (not (p .begun) || ltb (p .tag) (e .tag)))
 
--- the place after the next list
+-- The place after the next list.
 unfoldable pub afterEntry : ContentsPlace → Entry → ContentsPlace
 afterEntry p e = contentsPlace true (e .tag) (p .end + NODE-BYTES * e .count)
 
--- what the step answers: the place after the next list, or the refusal CONTENTS
+-- What the step answers: the place after the next list, or the refusal CONTENTS.
 unfoldable pub stepOf : ContentsPlace → Entry → Step
 stepOf p e = cond (passesb p e) (Reached (afterEntry p e)) (Refused CONTENTS)
 

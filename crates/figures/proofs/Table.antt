@@ -30,7 +30,7 @@ use Rattle.forest.specs.Links.{upTo, firstOf, nodeIn, indices, innermostb, pare
 use Rattle.laws.proofs.Tests.{never, and-read}
 use Rattle.figures.specs.Figures.{Figure, figures, equalb, heldb}
 
--- lists of numbers that pass the test are equal
+-- Lists of numbers that pass the test are equal.
 equal : (xs ys : List ℕ) → equalb xs ys ≡ true → xs ≡ ys
 unfolding equalb
 equal [] [] h = refl
@@ -38,13 +38,13 @@ equal [] (y ∷ ys) h = absurd (never h refl)
 equal (x ∷ xs) [] h = absurd (never h refl)
 equal (x ∷ xs) (y ∷ ys) h = let p = and-read (eqb x y) h in rw (eqb-true x y (p .0), equal xs ys (p .1))
 
--- rows that pass the test have found what is stated
+-- Rows that pass the test have found what is stated.
 held : (rows : List Figure) → heldb rows ≡ true → All (λ r. r .found ≡ r .stated) rows
 unfolding heldb
 held [] h = tt
 held (r ∷ rows) h = let p = and-read (equalb (r .found) (r .stated)) h in (equal (r .found) (r .stated) (p .0), held rows (p .1))
 
--- the table passes the test
+-- The table passes the test.
 computed : heldb figures ≡ true
 unfolding figures equalb heldb checkWords wordFault raggedb longb nodes checkNodes checkFrom fault levelb spanb orderb crossb depthb any
     endsb insideb afterb openb checkTwo refusedb jointb oddsb agreeb nestedb apartb sameb keep deeperb directlyb wordsOf aboveb pastb remains
@@ -55,6 +55,6 @@ unfolding figures equalb heldb checkWords wordFault raggedb longb nodes checkNod
     linksIn linkedOf linksOutput upTo firstOf nodeIn indices innermostb parentOf childOf siblingb nextOf linkOf linksOf linkWords
 computed = refl
 
--- each row's numbers are those that docs/SCOPE.md states
+-- Each row's numbers are those that docs/SCOPE.md states.
 pub figures-hold : All (λ r. r .found ≡ r .stated) figures
 figures-hold = held figures computed

@@ -1,4 +1,4 @@
--- docs/SCOPE.md, "Figures to hold against it": the cases marked [P] and some of our own, as rows of
+-- Docs/SCOPE.md, "Figures to hold against it": the cases marked [P] and some of our own, as rows of
 -- one table. Each row has its number above it.
 use Prim.Native.Nat.{ℕ, _*_}
 use mathlib.Core.Bool.{Bool, true, false, cond, _&&_}
@@ -170,45 +170,45 @@ sixRows = (1, 11, 1, 1) ∷ (2, 10, 2, 2) ∷ (3, 7, 3, 2) ∷ (4, 6, 4, 3) ∷ 
 -- The table. A row's number and its meaning stand right above the row.
 unfoldable pub figures : List Figure
 figures =
-    -- 1: a start at an end crosses
+    -- 1: a start at an end crosses.
     one ((1, 5, 1) ∷ (5, 7, 2) ∷ []) CROSS 1
-    -- 2: zones side by side are taken
+    -- 2: zones side by side are taken.
     ∷ one ((1, 5, 1) ∷ (6, 7, 1) ∷ []) TAKEN 0
-    -- 3: equal ends cross
+    -- 3: equal ends cross.
     ∷ one ((1, 9, 1) ∷ (7, 9, 2) ∷ []) CROSS 1
-    -- 4: a zone inside another is taken
+    -- 4: a zone inside another is taken.
     ∷ one ((1, 9, 1) ∷ (7, 8, 2) ∷ []) TAKEN 0
-    -- 5: an inner level that is no deeper
+    -- 5: an inner level that is no deeper.
     ∷ one ((1, 9, 3) ∷ (2, 3, 3) ∷ []) DEPTH 1
-    -- 6: level 64 is taken
+    -- 6: level 64 is taken.
     ∷ one ((2, 2, 64) ∷ []) TAKEN 0
-    -- 7: level 65 is refused
+    -- 7: level 65 is refused.
     ∷ one ((2, 2, 65) ∷ []) LEVEL 0
-    -- 8: nodes of two lists that cross
+    -- 8: nodes of two lists that cross.
     ∷ two ((1, 9, 1) ∷ []) ((4, 12, 2) ∷ []) JOINT
     -- 9: inside, descendant order. Shortcut 1 joins only with the innermost open zone and loses
     -- pair 2-4. Shortcut 2 leaves a zone when the ancestors run out and loses pair 2-8.
     ∷ page Inside Descendant (3 ∷ []) Z S (done ((2, 4) ∷ (3, 4) ∷ (2, 8) ∷ []))
     -- 10: inside, ancestor order. Shortcut 4 prints the pairs in the order found, as in row 9.
     ∷ page Inside Ancestor (3 ∷ []) Z S (done ((2, 4) ∷ (2, 8) ∷ (3, 4) ∷ []))
-    -- 11: directly inside, descendant order
+    -- 11: directly inside, descendant order.
     ∷ page Directly Descendant (2 ∷ []) Z S (done ((3, 4) ∷ (2, 8) ∷ []))
-    -- 12: directly inside, ancestor order
+    -- 12: directly inside, ancestor order.
     ∷ page Directly Ancestor (2 ∷ []) Z S (done ((2, 8) ∷ (3, 4) ∷ []))
-    -- 13: two pages with room for two pairs each
+    -- 13: two pages with room for two pairs each.
     ∷ page Inside Descendant (2 ∷ 2 ∷ []) Z S (notDone ((2, 4) ∷ (3, 4) ∷ []) ++ done ((2, 8) ∷ []))
-    -- 14: a list joined with itself
+    -- 14: a list joined with itself.
     ∷ page Inside Descendant (3 ∷ []) Z Z (done ((2, 3) ∷ []))
-    -- 15: a refused page keeps its ticket
+    -- 15: a refused page keeps its ticket.
     ∷ refused Inside Descendant 4 2 ((1, 9, 1) ∷ []) ((4, 12, 2) ∷ []) JOINT
-    -- 16: two empty lists
+    -- 16: two empty lists.
     ∷ page Inside Descendant (1 ∷ []) [] [] (done [])
-    -- 17: inside, with a level left out: the ancestors have no node of level 3
+    -- 17: inside, with a level left out: the ancestors have no node of level 3.
     ∷ page Inside Descendant (1 ∷ []) ((2, 10, 2) ∷ []) ((4, 6, 4) ∷ []) (done ((2, 4) ∷ []))
     -- 18: directly inside, with a level left out, descendant order. Shortcut 3 takes "directly" for
     -- "innermost in the list" and hands out pair 2-4.
     ∷ page Directly Descendant (1 ∷ []) ((2, 10, 2) ∷ []) ((4, 6, 4) ∷ []) (done [])
-    -- 19: directly inside, with a level left out, ancestor order
+    -- 19: directly inside, with a level left out, ancestor order.
     ∷ page Directly Ancestor (1 ∷ []) ((2, 10, 2) ∷ []) ((4, 6, 4) ∷ []) (done [])
     -- 20: a removal between two pages. Shortcut 5 keeps an index as the place and loses pair 2-8.
     ∷ calls Inside Descendant (call 2 Z S ∷ call 2 Z ((8, 9, 3) ∷ []) ∷ []) (notDone ((2, 4) ∷ (3, 4) ∷ []) ++ done ((2, 8) ∷ []))
@@ -217,21 +217,21 @@ figures =
     (notDone ((2, 4) ∷ (2, 8) ∷ []) ++ done ((3, 4) ∷ (3, 5) ∷ []))
     -- 22: a node in both lists. Shortcut 6 takes it for JOINT, or for its own ancestor.
     ∷ page Inside Descendant (4 ∷ []) Z ((3, 7, 3) ∷ (4, 6, 4) ∷ []) (done ((2, 3) ∷ (2, 4) ∷ (3, 4) ∷ []))
-    -- 23: eleven marks numbered
+    -- 23: eleven marks numbered.
     ∷ number elevenMarks sixRows
-    -- 24: six rows turned back into marks
+    -- 24: six rows turned back into marks.
     ∷ back sixRows elevenMarks
-    -- 25: tag 2 picked
+    -- 25: tag 2 picked.
     ∷ pick sixRows 2 Z
-    -- 26: tag 3 picked
+    -- 26: tag 3 picked.
     ∷ pick sixRows 3 S
-    -- 27: the links of Z
+    -- 27: the links of Z.
     ∷ links Z (NONE ∷ 1 ∷ NONE ∷ 0 ∷ NONE ∷ NONE ∷ [])
-    -- 28: a close without an open
+    -- 28: a close without an open.
     ∷ faulty (0 ∷ []) STRAY
-    -- 29: no marks at all
+    -- 29: no marks at all.
     ∷ faulty [] UNCLOSED
-    -- 30: a second root
+    -- 30: a second root.
     ∷ faulty (1 ∷ 0 ∷ 1 ∷ 0 ∷ []) STRAY
     ∷ []
 

@@ -21,7 +21,7 @@ use Rattle.forest.specs.Linked.{linksIn, linkedOf, linksOutput}
 use Rattle.forest.proofs.LinkLaws.{links-length}
 
 module _ (list out : List ℕ) (v : Verdict) (q : v ≡ checkWords list) where
-  -- what a call answers and leaves: a faulty list's verdict, ROOM, or the links
+  -- What a call answers and leaves: a faulty list's verdict, ROOM, or the links.
   abbrev Answers : Counted → List ℕ → Type 0
   Answers r after = record { answer : r ≡ linkedOf list out; output : after ≡ linksOutput list out }
 

@@ -23,7 +23,7 @@ use Rattle.forest.specs.Links.{NONE, nodeIn, parentOf, siblingb}
 use Rattle.forest.proofs.Containing.{AcceptedList, documents, inside-unended, outside-ended, contains-between}
 use Rattle.forest.proofs.Parents.{holds, last-is-parent, parent-last, parent-before, sibling-read, sibling-make}
 
--- the two answers of the test for a document's first node
+-- The two answers of the test for a document's first node.
 module _ (ns : List Node) (i : ℕ) where
   first-read : firstb ns i ≡ true → 0 < i → nodeIn ns (i - 1) .document ≡ nodeIn ns i .document → ⊥
   unfolding firstb
@@ -38,7 +38,7 @@ module _ (ns : List Node) (i : ℕ) where
             (omega (arith, eqb-false i 0 z), eqb-true _ _ d)
       ]
 
--- on the way up from node i, p was passed. It stands before i in i's document and contains all
+-- On the way up from node i, p was passed. It stands before i in i's document and contains all
 -- nodes between the two. No node from p on contains i.
 pub record Passed (ns : List Node) (i p : ℕ) : Type 0 where
   pub before : p < i
@@ -47,7 +47,7 @@ pub record Passed (ns : List Node) (i p : ℕ) : Type 0 where
   pub outside : (j : ℕ) → p ≤ j → j < i → holds ns i j ≡ false
 
 module _ (ns : List Node) (ok : AcceptedList ns) (i : ℕ) (l : i < length ns) where
-  -- the first node of a document has neither a parent nor a sibling before it
+  -- The first node of a document has neither a parent nor a sibling before it.
   module _ (f : firstb ns i ≡ true) where
     other-document : (j : ℕ) → j < i → nodeIn ns j .document ≡ nodeIn ns i .document → ⊥
     other-document j k d =
@@ -65,8 +65,8 @@ module _ (ns : List Node) (ok : AcceptedList ns) (i : ℕ) (l : i < length ns) w
     pub first-alone : (j : ℕ) → j < i → siblingb ns i j ≡ false
     first-alone j k = not-so (λ s. other-document j k (sibling-read ns i j s .0))
 
-  -- the node before, if it is of the node's document and has not ended, is its parent and has no
-  -- child yet
+  -- The node before, if it is of the node's document and has not ended, is its parent and has no
+  -- child yet.
   module _ (p : ℕ) (q : suc p ≡ i) (d : nodeIn ns p .document ≡ nodeIn ns i .document) (h : nodeIn ns i .start ≤ nodeIn ns p .end) where
     pub before-parent : parentOf ns i ≡ p
     before-parent =
@@ -80,7 +80,7 @@ module _ (ns : List Node) (ok : AcceptedList ns) (i : ℕ) (l : i < length ns) w
         not-so (λ s. let r = sibling-read ns i j s .1 ∙ before-parent in
         omega (arith, r, parent-before ns ok j (omega arith) (λ z. omega (arith, ok .short, r, z))))
 
-  -- if it has ended, the way up begins there
+  -- If it has ended, the way up begins there.
   pub pass-before : Ended ns i → Passed ns i (i - 1)
   pass-before h = record {
     before = omega (arith, h .later);
@@ -93,8 +93,8 @@ module _ (ns : List Node) (ok : AcceptedList ns) (i : ℕ) (l : i < length ns) w
     early : e < length ns
     early = omega (arith, c .before)
 
-    -- what contains the node also contains what was passed, so no node after the parent of that
-    -- does
+    -- What contains the node also contains what was passed, so no node after the parent of that
+    -- does.
     none-after : (j : ℕ) → j < i → ((parentOf ns e ≡ NONE → ⊥) → parentOf ns e < j) → holds ns i j ≡ false
     none-after j k h =
         elim (either (ltb j e)) [
@@ -103,11 +103,11 @@ module _ (ns : List Node) (ok : AcceptedList ns) (i : ℕ) (l : i < length ns) w
           | inr a ↦ c .outside j (ltb-false j e a) k
         ]
 
-    -- that parent is of the node's document
+    -- That parent is of the node's document.
     parent-document : (parentOf ns e ≡ NONE → ⊥) → nodeIn ns (parentOf ns e) .document ≡ nodeIn ns i .document
     parent-document n = sym (within _ _ (parent-last ns ok e early .found n .1) .document) ∙ c .document
 
-    -- if that parent ended before the node, it is passed as well
+    -- If that parent ended before the node, it is passed as well.
     pub pass-parent : (parentOf ns e ≡ NONE → ⊥) → nodeIn ns (parentOf ns e) .end < nodeIn ns i .start → Passed ns i (parentOf ns e)
     pass-parent n h =
         let f = parent-last ns ok e early .found n in
@@ -127,7 +127,7 @@ module _ (ns : List Node) (ok : AcceptedList ns) (i : ℕ) (l : i < length ns) w
           ];
         }
 
-    -- if it did not, or there is none, what was passed is the elder
+    -- If it did not, or there is none, what was passed is the elder.
     module _ (h : (parentOf ns e ≡ NONE → ⊥) → nodeIn ns i .start ≤ nodeIn ns (parentOf ns e) .end) where
       same-parent : parentOf ns e ≡ parentOf ns i
       same-parent =

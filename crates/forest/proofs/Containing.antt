@@ -26,7 +26,7 @@ use Rattle.lists.proofs.Taken.{Fine, fine-settles, nested-read, words-taken-iff
 use Rattle.forest.specs.Links.{nodeIn}
 use Rattle.laws.proofs.Choices.{all-at, every-two-at}
 
--- what is known of an accepted list
+-- What is known of an accepted list.
 pub record AcceptedList (ns : List Node) : Type 0 where
   pub short : length ns ≤ MOST-NODES
   pub sound : All Sound ns
@@ -35,7 +35,7 @@ pub record AcceptedList (ns : List Node) : Type 0 where
 pub accepted-list : (ws : List ℕ) → checkWords ws .answer ≡ TAKEN → AcceptedList (nodes ws)
 accepted-list ws h = let t = words-taken-iff ws .0 h in record { short = omega (arith, length-nodes ws, t .1); sound = t .2; fine = t .3 }
 
--- a node read out of the words is that node of the list
+-- A node read out of the words is that node of the list.
 pub node-in : (ws : List ℕ) (i : ℕ) (n : Node) → n ≡ nodeAt ws i → n ≡ nodeIn (nodes ws) i
 unfolding nodeAt nodeIn
 node-in ws i n q = q
@@ -49,7 +49,7 @@ module _ (ns : List Node) (ok : AcceptedList ns) where
   unfolding nodeIn
   fine-at e i k l = every-two-at Fine ns e i (node 0 0 0 0) k l (ok .fine)
 
-  -- documents never descend
+  -- Documents never descend.
   pub documents : (e i : ℕ) → e ≤ i → i < length ns → nodeIn ns e .document ≤ nodeIn ns i .document
   documents e i k l =
       elim (eq-or-lt-of-le k) [
@@ -57,7 +57,7 @@ module _ (ns : List Node) (ok : AcceptedList ns) where
         | inr q ↦ ⊎-elim (λ p. omega arith) (λ p. omega arith) (after-read _ _ (fine-at e i q l .after))
       ]
 
-  -- of two nodes of one document the later is inside the earlier, unless that one ended before it
+  -- Of two nodes of one document the later is inside the earlier, unless that one ended before it.
   pub inside-unended : (e i : ℕ) → e < i → i < length ns → nodeIn ns e .document ≡ nodeIn ns i .document
       → nodeIn ns i .start ≤ nodeIn ns e .end → insideb (nodeIn ns i) (nodeIn ns e) ≡ true
   inside-unended e i k l d s =
@@ -67,7 +67,7 @@ module _ (ns : List Node) (ok : AcceptedList ns) where
   pub outside-ended : (e i : ℕ) → i < length ns → nodeIn ns e .end < nodeIn ns i .start → insideb (nodeIn ns i) (nodeIn ns e) ≡ false
   outside-ended e i l s = not-so (λ h. let w = within _ _ h in omega (arith, sound-at i l .span, w .end))
 
-  -- what contains a node stands before it
+  -- What contains a node stands before it.
   pub contains-before : (i e : ℕ) → e < length ns → insideb (nodeIn ns i) (nodeIn ns e) ≡ true → e < i
   contains-before i e l h =
       elim (either (ltb e i)) [
@@ -79,7 +79,7 @@ module _ (ns : List Node) (ok : AcceptedList ns) where
             ]
       ]
 
-  -- and it contains all nodes between the two
+  -- And it contains all nodes between the two.
   pub contains-between : (i j e : ℕ) → e < j → j < i → i < length ns → insideb (nodeIn ns i) (nodeIn ns e) ≡ true
       → insideb (nodeIn ns j) (nodeIn ns e) ≡ true
   contains-between i j e k m l h =

@@ -41,11 +41,11 @@ module _ (list : List ℕ) (taken : checkWords list .answer ≡ TAKEN) where
   short = omega (arith, ok .short)
 
   module _ (i : ℕ) (l : i < length ns) where
-    -- a node's parent contains it
+    -- A node's parent contains it.
     pub parent-contains : (parentOf ns i ≡ NONE → ⊥) → insideb (nodeIn ns i) (nodeIn ns (parentOf ns i)) ≡ true
     parent-contains h = parent-last ns ok i l .found h .1
 
-    -- each node that contains it is its parent or contains its parent
+    -- Each node that contains it is its parent or contains its parent.
     pub parent-innermost : (parentOf ns i ≡ NONE → ⊥) → (j : ℕ) → j < length ns → insideb (nodeIn ns i) (nodeIn ns j) ≡ true
         → (j ≡ parentOf ns i) ⊎ (insideb (nodeIn ns (parentOf ns i)) (nodeIn ns j) ≡ true)
     parent-innermost h j m c =
@@ -59,16 +59,16 @@ module _ (list : List ℕ) (taken : checkWords list .answer ≡ TAKEN) where
           ]
         ]
 
-    -- a node without a parent is contained in no node
+    -- A node without a parent is contained in no node.
     pub parentless : parentOf ns i ≡ NONE → (j : ℕ) → j < length ns → insideb (nodeIn ns i) (nodeIn ns j) ≡ false
     parentless h j m = not-so (λ c. never c (parent-last ns ok i l .last j (contains-before ns ok i j m c) (λ z. absurd (z h))))
 
-    -- parents come before their children
+    -- Parents come before their children.
     pub parent-earlier : (parentOf ns i ≡ NONE → ⊥) → parentOf ns i < i
     parent-earlier h = parent-before ns ok i l h
 
-    -- from the first child on, following next leads to all children in their order, and to no other
-    -- node
+    -- From the first child on, following next leads to all children in their order, and to no other
+    -- node.
     pub children-followed : followed ns (length ns) (childOf ns i) ≡ keep (λ j. eqb (parentOf ns j) i) (indices ns)
     unfolding childOf
     children-followed =
@@ -85,7 +85,7 @@ module _ (list : List ℕ) (taken : checkWords list .answer ≡ TAKEN) where
             (λ t. let q = eqb-true (parentOf ns m) i t ∙ sym p in
             sibling-make ns j m (one-document ns ok j m a b (λ z. omega (arith, short)) q) q)
 
-  -- the first child is the first node whose parent the node is
+  -- The first child is the first node whose parent the node is.
   pub child-first : (i : ℕ) → (childOf ns i ≡ NONE → ⊥)
       → (childOf ns i < length ns) × (parentOf ns (childOf ns i) ≡ i) × ((j : ℕ) → j < childOf ns i → parentOf ns j ≡ i → ⊥)
   unfolding childOf indices
@@ -94,13 +94,13 @@ module _ (list : List ℕ) (taken : checkWords list .answer ≡ TAKEN) where
       let c = f .found h in
       (c .0, eqb-true _ _ (c .1), λ j k. eqb-false (parentOf ns j) i (f .first j (omega (arith, c .0)) (λ z. k)))
 
-  -- a node without a first child is nobody's parent
+  -- A node without a first child is nobody's parent.
   pub childless : (i : ℕ) → childOf ns i ≡ NONE → (j : ℕ) → j < length ns → parentOf ns j ≡ i → ⊥
   unfolding childOf indices
   childless i h j k = eqb-false (parentOf ns j) i (none-found (λ m. eqb (parentOf ns m) i) (length ns) short h j k)
 
-  -- from the next node on, following next leads to all later nodes with the same parent in the same
-  -- document, in their order, and to no other
+  -- From the next node on, following next leads to all later nodes with the same parent in the same
+  -- document, in their order, and to no other.
   pub siblings-followed : (i : ℕ) → followed ns (length ns) (nextOf ns i) ≡ keep (λ j. ltb i j && siblingb ns i j) (indices ns)
   unfolding nextOf
   siblings-followed i = follow-from ns short (siblingb ns i) alike (length ns) (suc i) (omega arith)

@@ -15,15 +15,15 @@ use Rattle.laws.specs.Choose.{All}
 use Rattle.laws.proofs.Tests.{either, never}
 use Rattle.forest.specs.Links.{NONE, upTo, firstOf}
 
--- a number is NONE or not
+-- A number is NONE or not.
 pub none-or-not : (r : ℕ) → (r ≡ NONE) ⊎ (r ≡ NONE → ⊥)
 none-or-not r = elim (either (eqb r NONE)) [ inl h ↦ inl (eqb-true r NONE h) | inr h ↦ inr (eqb-false r NONE h) ]
 
--- a number below the successor of `n` is `n` or below it
+-- A number below the successor of `n` is `n` or below it.
 pub last-or-below : {n j : ℕ} → j < suc n → (j ≡ n) ⊎ (j < n)
 last-or-below k = elim (eq-or-lt-of-le k) [ inl e ↦ inl (omega arith) | inr e ↦ inr (omega arith) ]
 
--- what holds of each number below a bound holds of all of them
+-- What holds of each number below a bound holds of all of them.
 all-next : (P : ℕ → Type 0) (xs : List ℕ) (x : ℕ) → All P xs → P x → All P (xs ++ x ∷ [])
 all-next P [] x h p = (p, tt)
 all-next P (y ∷ xs) x h p = (h .0, all-next P xs x (h .1) p)
@@ -33,18 +33,18 @@ unfolding upTo
 all-up P zero f = tt
 all-up P (suc n) f = all-next P (upTo n) n (all-up P n (λ j l. f j (omega arith))) (f n (omega arith))
 
--- r is the first of the numbers below `bound` that passes a test, or NONE if none does
+-- r is the first of the numbers below `bound` that passes a test, or NONE if none does.
 pub record First (test : ℕ → Bool) (bound r : ℕ) : Type 0 where
   pub found : (r ≡ NONE → ⊥) → (r < bound) × (test r ≡ true)
   pub first : (j : ℕ) → j < bound → ((r ≡ NONE → ⊥) → j < r) → test j ≡ false
 
--- r is the last of them, or NONE if none does
+-- r is the last of them, or NONE if none does.
 pub record Last (test : ℕ → Bool) (bound r : ℕ) : Type 0 where
   pub found : (r ≡ NONE → ⊥) → (r < bound) × (test r ≡ true)
   pub last : (j : ℕ) → j < bound → ((r ≡ NONE → ⊥) → r < j) → test j ≡ false
 
 module _ (test : ℕ → Bool) where
-  -- a search goes on into a second list only if it found nothing in the first
+  -- A search goes on into a second list only if it found nothing in the first.
   stays : (xs ys : List ℕ) → (firstOf test xs ≡ NONE → ⊥) → firstOf test (xs ++ ys) ≡ firstOf test xs
   unfolding firstOf
   stays [] ys h = absurd (h refl)
@@ -88,11 +88,11 @@ module _ (test : ℕ → Bool) where
             ])
       ]
 
-  -- of two first numbers found, neither stands before the other
+  -- Of two first numbers found, neither stands before the other.
   none-before : {n r s : ℕ} → First test n r → First test n s → (r ≡ NONE → ⊥) → ((s ≡ NONE → ⊥) → r < s) → ⊥
   none-before {n} {r} {s} f g h l = never (f .found h .1) (g .first r (f .found h .0) l)
 
-  -- there is only one first number
+  -- There is only one first number.
   first-same : {n r s : ℕ} → First test n r → First test n s → r ≡ s
   first-same {n} {r} {s} f g =
       elim (none-or-not r) [
@@ -111,11 +111,11 @@ module _ (test : ℕ → Bool) where
   pub first-none : (n : ℕ) → n ≤ NONE → ((j : ℕ) → j < n → test j ≡ false) → firstOf test (upTo n) ≡ NONE
   first-none n l f = first-is l (nothing-first n f)
 
-  -- if none was found, none passes
+  -- If none was found, none passes.
   pub none-found : (n : ℕ) → n ≤ NONE → firstOf test (upTo n) ≡ NONE → (j : ℕ) → j < n → test j ≡ false
   none-found n l e j k = first-of n l .first j k (λ h. absurd (h e))
 
-  -- one number more changes what was found only if nothing was found and it passes
+  -- One number more changes what was found only if nothing was found and it passes.
   pub first-kept : (n : ℕ) → suc n ≤ NONE → (test n ≡ true → firstOf test (upTo n) ≡ NONE → ⊥) → firstOf test (upTo (suc n)) ≡ firstOf test (upTo n)
   first-kept n l h =
       let f = first-of n (omega arith) in
@@ -124,7 +124,7 @@ module _ (test : ℕ → Bool) where
   pub first-added : (n : ℕ) → suc n ≤ NONE → test n ≡ true → ((j : ℕ) → j < n → test j ≡ false) → firstOf test (upTo (suc n)) ≡ n
   first-added n l t f = first-is l (first-next (nothing-first n f) refl l t)
 
-  -- the last of the numbers below a bound that passes, or NONE
+  -- The last of the numbers below a bound that passes, or NONE.
   pub lastOf : ℕ → ℕ
   lastOf zero = NONE
   lastOf (suc n) = cond (test n) n (lastOf n)

@@ -19,7 +19,7 @@ use Rattle.forest.specs.Follow.{followed}
 use Rattle.forest.specs.Links.{NONE, upTo, firstOf, indices, nextOf, siblingb}
 use Rattle.forest.proofs.FirstAndLast.{First, none-or-not, last-or-below, all-up, first-of, none-found}
 
--- tests that agree on the numbers find and keep the same
+-- Tests that agree on the numbers find and keep the same.
 module _ (f g : ℕ → Bool) where
   pub first-alike : (xs : List ℕ) → All (λ x. f x ≡ g x) xs → firstOf f xs ≡ firstOf g xs
   unfolding firstOf
@@ -31,7 +31,7 @@ module _ (f g : ℕ → Bool) where
   keep-alike [] h = refl
   keep-alike (x ∷ xs) h = rw (h .0, keep-alike xs (h .1))
 
--- what is kept is the first that passes, and what is kept after it
+-- What is kept is the first that passes, and what is kept after it.
 keep-first : (test : ℕ → Bool) (n r : ℕ) → First test n r → (r ≡ NONE → ⊥)
     → keep test (upTo n) ≡ r ∷ keep (λ m. ltb r m && test m) (upTo n)
 unfolding upTo keep
@@ -49,7 +49,7 @@ keep-first test (suc n) r f h =
           λ t. front t ++ last t
     ])
 
--- of the numbers after `j`, all are at least `a`, where `a` is at most `j`
+-- Of the numbers after `j`, all are at least `a`, where `a` is at most `j`.
 beyond : (a j m : ℕ) → a ≤ j → (b : Bool) → (ltb j m && b) ≡ (ltb j m && (leb a m && b))
 beyond a j m l b =
     elim (either (ltb j m)) [ inl h ↦ rw (h, le-leb a m (omega (arith, ltb-true j m h))) refl | inr h ↦ rw h refl ]
@@ -64,8 +64,8 @@ module _ (ns : List Node) (short : length ns ≤ NONE) where
   unfolding followed
   follow-step steps i h = rw (ne-eqb i NONE h)
 
-  -- if the nodes that pass a test are siblings of one another and of no other node, following them
-  -- from the first on meets them all
+  -- If the nodes that pass a test are siblings of one another and of no other node, following them
+  -- from the first on meets them all.
   pub follow-from : (test : ℕ → Bool)
       → ((j m : ℕ) → j < length ns → m < length ns → test j ≡ true → siblingb ns j m ≡ test m)
       → (steps a : ℕ) → length ns ≤ a + steps

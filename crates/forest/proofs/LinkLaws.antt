@@ -23,7 +23,7 @@ use Rattle.forest.proofs.FirstAndLast.{last-or-below}
 use Rattle.forest.proofs.Containing.{AcceptedList}
 use Rattle.forest.proofs.OneMoreNode.{alone, elder-gets, elder-only, parent-only, parent-gets}
 
--- the words of the links of the first `k` nodes
+-- The words of the links of the first `k` nodes.
 abbrev words : (ℕ → Link) → ℕ → List ℕ
 words f k = wordsIn linkWords (map f (upTo k))
 
@@ -53,7 +53,7 @@ module _ (f : ℕ → Link) where
         | inr m ↦ List·getD-append (words f k) (linkWords (f k)) 0 (3 * j) (omega (arith, words-length k)) ∙ words-parent k j m
       ])
 
--- a store after some words
+-- A store after some words.
 set-beyond : (xs ys : List ℕ) (m c v : ℕ) → m ≡ length xs + c → set (xs ++ ys) m v ≡ xs ++ set ys c v
 set-beyond [] ys m c v q = ap (λ k. set ys k v) (omega arith)
 set-beyond (x ∷ xs) ys m c v q =
@@ -66,7 +66,7 @@ module _ (f g : ℕ → Link) where
   words-same (suc k) h =
       rw (words-next f k, words-next g k, h k (omega arith)) (ap (λ ws. ws ++ linkWords (f k)) (words-same k (λ j l. h j (omega arith))))
 
-  -- one store turns the links of one node into others
+  -- One store turns the links of one node into others.
   words-set : (k e c v : ℕ) → e < k → c < 3 → ((j : ℕ) → j < k → (j ≡ e → ⊥) → g j ≡ f j) → set (linkWords (f e)) c v ≡ linkWords (g e)
       → set (words f k) (3 * e + c) v ≡ words g k
   words-set zero e c v l b h s = absurd (not-suc-le-zero l)
@@ -89,12 +89,12 @@ module _ (ns : List Node) (ok : AcceptedList ns) (i : ℕ) (l : i < length ns) (
   abbrev g : ℕ → Link
   g = linkTo ns (suc i)
 
-  -- the words with the node's own links written after those of the nodes before
+  -- The words with the node's own links written after those of the nodes before.
   abbrev own : List ℕ
   own = sets out (3 * i) (linkWords (link (parentOf ns i) NONE NONE))
 
-  -- a change that gives the nodes before the links that they have with the node makes the links of
-  -- one node more
+  -- A change that gives the nodes before the links that they have with the node makes the links of
+  -- one node more.
   joined : (change : List ℕ → List ℕ) → ((tail : List ℕ) → change (words f i ++ tail) ≡ words g i ++ tail)
       → change own ≡ written (linksTo ns (i + 1)) out
   unfolding linksTo written linkWords
@@ -110,7 +110,7 @@ module _ (ns : List Node) (ok : AcceptedList ns) (i : ℕ) (l : i < length ns) (
       rw (add-one i)
       (ap change put ∙ turns (vs ++ tail) ∙ all ∙ ap (λ n. words g (suc i) ++ drop n out) long)
 
-  -- one store into the links of a node before
+  -- One store into the links of a node before.
   stored : (e c : ℕ) → e < i → c < 3 → ((j : ℕ) → j < i → (j ≡ e → ⊥) → g j ≡ f j) → set (linkWords (f e)) c i ≡ linkWords (g e)
       → set own (3 * e + c) i ≡ written (linksTo ns (i + 1)) out
   stored e c b t only gets =
@@ -118,27 +118,27 @@ module _ (ns : List Node) (ok : AcceptedList ns) (i : ℕ) (l : i < length ns) (
       set-append-left (words f i) tail (3 * e + c) i (omega (arith, words-length f i))
       ∙ ap (λ ws. ws ++ tail) (words-set f g i e c i b t only gets))
 
-  -- a node with an elder becomes the elder's next sibling
+  -- A node with an elder becomes the elder's next sibling.
   pub joined-next : (e : ℕ) → Elder ns i e → set own (3 * e + 2) i ≡ written (linksTo ns (i + 1)) out
   unfolding linkTo linkWords
   joined-next e k =
       stored e 2 (k .before) (omega arith) (elder-only ns ok i l e k) (sym (ap linkWords (elder-gets ns ok i l e k)))
 
   module _ (none : (j : ℕ) → j < i → siblingb ns i j ≡ false) where
-    -- a node without an elder becomes the first child of its parent
+    -- A node without an elder becomes the first child of its parent.
     pub joined-child : (p : ℕ) → parentOf ns i ≡ p → p < i → set own (3 * p + 1) i ≡ written (linksTo ns (i + 1)) out
     unfolding linkTo linkWords
     joined-child p q b =
         stored p 1 b (omega arith) (λ j c d. parent-only ns ok i l none j c (λ z. d (z ∙ q)))
         (sym (ap linkWords (parent-gets ns ok i l none p q b)))
 
-    -- and if it has no parent either, nothing else changes
+    -- And if it has no parent either, nothing else changes.
     pub joined-alone : parentOf ns i ≡ NONE → own ≡ written (linksTo ns (i + 1)) out
     joined-alone q =
         joined (λ ws. ws) (λ tail. ap (λ ws. ws ++ tail) (words-same f g i
         (λ j b. parent-only ns ok i l none j b (λ z. omega (arith, ok .short)))))
 
--- the links of the first nodes, as they are written in an output
+-- The links of the first nodes, as they are written in an output.
 module _ (ns : List Node) where
   pub linking : (k : ℕ) (base out : List ℕ) → out ≡ written (linksTo ns k) base → Linking ns k out
   unfolding linksTo written
@@ -164,7 +164,7 @@ module _ (ns : List Node) where
       ∙ ap (λ zs. more ++ zs) (drop-append-add ws (drop (length ws) base) 3 ∙ drop-drop 3 (length ws) base)
       ∙ ap (λ n. more ++ drop n base) (sym long)
 
--- the links of all nodes
+-- The links of all nodes.
 pub links-all : (list : List ℕ) (k : ℕ) → k ≡ count list → linksTo (nodes list) k ≡ linksIn list
 unfolding linksTo linksIn linksOf linkTo linkOf childTo nextTo childOf nextOf indices
 links-all list k q = rw (q ∙ sym (length-nodes list)) refl

@@ -22,7 +22,7 @@ module _ (ns : List Node) (ok : AcceptedList ns) (i : ℕ) (l : i < length ns) w
   few : suc i ≤ NONE
   few = omega (arith, ok .short)
 
-  -- the node itself has neither child nor next sibling yet
+  -- The node itself has neither child nor next sibling yet.
   none-under : (j : ℕ) → j < suc i → parentOf ns j ≡ i → ⊥
   none-under j k q = omega (arith, few, parent-before ns ok j (omega arith) (λ z. omega (arith, few)))
 
@@ -33,7 +33,7 @@ module _ (ns : List Node) (ok : AcceptedList ns) (i : ℕ) (l : i < length ns) w
       let next = first-none (λ j. ltb i j && siblingb ns i j) (suc i) few (λ j k. rw (le-ltb i j (omega arith))) in
       λ t. link (parentOf ns i) (child t) (next t)
 
-  -- a first child that is there stays, and a node with another parent gives none
+  -- A first child that is there stays, and a node with another parent gives none.
   child-stays : (j : ℕ) → (parentOf ns i ≡ j → childTo ns i j ≡ NONE → ⊥) → childTo ns (suc i) j ≡ childTo ns i j
   unfolding childTo
   child-stays j h = first-kept (λ m. eqb (parentOf ns m) j) i few (λ t. h (eqb-true (parentOf ns i) j t))
@@ -52,7 +52,7 @@ module _ (ns : List Node) (ok : AcceptedList ns) (i : ℕ) (l : i < length ns) w
         child-stays j (λ p q. never (eq-eqb _ _ (elder-sibling .1 ∙ p))
         (none-found (λ m. eqb (parentOf ns m) j) i (omega (arith, few)) q e (k .before)))
 
-    -- no sibling stands between the node and its elder
+    -- No sibling stands between the node and its elder.
     none-between : (m : ℕ) → m < i → (ltb e m && siblingb ns e m) ≡ true → ⊥
     none-between m b t =
         let s = elder-sibling in
@@ -68,7 +68,7 @@ module _ (ns : List Node) (ok : AcceptedList ns) (i : ℕ) (l : i < length ns) w
         let next = first-added (λ m. ltb e m && siblingb ns e m) i few own (λ m b. not-so (none-between m b)) in
         λ t. link (parentOf ns e) (child-there e t) (next t)
 
-    -- a sibling before the elder has its next one already
+    -- A sibling before the elder has its next one already.
     next-there-too : (j : ℕ) → j < i → (j ≡ e → ⊥) → siblingb ns j i ≡ true → nextTo ns i j ≡ NONE → ⊥
     unfolding nextTo
     next-there-too j b d t q =

@@ -21,7 +21,7 @@ use Rattle.forest.specs.Links.{NONE, nodeIn, indices, innermostb, parent
 use Rattle.forest.proofs.FirstAndLast.{Last, none-or-not, first-is, last-of}
 use Rattle.forest.proofs.Containing.{AcceptedList, contains-before, contains-between}
 
--- node j contains node i
+-- Node j contains node i.
 abbrev pub holds : List Node → ℕ → ℕ → Bool
 holds ns i j = insideb (nodeIn ns i) (nodeIn ns j)
 
@@ -41,7 +41,7 @@ module _ (ns : List Node) where
       and-make h (ap not (none-any _ ns (at-all _ ns (node 0 0 0 0) (λ e l. not-so (λ q. let p = and-read (holds ns i e) q in f e l (p .0) (p .1))))))
 
 module _ (ns : List Node) (ok : AcceptedList ns) (i : ℕ) (l : i < length ns) where
-  -- the last node that contains a node is its parent
+  -- The last node that contains a node is its parent.
   pub last-is-parent : (p : ℕ) → Last (holds ns i) i p → parentOf ns i ≡ p
   unfolding parentOf indices
   last-is-parent p h =
@@ -63,11 +63,11 @@ module _ (ns : List Node) (ok : AcceptedList ns) (i : ℕ) (l : i < length ns) w
   parent-last = let h = last-of (holds ns i) i (omega (arith, ok .short)) in subst (Last (holds ns i) i) (sym (last-is-parent _ h)) h
 
 module _ (ns : List Node) (ok : AcceptedList ns) where
-  -- parents come before their children
+  -- Parents come before their children.
   pub parent-before : (i : ℕ) → i < length ns → (parentOf ns i ≡ NONE → ⊥) → parentOf ns i < i
   parent-before i l h = parent-last ns ok i l .found h .0
 
-  -- nodes with one parent are of one document
+  -- Nodes with one parent are of one document.
   pub one-document : (i j : ℕ) → i < length ns → j < length ns → (parentOf ns i ≡ NONE → ⊥) → parentOf ns j ≡ parentOf ns i
       → nodeIn ns j .document ≡ nodeIn ns i .document
   one-document i j l m h q =
@@ -75,7 +75,7 @@ module _ (ns : List Node) (ok : AcceptedList ns) where
       let w = within _ _ (parent-last ns ok j m .found (λ z. h (sym q ∙ z)) .1) in
       w .document ∙ ap (λ p. nodeIn ns p .document) q ∙ sym (v .document)
 
--- siblings have one document and one parent
+-- Siblings have one document and one parent.
 module _ (ns : List Node) where
   pub sibling-read : (i j : ℕ) → siblingb ns i j ≡ true → (nodeIn ns j .document ≡ nodeIn ns i .document) × (parentOf ns j ≡ parentOf ns i)
   unfolding siblingb

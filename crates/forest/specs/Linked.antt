@@ -1,4 +1,4 @@
--- docs/SCOPE.md, "The containment forest": what the call answers and writes. The list's checks come
+-- Docs/SCOPE.md, "The containment forest": what the call answers and writes. The list's checks come
 -- first, then ROOM.
 use Prim.Native.Nat.{ℕ}
 use mathlib.Core.List.{List}
@@ -10,13 +10,13 @@ use Rattle.answers.specs.Verdict.{ANCESTORS, verdict}
 use Rattle.answers.specs.declared.verdict.Counted.{Counted}
 use Rattle.forest.specs.Links.{linksOf, linkWords}
 
--- the words of a list's links
+-- The words of a list's links.
 unfoldable pub linksIn : List ℕ → List ℕ
 linksIn list = wordsIn linkWords (linksOf (nodes list))
 
 module _ (list out : List ℕ) where
-  -- the call answers the list's own refusal with the faulty node's index, then ROOM, or else TAKEN,
-  -- both with index 0; it counts the nodes that got their links
+  -- The call answers the list's own refusal with the faulty node's index, then ROOM, or else TAKEN,
+  -- both with index 0; it counts the nodes that got their links.
   unfoldable pub linkedOf : Counted
   linkedOf =
       let checked = checkWords list in
@@ -25,6 +25,6 @@ module _ (list out : List ℕ) where
         count = ifTaken (checked .answer) (linksIn list) out (length (nodes list)) 0;
       }
 
-  -- the call writes the words of the list's links; on refusal the output is as it was
+  -- The call writes the words of the list's links; on refusal the output is as it was.
   unfoldable pub linksOutput : List ℕ
   linksOutput = outputOf (checkWords list .answer) (linksIn list) out

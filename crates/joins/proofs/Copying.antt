@@ -20,7 +20,7 @@ use Rattle.books.specs.Find.{hasTag, tagBody}
 use Rattle.joins.specs.declared.copy.Lengths.{Lengths}
 use Rattle.joins.specs.Join.{tagWords, lengths, refused, thereb, fitb, copyAnswer, lengthsOf, firstAfter, secondAfter}
 
--- a tag's list has as many words as its body has numbers
+-- A tag's list has as many words as its body has numbers.
 tag-length : (book : List ℕ) (lists tag : ℕ) (body : List ℕ) → body ≡ tagBody book lists tag → numberCount body ≡ length (tagWords book lists tag)
 unfolding tagWords
 tag-length book lists tag body e = sym (length-numbers body) ∙ ap (λ b. length (numbers b)) e
@@ -31,7 +31,7 @@ unfolding tagWords
 tag-copied book lists tag body words e h = copied-whole body words h ∙ ap (λ b. written (numbers b) words) e
 
 module _ (book : List ℕ) (lists ancestors descendants : ℕ) (first second : List ℕ) where
-  -- what is returned, and the words on return, are as defined
+  -- What is returned, and the words on return, are as defined.
   abbrev pub Answered : Lengths → List ℕ → List ℕ → Type 0
   Answered r f s = record {
     answer : r ≡ lengthsOf book lists ancestors descendants first second;
@@ -44,7 +44,7 @@ module _ (book : List ℕ) (lists ancestors descendants : ℕ) (first second : L
   unfolding lengthsOf firstAfter secondAfter
   refuses answer q h r e = rw (q, ne-eqb answer TAKEN h) (record { answer = e; first-output = refl; second-output = refl })
 
-  -- one of the tags isn't there
+  -- One of the tags isn't there.
   pub absent-first : hasTag book lists ancestors ≡ false → (r : Lengths) → r ≡ refused ABSENT → Answered r first second
   unfolding copyAnswer thereb
   absent-first h = refuses ABSENT (rw h refl) (λ e. omega arith)
@@ -55,7 +55,7 @@ module _ (book : List ℕ) (lists ancestors descendants : ℕ) (first second : L
     absent-second h = refuses ABSENT (rw (one, h) refl) (λ e. omega arith)
 
     module _ (two : hasTag book lists descendants ≡ true) (a d : List ℕ) (p : a ≡ tagBody book lists ancestors) (q : d ≡ tagBody book lists descendants) where
-      -- one of the lists doesn't fit
+      -- One of the lists doesn't fit.
       pub full-first : length first < numberCount a → (r : Lengths) → r ≡ refused ROOM → Answered r first second
       unfolding copyAnswer thereb fitb
       full-first h =
@@ -75,7 +75,7 @@ module _ (book : List ℕ) (lists ancestors descendants : ℕ) (first second : L
               lt-leb (length (tagWords book lists descendants)) (length second) (omega arith),
             ) refl) (λ e. omega arith)
 
-        -- both lists fit
+        -- Both lists fit.
         pub copies : numberCount d ≤ length second → (v : Verdict) → v ≡ taken
             → Answered (lengths v (numberCount a) (numberCount d)) (copied a first) (copied d second)
         unfolding lengthsOf firstAfter secondAfter copyAnswer thereb fitb

@@ -23,7 +23,7 @@ use Rattle.books.proofs.FindLaws.{book-faultless, tag-there, tag-body-at}
 use Rattle.joins.specs.Join.{tagWords, lengths, refused, thereb, fitb, copyAnswer, lengthsOf, firstAfter, secondAfter}
 
 module _ (book : List ℕ) (good : bookVerdict book .answer ≡ TAKEN) where
-  -- under a list's tag are its words, at most as many as the longest list has
+  -- Under a list's tag are its words, at most as many as the longest list has.
   own-words : (position : ℕ) → position < listsIn book → tagWords book (listsIn book) (entryAt book position .tag) ≡ listAt book position
   unfolding tagWords listAt
   own-words position h = ap numbers (tag-body-at book good position h)
@@ -56,20 +56,20 @@ module _ (book : List ℕ) (good : bookVerdict book .answer ≡ TAKEN) where
           le-leb (length (listAt book j)) (length second) (omega arith),
         ) refl
 
-    -- both lists are copied, whole
+    -- Both lists are copied, whole.
     pub lists-copied : (copyOf lengthsOf ≡ lengths taken (length (listAt book i)) (length (listAt book j)))
         × (copyOf firstAfter ≡ written (listAt book i) first)
         × (copyOf secondAfter ≡ written (listAt book j) second)
     unfolding lengthsOf firstAfter secondAfter
     lists-copied = rw (takes, own-words i one, own-words j two) (refl, refl, refl)
 
-    -- so the words copied are the lists'
+    -- So the words copied are the lists'.
     pub words-copied : (take (copyOf lengthsOf .ancestors) (copyOf firstAfter) ≡ listAt book i)
         × (take (copyOf lengthsOf .descendants) (copyOf secondAfter) ≡ listAt book j)
     words-copied = rw (lists-copied .0, lists-copied .1, lists-copied .2) (written-begins (listAt book i) first, written-begins (listAt book j) second)
 
--- if one of the tags isn't there, no word is copied, and the answer is ABSENT, which names no list
--- and no node
+-- If one of the tags isn't there, no word is copied, and the answer is ABSENT, which names no list
+-- and no node.
 module _ (book : List ℕ) (lists ancestors descendants : ℕ) (none : thereb book lists ancestors descendants ≡ false)
     (first second : List ℕ) where
   pub none-copied : (lengthsOf book lists ancestors descendants first second ≡ refused ABSENT)

@@ -12,43 +12,43 @@ use Rattle.answers.specs.Verdict.{ANCESTORS, verdict, taken}
 use Rattle.books.specs.Find.{hasTag, tagBody}
 use Rattle.joins.specs.declared.copy.Lengths.{Lengths}
 
--- the words of a tag's list
+-- The words of a tag's list.
 unfoldable pub tagWords : List ℕ → ℕ → ℕ → List ℕ
 tagWords book lists tag = numbers (tagBody book lists tag)
 
--- the answer of copying, with its three fields
+-- The answer of copying, with its three fields.
 abbrev pub lengths : Verdict → ℕ → ℕ → Lengths
 lengths v ancestors descendants = record { verdict = v; ancestors = ancestors; descendants = descendants }
 
--- a refusal names no list and no node, and has no words
+-- A refusal names no list and no node, and has no words.
 abbrev pub refused : ℕ → Lengths
 refused answer = lengths (verdict answer ANCESTORS 0) 0 0
 
--- both tags are there, in a book that was opened before and has `lists` lists
+-- Both tags are there, in a book that was opened before and has `lists` lists.
 unfoldable pub thereb : List ℕ → ℕ → ℕ → ℕ → Bool
 thereb book lists ancestors descendants = hasTag book lists ancestors && hasTag book lists descendants
 
--- copying the lists under two tags of such a book into the words lent for each list
+-- Copying the lists under two tags of such a book into the words lent for each list.
 module _ (book : List ℕ) (lists ancestors descendants : ℕ) (first second : List ℕ) where
-  -- neither list has more words than were lent for it
+  -- Neither list has more words than were lent for it.
   unfoldable pub fitb : Bool
   fitb = leb (length (tagWords book lists ancestors)) (length first) && leb (length (tagWords book lists descendants)) (length second)
 
-  -- the answer is ABSENT, then ROOM, or else TAKEN
+  -- The answer is ABSENT, then ROOM, or else TAKEN.
   unfoldable pub copyAnswer : ℕ
   copyAnswer = cond (thereb book lists ancestors descendants) (cond fitb TAKEN ROOM) ABSENT
 
-  -- the verdict, and how many words each list has, none on refusal
+  -- The verdict, and how many words each list has, none on refusal.
   unfoldable pub lengthsOf : Lengths
   lengthsOf =
       cond (eqb copyAnswer TAKEN) (lengths taken (length (tagWords book lists ancestors)) (length (tagWords book lists descendants)))
       (refused copyAnswer)
 
-  -- the words lent for the ancestors on return: they begin with the list's words; on refusal they
-  -- are as they were
+  -- The words lent for the ancestors on return: they begin with the list's words; on refusal they
+  -- are as they were.
   unfoldable pub firstAfter : List ℕ
   firstAfter = cond (eqb copyAnswer TAKEN) (written (tagWords book lists ancestors) first) first
 
-  -- the words lent for the descendants on return
+  -- The words lent for the descendants on return.
   unfoldable pub secondAfter : List ℕ
   secondAfter = cond (eqb copyAnswer TAKEN) (written (tagWords book lists descendants) second) second

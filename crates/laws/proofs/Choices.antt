@@ -25,12 +25,12 @@ module _ {A : Type 0} where
   all-both f [] h k = tt
   all-both f (x ∷ xs) h k = (f x (h .0) (k .0), all-both f xs (h .1) (k .1))
 
-  -- what holds of all holds of one that stands in the list
+  -- What holds of all holds of one that stands in the list.
   pub all-in : (P : A → Type 0) {x : A} (xs : List A) → All P xs → In x xs → P x
   all-in P [] h m = absurd (List·Memᴰ·not-nil m)
   all-in P (y ∷ xs) h m = elim (List·Memᴰ·cases-cons m) [ inl e ↦ subst P (sym e) (h .0) | inr k ↦ all-in P xs (h .1) k ]
 
-  -- if `any` says no, no element passes the test
+  -- If `any` says no, no element passes the test.
   pub any-none : (test : A → Bool) (xs : List A) → any test xs ≡ false → All (λ x. test x ≡ false) xs
   unfolding any
   any-none test [] h = tt
@@ -41,7 +41,7 @@ module _ {A : Type 0} where
   none-any test [] h = refl
   none-any test (x ∷ xs) h = rw (h .0) (none-any test xs (h .1))
 
-  -- whether a list has an element
+  -- Whether a list has an element.
   some : List A → Bool
   some [] = false
   some (x ∷ xs) = true
@@ -51,7 +51,7 @@ module _ {A : Type 0} where
   any-kept test [] = refl
   any-kept test (x ∷ xs) = elim (either (test x)) [ inl h ↦ rw h refl | inr h ↦ rw h (any-kept test xs) ]
 
-  -- two lists of which the same elements are kept give `any` the same answer
+  -- Two lists of which the same elements are kept give `any` the same answer.
   pub any-same : (test : A → Bool) (xs ys : List A) → keep test xs ≡ keep test ys → any test xs ≡ any test ys
   any-same test xs ys h = any-kept test xs ∙ ap some h ∙ sym (any-kept test ys)
 
@@ -59,14 +59,14 @@ module _ {A : Type 0} where
   unfolding keep
   keep-failed test x xs h = rw h
 
-  -- what is kept of two lists in a row is what is kept of the first, then of the second
+  -- What is kept of two lists in a row is what is kept of the first, then of the second.
   pub keep-append : (test : A → Bool) (xs ys : List A) → keep test (xs ++ ys) ≡ keep test xs ++ keep test ys
   unfolding keep
   keep-append test [] ys = refl
   keep-append test (x ∷ xs) ys =
       elim (either (test x)) [ inl h ↦ rw h (ap (λ zs. x ∷ zs) (keep-append test xs ys)) | inr h ↦ rw h (keep-append test xs ys) ]
 
-  -- a test that no element passes keeps nothing; one that all elements pass keeps the whole list
+  -- A test that no element passes keeps nothing; one that all elements pass keeps the whole list.
   pub keep-none : (test : A → Bool) (xs : List A) → All (λ x. test x ≡ false) xs → keep test xs ≡ []
   unfolding keep
   keep-none test [] h = refl
@@ -77,7 +77,7 @@ module _ {A : Type 0} where
   keep-all test [] h = refl
   keep-all test (x ∷ xs) h = rw (h .0) (ap (λ zs. x ∷ zs) (keep-all test xs (h .1)))
 
-  -- no more elements are kept than there are
+  -- No more elements are kept than there are.
   pub keep-fewer : (test : A → Bool) (xs : List A) → length (keep test xs) ≤ length xs
   unfolding keep
   keep-fewer test [] = omega arith
@@ -85,25 +85,25 @@ module _ {A : Type 0} where
       let h = keep-fewer test xs in
       elim (either (test x)) [ inl t ↦ rw t (omega arith) | inr t ↦ rw t (omega arith) ]
 
-  -- what holds of all elements holds of all that are kept
+  -- What holds of all elements holds of all that are kept.
   pub keep-all-of : (P : A → Type 0) (test : A → Bool) (xs : List A) → All P xs → All P (keep test xs)
   unfolding keep
   keep-all-of P test [] h = tt
   keep-all-of P test (x ∷ xs) h =
       elim (either (test x)) [ inl t ↦ rw t (h .0, keep-all-of P test xs (h .1)) | inr t ↦ rw t (keep-all-of P test xs (h .1)) ]
 
-  -- each element of a list stands in it
+  -- Each element of a list stands in it.
   pub each-in : (xs : List A) → All (λ x. In x xs) xs
   each-in [] = tt
   each-in (x ∷ xs) = (List·Memᴰ·head refl, all-map (λ y m. List·Memᴰ·tail m) xs (each-in xs))
 
-  -- what holds of all elements holds of the first n
+  -- What holds of all elements holds of the first n.
   pub take-all-of : (P : A → Type 0) (n : ℕ) (xs : List A) → All P xs → All P (take n xs)
   take-all-of P zero xs h = tt
   take-all-of P (suc n) [] h = tt
   take-all-of P (suc n) (x ∷ xs) h = (h .0, take-all-of P n xs (h .1))
 
-  -- an element that passes is kept
+  -- An element that passes is kept.
   pub keep-in : (test : A → Bool) (xs : List A) (x : A) → In x xs → test x ≡ true → In x (keep test xs)
   unfolding keep
   keep-in test [] x m t = absurd (List·Memᴰ·not-nil m)
@@ -113,13 +113,13 @@ module _ {A : Type 0} where
         | inr k ↦ elim (either (test y)) [ inl h ↦ rw h (List·Memᴰ·tail (keep-in test xs x k t)) | inr h ↦ rw h (keep-in test xs x k t) ]
       ]
 
-  -- all that are kept pass
+  -- All that are kept pass.
   pub keep-past : (test : A → Bool) (xs : List A) → All (λ x. test x ≡ true) (keep test xs)
   unfolding keep
   keep-past test [] = tt
   keep-past test (x ∷ xs) = elim (either (test x)) [ inl h ↦ rw h (h, keep-past test xs) | inr h ↦ rw h (keep-past test xs) ]
 
-  -- what holds of each element and every later one also holds among those kept
+  -- What holds of each element and every later one also holds among those kept.
   pub keep-every-two : (R : A → A → Type 0) (test : A → Bool) (xs : List A) → EveryTwo R xs → EveryTwo R (keep test xs)
   unfolding keep
   keep-every-two R test [] h = tt
@@ -129,12 +129,12 @@ module _ {A : Type 0} where
         | inr t ↦ rw t (keep-every-two R test xs (h .1))
       ]
 
-  -- if R implies S, then where R holds of each element and every later one, so does S
+  -- If R implies S, then where R holds of each element and every later one, so does S.
   pub every-two-map : {R S : A → A → Type 0} → ((x y : A) → R x y → S x y) → (xs : List A) → EveryTwo R xs → EveryTwo S xs
   every-two-map f [] h = tt
   every-two-map f (x ∷ xs) h = (all-map (f x) xs (h .0), every-two-map f xs (h .1))
 
-  -- two elements of a list are the same, or R holds of them one way or the other
+  -- Two elements of a list are the same, or R holds of them one way or the other.
   pub every-two-in : (R : A → A → Type 0) (xs : List A) (x y : A) → EveryTwo R xs → In x xs → In y xs → (x ≡ y) ⊎ (R x y ⊎ R y x)
   every-two-in R [] x y h m n = absurd (List·Memᴰ·not-nil m)
   every-two-in R (z ∷ xs) x y h m n =
@@ -149,7 +149,7 @@ module _ {A : Type 0} where
         ]
       ]
 
-  -- what holds of all holds at an index, and the other way round
+  -- What holds of all holds at an index, and the other way round.
   pub all-at : (P : A → Type 0) (xs : List A) (i : ℕ) (d : A) → i < length xs → All P xs → P (getD xs i d)
   all-at P [] i d l h = absurd (not-suc-le-zero l)
   all-at P (x ∷ xs) zero d l h = h .0
@@ -159,20 +159,20 @@ module _ {A : Type 0} where
   at-all P [] d f = tt
   at-all P (x ∷ xs) d f = (f zero (omega arith), at-all P xs d (λ i l. f (suc i) (omega arith)))
 
-  -- what holds of each element and every later one holds of those at two ascending indices
+  -- What holds of each element and every later one holds of those at two ascending indices.
   pub every-two-at : (R : A → A → Type 0) (xs : List A) (k i : ℕ) (d : A) → k < i → i < length xs → EveryTwo R xs → R (getD xs k d) (getD xs i d)
   every-two-at R [] k i d l m h = absurd (not-suc-le-zero m)
   every-two-at R (x ∷ xs) k zero d l m h = absurd (not-suc-le-zero l)
   every-two-at R (x ∷ xs) zero (suc i) d l m h = all-at (R x) xs i d (omega arith) (h .0)
   every-two-at R (x ∷ xs) (suc k) (suc i) d l m h = every-two-at R xs k i d (omega arith) (omega arith) (h .1)
 
-  -- the first n elements are at most n, and at most as many as the list has
+  -- The first n elements are at most n, and at most as many as the list has.
   pub few-taken : (n : ℕ) (xs : List A) → (length (take n xs) ≤ n) × (length (take n xs) ≤ length xs)
   few-taken zero xs = (omega arith, omega arith)
   few-taken (suc n) [] = (omega arith, omega arith)
   few-taken (suc n) (x ∷ xs) = let h = few-taken n xs in (omega (arith, h .0), omega (arith, h .1))
 
-  -- what holds of all of two lists holds of all of both in a row
+  -- What holds of all of two lists holds of all of both in a row.
   pub all-append : (P : A → Type 0) (xs ys : List A) → All P xs → All P ys → All P (xs ++ ys)
   all-append P [] ys h k = k
   all-append P (x ∷ xs) ys h k = (h .0, all-append P xs ys (h .1) k)
@@ -181,12 +181,12 @@ module _ {A : Type 0} where
   every-two-append R [] ys h k m = k
   every-two-append R (x ∷ xs) ys h k m = (all-append (R x) xs ys (h .0) (m .0), every-two-append R xs ys (h .1) k (m .1))
 
-  -- what holds of any two elements that have P holds of all pairs of a list where all have P
+  -- What holds of any two elements that have P holds of all pairs of a list where all have P.
   pub pairs-passed : (P : A → Type 0) (R : A → A → Type 0) (xs : List A) → All P xs → EveryTwo (λ x y. P x → P y → R x y) xs → EveryTwo R xs
   pairs-passed P R [] h k = tt
   pairs-passed P R (x ∷ xs) h k = (all-both (λ y p f. f (h .0) p) xs (h .1) (k .0), pairs-passed P R xs (h .1) (k .1))
 
-  -- what holds of all, or of each element and every later one, also holds from an index on
+  -- What holds of all, or of each element and every later one, also holds from an index on.
   pub all-drop : (P : A → Type 0) (k : ℕ) (xs : List A) → All P xs → All P (drop k xs)
   all-drop P zero xs h = h
   all-drop P (suc k) [] h = tt
@@ -197,14 +197,14 @@ module _ {A : Type 0} where
   every-two-drop R (suc k) [] h = tt
   every-two-drop R (suc k) (x ∷ xs) h = every-two-drop R k xs (h .1)
 
-  -- where `any` says yes, some element of the list passes
+  -- Where `any` says yes, some element of the list passes.
   pub any-some : {P : Type 0} (test : A → Bool) (xs : List A) → any test xs ≡ true → ((x : A) → In x xs → test x ≡ true → P) → P
   unfolding any
   any-some test [] h f = absurd (never h refl)
   any-some test (x ∷ xs) h f =
       elim (or-read (test x) h) [ inl t ↦ f x (List·Memᴰ·head refl) t | inr k ↦ any-some test xs k (λ y m. f y (List·Memᴰ·tail m)) ]
 
-  -- what is kept of a reversed list is what is kept of the list, reversed
+  -- What is kept of a reversed list is what is kept of the list, reversed.
   pub keep-turned : (test : A → Bool) (xs : List A) → keep test (reverse xs) ≡ reverse (keep test xs)
   unfolding keep
   keep-turned test [] = refl
@@ -214,7 +214,7 @@ module _ {A : Type 0} where
         | inr h ↦ rw (h, keep-turned test xs) (append-nil _)
       ]
 
-  -- if every element that passes `inner` passes `outer`, keeping by `outer` first changes nothing
+  -- If every element that passes `inner` passes `outer`, keeping by `outer` first changes nothing.
   pub keep-kept : (outer inner : A → Bool) → ((x : A) → inner x ≡ true → outer x ≡ true) → (xs : List A) → keep inner xs ≡ keep inner (keep outer xs)
   unfolding keep
   keep-kept outer inner h [] = refl
@@ -227,14 +227,14 @@ module _ {A : Type 0} where
         ]
       ]
 
-  -- the first n elements, from an index on, begin with the element at that index
+  -- The first n elements, from an index on, begin with the element at that index.
   pub taken-from : (xs : List A) (n i : ℕ) (d : A) → i < n → i < length xs → drop i (take n xs) ≡ getD xs i d ∷ drop (suc i) (take n xs)
   taken-from [] n i d h l = absurd (not-suc-le-zero l)
   taken-from (x ∷ xs) zero i d h l = absurd (not-suc-le-zero h)
   taken-from (x ∷ xs) (suc n) zero d h l = refl
   taken-from (x ∷ xs) (suc n) (suc i) d h l = taken-from xs n i d (omega arith) (omega arith)
 
-  -- below the end of a list the default doesn't matter
+  -- Below the end of a list the default doesn't matter.
   pub within-end : (l : List A) (n : ℕ) (d e : A) → n < length l → getD l n d ≡ getD l n e
   within-end [] n d e h = absurd (not-suc-le-zero h)
   within-end (x ∷ l) zero d e h = refl
@@ -251,12 +251,12 @@ module _ {A B : Type 0} (f : A → B) where
   map-take (suc k) [] = refl
   map-take (suc k) (x ∷ xs) = ap (λ ys. f x ∷ ys) (map-take k xs)
 
-  -- what holds of `f x` for each element x holds of all elements of the mapped list
+  -- What holds of `f x` for each element x holds of all elements of the mapped list.
   pub all-mapped : (P : B → Type 0) (xs : List A) → All (λ x. P (f x)) xs → All P (map f xs)
   all-mapped P [] h = tt
   all-mapped P (x ∷ xs) h = (h .0, all-mapped P xs (h .1))
 
-  -- the element at an index of the mapped list is `f` of the element there
+  -- The element at an index of the mapped list is `f` of the element there.
   pub map-there : (xs : List A) (i : ℕ) → i < length xs → (d : A) (e : B) → getD (map f xs) i e ≡ f (getD xs i d)
   map-there [] i h d e = absurd (not-suc-le-zero h)
   map-there (x ∷ xs) zero h d e = refl

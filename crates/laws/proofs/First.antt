@@ -27,19 +27,19 @@ module _ {A : Type 0} (test : A → Bool) where
   unfolding firstAt
   first-empty = refl
 
-  -- the index lies in the list or at its end
+  -- The index lies in the list or at its end.
   pub first-in : (xs : List A) → firstAt test xs ≤ length xs
   unfolding firstAt
   first-in [] = zero-le
   first-in (x ∷ xs) = elim (either (test x)) [ inl h ↦ rw h zero-le | inr h ↦ rw h (let p = first-in xs in omega arith) ]
 
-  -- every element before it fails
+  -- Every element before it fails.
   pub first-failed : (xs : List A) → All (λ x. test x ≡ false) (take (firstAt test xs) xs)
   unfolding firstAt
   first-failed [] = tt
   first-failed (x ∷ xs) = elim (either (test x)) [ inl h ↦ rw h tt | inr h ↦ rw h (h, first-failed xs) ]
 
-  -- a search that starts no later than the answer still finds it
+  -- A search that starts no later than the answer still finds it.
   pub first-from : (k : ℕ) (xs : List A) → k ≤ firstAt test xs → firstAt test (drop k xs) + k ≡ firstAt test xs
   unfolding firstAt
   first-from zero xs l = omega arith
@@ -51,7 +51,7 @@ module _ {A : Type 0} (test : A → Bool) where
             rw h (let p = first-from k xs (omega arith) in omega arith)
       ]
 
--- if every element that passes `other` passes `test`, the first for `test` comes no later
+-- If every element that passes `other` passes `test`, the first for `test` comes no later.
 pub first-earlier : {A : Type 0} (test other : A → Bool) → ((x : A) → other x ≡ true → test x ≡ true) → (xs : List A)
     → firstAt test xs ≤ firstAt other xs
 unfolding firstAt
@@ -62,7 +62,7 @@ first-earlier test other f (x ∷ xs) =
       | inr h ↦ rw (h, not-so (λ o. never (f x o) h)) (let p = first-earlier test other f xs in omega arith)
     ]
 
--- an element before the first that passes a test fails it
+-- An element before the first that passes a test fails it.
 pub before-first : {A : Type 0} (test : A → Bool) (xs : List A) (i : ℕ) (d : A) → i < firstAt test xs → test (getD xs i d) ≡ false
 unfolding firstAt
 before-first test [] i d l = absurd (not-suc-le-zero l)
@@ -73,14 +73,14 @@ before-first test (x ∷ xs) (suc i) d l =
       | inr h ↦ before-first test xs i d (let m : suc i < suc (firstAt test xs) = rw h at l in omega arith)
     ]
 
--- the element at `firstAt` passes the test
+-- The element at `firstAt` passes the test.
 pub first-passes : {A : Type 0} (test : A → Bool) (ns : List A) (n : A) → firstAt test ns < length ns → test (getD ns (firstAt test ns) n) ≡ true
 unfolding firstAt
 first-passes test [] n l = absurd (not-suc-le-zero l)
 first-passes test (x ∷ ns) n l =
     elim (either (test x)) [ inl h ↦ rw (h, h) refl | inr h ↦ rw h (first-passes test ns n (let m = rw h at l in omega arith)) ]
 
--- `firstAt` lies below the length exactly when some element passes
+-- `firstAt` lies below the length exactly when some element passes.
 pub first-there : {A : Type 0} (test : A → Bool) (xs : List A) → ltb (firstAt test xs) (length xs) ≡ any test xs
 unfolding any firstAt
 first-there test [] = refl

@@ -4,6 +4,6 @@
 -- equation to give to this law.
 use mathlib.Core.Path.{_≡_, sym, _∙_}
 
--- no second answer satisfies a contract: x and y both equal z, so they are equal
+-- No second answer satisfies a contract: x and y both equal z, so they are equal.
 pub only {ℓ} : {A : Type ℓ} {x y z : A} → x ≡ z → y ≡ z → x ≡ y
 only p q = p ∙ sym q

@@ -7,16 +7,16 @@ use mathlib.Core.Logic.{_⊎_, inl, inr}
 use mathlib.Core.Bool.{Bool, true, false, cond, not, _&&_, _||_}
 use lib.Dec.{T}
 
--- a Bool is true or false
+-- A Bool is true or false.
 pub either : (b : Bool) → (b ≡ true) ⊎ (b ≡ false)
 either true = inl refl
 either false = inr refl
 
--- and not both
+-- And not both.
 pub never : {b : Bool} → b ≡ true → b ≡ false → ⊥
 never {b} p q = subst T (sym p ∙ q) tt
 
--- what isn't false is true, and the other way round
+-- What isn't false is true, and the other way round.
 pub so : {b : Bool} → (b ≡ false → ⊥) → b ≡ true
 so {b = true} h = refl
 so {b = false} h = absurd (h refl)
@@ -55,18 +55,18 @@ pub not-none : (b : Bool) → not b ≡ false → b ≡ true
 not-none true p = refl
 not-none false p = absurd (never refl p)
 
--- two tests that imply one another are equal
+-- Two tests that imply one another are equal.
 pub same-test : {a b : Bool} → (a ≡ true → b ≡ true) → (b ≡ true → a ≡ true) → a ≡ b
 same-test {a = true} p q = sym (p refl)
 same-test {a = false} {b = true} p q = q refl
 same-test {a = false} {b = false} p q = refl
 
--- what holds of both answers holds of the one that a test chooses
+-- What holds of both answers holds of the one that a test chooses.
 pub chosen : {A : Type 0} (P : A → Type 0) (b : Bool) {x y : A} → P x → P y → P (cond b x y)
 chosen P true p q = p
 chosen P false p q = q
 
--- `|| (b && false)` at the end of a test changes nothing
+-- `|| (b && false)` at the end of a test changes nothing.
 pub or-end : (a b : Bool) → a ≡ (a || (b && false))
 or-end true b = refl
 or-end false true = refl

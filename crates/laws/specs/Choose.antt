@@ -4,17 +4,17 @@ use Prim.Native.Nat.{ℕ, zero, suc}
 use mathlib.Core.Bool.{Bool, false, cond, _||_}
 use mathlib.Core.List.{List, [], _∷_, List·Memᴰ}
 
--- whether some element of the list passes the test
+-- Whether some element of the list passes the test.
 unfoldable pub any {ℓ} : {A : Type ℓ} → (A → Bool) → List A → Bool
 any test [] = false
 any test (x ∷ xs) = test x || any test xs
 
--- the elements that pass the test, in their order
+-- The elements that pass the test, in their order.
 unfoldable pub keep {ℓ} : {A : Type ℓ} → (A → Bool) → List A → List A
 keep test [] = []
 keep test (x ∷ xs) = cond (test x) (x ∷ keep test xs) (keep test xs)
 
--- the index of the first element that passes the test, or the list's length where none does
+-- The index of the first element that passes the test, or the list's length where none does.
 unfoldable pub firstAt {ℓ} : {A : Type ℓ} → (A → Bool) → List A → ℕ
 firstAt test [] = zero
 firstAt test (x ∷ xs) = cond (test x) zero (suc (firstAt test xs))
@@ -31,6 +31,6 @@ abbrev pub EveryTwo : {A : Type 0} → (A → A → Type 0) → List A → Type 
 EveryTwo R [] = Unit {0}
 EveryTwo R (x ∷ xs) = All (R x) xs × EveryTwo R xs
 
--- x stands somewhere in the list
+-- x stands somewhere in the list.
 abbrev pub In : {A : Type 0} → A → List A → Type 0
 In x xs = List·Memᴰ x xs

@@ -16,7 +16,7 @@ use Rattle.laws.proofs.Tests.{either}
 use Rattle.laws.proofs.Choices.{keep-append}
 use Rattle.lines.specs.Line.{BLANK, unfilled}
 
--- a word without its blanks is no longer than the word
+-- A word without its blanks is no longer than the word.
 pub unfilled-few : (letters : List ℕ) → length (unfilled letters) ≤ length letters
 unfolding unfilled keep
 unfilled-few [] = zero-le
@@ -24,7 +24,7 @@ unfilled-few (b ∷ letters) =
     let few = unfilled-few letters in
     elim (either (not (eqb b BLANK))) [ inl h ↦ rw h (omega arith) | inr h ↦ rw h (omega arith) ]
 
--- a letter that is no blank is put after those before it, and a blank is left out
+-- A letter that is no blank is put after those before it, and a blank is left out.
 module _ (letters : List ℕ) (i : ℕ) (l : i < length letters) where
   one-letter : unfilled (take (i + 1) letters) ≡ unfilled (take i letters) ++ unfilled (getD letters i 0 ∷ [])
   unfolding unfilled

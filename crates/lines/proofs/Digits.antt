@@ -13,7 +13,7 @@ use Rattle.laws.proofs.Tests.{either}
 use Rattle.lines.specs.Line.{MOST-DIGITS, digitsTo, decimal}
 use Rattle.lines.specs.Private.DigitTable.{twoDigits}
 
--- the powers of ten
+-- The powers of ten.
 unfoldable tens : ℕ → ℕ
 tens zero = 1
 tens (suc k) = 10 * tens k
@@ -32,7 +32,7 @@ few-digits (suc most) n (suc (suc k)) h p =
           rw t (omega arith)
     ]
 
--- a limit above the number of digits changes none of them
+-- A limit above the number of digits changes none of them.
 digits-more : (most n : ℕ) → n < tens most → 1 ≤ most → digitsTo (suc most) n ≡ digitsTo most n
 unfolding digitsTo tens
 digits-more zero n h p = absurd (omega arith)
@@ -43,7 +43,7 @@ digits-more (suc (suc most)) n h p =
       | inr t ↦ rw t (ap (λ ds. ds ++ (48 + n % 10) ∷ []) (digits-more (suc most) (n / 10) (omega arith) (omega arith)))
     ]
 
--- a number of one digit, one of two, and one of more
+-- A number of one digit, one of two, and one of more.
 pub decimal-one : (n : ℕ) → n < 10 → decimal n ≡ (48 + n) ∷ []
 unfolding decimal digitsTo
 decimal-one n h = rw (lt-ltb n 10 h) refl
@@ -75,7 +75,7 @@ decimal-more n h l =
     let more = digits-more 19 m (omega arith) (omega arith) ∙ digits-more 18 m (omega arith) (omega arith) in
     digits-two 18 n h ∙ ap (λ ds. ds ++ twoDigits (n % 100)) (sym more)
 
--- and how many digits it has
+-- And how many digits it has.
 pub length-one : (n : ℕ) → n < 10 → length (decimal n) ≡ 1
 length-one n h = ap length (decimal-one n h)
 
@@ -87,7 +87,7 @@ pub length-more : (n : ℕ) → 100 ≤ n → n < 18446744073709551616 → lengt
 unfolding twoDigits
 length-more n h l = ap length (decimal-more n h l) ∙ length-append (decimal (n / 100)) (twoDigits (n % 100))
 
--- a 32-bit number has at most ten digits, and a 64-bit one at most twenty
+-- A 32-bit number has at most ten digits, and a 64-bit one at most twenty.
 pub digits-32 : (n : ℕ) → n < 4294967296 → length (decimal n) ≤ 10
 unfolding decimal tens
 digits-32 n h = few-digits MOST-DIGITS n 10 (omega arith) (omega arith)

@@ -12,14 +12,14 @@ use Rattle.lines.specs.Line.{BLANK, LINE-FEED, LINE-BYTES, decimal, pair
 use Rattle.lines.proofs.Digits.{digits-32, digits-64}
 use Rattle.lines.proofs.Putting.{Put, Told, put-parted}
 
--- a 32-bit number and a byte take at most eleven bytes, a 64-bit one and a byte at most twenty-one
+-- A 32-bit number and a byte take at most eleven bytes, a 64-bit one and a byte at most twenty-one.
 pub field-32 : (n b : ℕ) → n < 4294967296 → length (decimal n ++ b ∷ []) ≤ 11
 field-32 n b h = omega (arith, length-append (decimal n) (b ∷ []), digits-32 n h)
 
 pub field-64 : (n b : ℕ) → n < 18446744073709551616 → length (decimal n ++ b ∷ []) ≤ 21
 field-64 n b h = omega (arith, length-append (decimal n) (b ∷ []), digits-64 n h)
 
--- so three of them fill no more than a line's room
+-- So three of them fill no more than a line's room.
 pub line-few : (x y : Node) → x .document < 4294967296 → x .start < 4294967296 → y .start < 4294967296 → length (pairLine (pairWith x y)) ≤ LINE-BYTES
 unfolding pairLine
 line-few x y p q r =
@@ -36,7 +36,7 @@ line-few x y p q r =
       length-append (one ++ BLANK ∷ two ++ BLANK ∷ three) (LINE-FEED ∷ []),
     )
 
--- a field is put after a byte that parts it from what was put before
+-- A field is put after a byte that parts it from what was put before.
 pub put-field : {before : List ℕ} {at : ℕ} {after : List ℕ} {to : ℕ} (us : List ℕ) (a : ℕ) → Put before at (us ++ a ∷ []) after to
     → {after′ : List ℕ} {to′ : ℕ} (n b : ℕ) → Told after to (decimal n ++ b ∷ []) after′ to′
     → Put before at (us ++ a ∷ decimal n ++ b ∷ []) after′ to′

@@ -39,7 +39,7 @@ pair-there (x ∷ y ∷ ns) (suc i) d p h =
     (sym (beyond x y ns d {k = 2 * i} {m = 2 * suc i} (omega arith)) k)
     (sym (beyond x y ns d {k = 2 * i + 1} {m = 2 * suc i + 1} (omega arith)) k)
 
--- the lines of the first `index` pairs
+-- The lines of the first `index` pairs.
 abbrev pub firstLines : List ℕ → ℕ → List ℕ
 firstLines pairs index = wordsIn pairLine (take index (pairsIn (nodes pairs)))
 
@@ -60,8 +60,8 @@ lines-more pairs i x y h p q =
     ∙ ap (λ pair. take i (pairsIn ns) ++ pair ∷ []) e)
     ∙ words-one-more pairLine (take i (pairsIn ns)) (pairWith x y)
 
--- the first `i` pairs are those that the text has room for, if it has room for no more or there are
--- no more
+-- The first `i` pairs are those that the text has room for, if it has room for no more or there are
+-- no more.
 module _ (pairs text : List ℕ) (i : ℕ) where
   pub lines-fit : i ≡ length text / LINE-BYTES → firstLines pairs i ≡ linesFor pairs text
   unfolding linesFor

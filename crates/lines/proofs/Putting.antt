@@ -10,12 +10,12 @@ use lib.Seq.{sets, set-comm, append-snoc}
 use Rattle.answers.specs.Output.{written}
 use Rattle.answers.proofs.OutputLaws.{sets-more, sets-written}
 
--- a text is put into a buffer at a place: what the buffer holds then, and the place after the text
+-- A text is put into a buffer at a place: what the buffer holds then, and the place after the text.
 pub record Put (before : List ℕ) (at : ℕ) (us after : List ℕ) (to : ℕ) : Type 0 where
   pub place : to ≡ at + length us
   pub shows : after ≡ sets before at us
 
--- the same as a contract says it, and back
+-- The same as a contract says it, and back.
 abbrev pub Told : List ℕ → ℕ → List ℕ → List ℕ → ℕ → Type 0
 Told before at us after to = record { next : to ≡ at + length us; text : after ≡ sets before at us }
 
@@ -25,7 +25,7 @@ put-first before at us e = record { place = e .next; shows = e .text }
 pub put-told : {before : List ℕ} {at : ℕ} {us after : List ℕ} {to : ℕ} → Put before at us after to → Told before at us after to
 put-told p = record { next = p .place; text = p .shows }
 
--- the next text is put right after it
+-- The next text is put right after it.
 pub put-next : {before : List ℕ} {at : ℕ} {us after : List ℕ} {to : ℕ} → Put before at us after to → (vs : List ℕ) {after′ : List ℕ} {to′ : ℕ}
     → Told after to vs after′ to′ → Put before at (us ++ vs) after′ to′
 put-next {before} {at} {us} p vs e = record {
@@ -33,12 +33,12 @@ put-next {before} {at} {us} p vs e = record {
   shows = e .text ∙ (λ k. sets (p .shows k) (p .place k) vs) ∙ sets-more us vs before at (at + length us) refl;
 }
 
--- the next text is put right after a byte that parts the two
+-- The next text is put right after a byte that parts the two.
 pub put-parted : {before : List ℕ} {at : ℕ} {after : List ℕ} {to : ℕ} (us : List ℕ) (a : ℕ) → Put before at (us ++ a ∷ []) after to
     → (vs : List ℕ) {after′ : List ℕ} {to′ : ℕ} → Told after to vs after′ to′ → Put before at (us ++ a ∷ vs) after′ to′
 put-parted {before} {at} us a p vs {after′} {to′} e = subst (λ ws. Put before at ws after′ to′) (append-snoc us a vs) (put-next p vs e)
 
--- a text and what lies after it may be stored in either order
+-- A text and what lies after it may be stored in either order.
 set-apart : (ws : List ℕ) (at : ℕ) (us : List ℕ) (next v : ℕ) → at + length us ≤ next → sets (set ws next v) at us ≡ set (sets ws at us) next v
 set-apart ws at [] next v h = refl
 set-apart ws at (u ∷ us) next v h =
@@ -50,12 +50,12 @@ sets-apart ws at us next [] h = refl
 sets-apart ws at us next (v ∷ vs) h =
     sets-apart (set ws next v) at us (suc next) vs (omega arith) ∙ ap (λ ds. sets ds (suc next) vs) (set-apart ws at us next v h)
 
--- the last part of a text may be put first
+-- The last part of a text may be put first.
 pub sets-last-first : (ws : List ℕ) (at : ℕ) (us : List ℕ) (next : ℕ) (vs : List ℕ) → next ≡ at + length us
     → sets (sets ws next vs) at us ≡ sets ws at (us ++ vs)
 sets-last-first ws at us next vs e = sets-apart ws at us next vs (omega arith) ∙ sets-more us vs ws at next e
 
--- a text put at the beginning is what is written there
+-- A text put at the beginning is what is written there.
 abbrev pub Begins : List ℕ → List ℕ → List ℕ → ℕ → Type 0
 Begins before us after to = record { length : to ≡ length us; text : after ≡ written us before }
 

@@ -15,7 +15,7 @@ use borrow.Author.Tests.{eqb-true, eqb-false}
 use Rattle.laws.proofs.Tests.{either, and-read}
 use Rattle.lines.specs.Private.DigitTable.{Tabled}
 
--- every number below a bound passes a test
+-- Every number below a bound passes a test.
 abbrev pub each : (ℕ → Bool) → ℕ → Bool
 each test zero = true
 each test (suc k) = test k && each test k
@@ -29,7 +29,7 @@ each-at test (suc most) k h l =
       | inr e ↦ let other = eqb-false k most e in each-at test most k (both .1) (omega arith)
     ]
 
--- the two digits of a number are at its place
+-- The two digits of a number are at its place.
 abbrev pub there : List ℕ → ℕ → Bool
 there table n = eqb (getD table (2 * n) 0) (48 + n / 10) && eqb (getD table (2 * n + 1) 0) (48 + n % 10)
 

@@ -1,4 +1,4 @@
--- docs/SCOPE.md, "The printing program": the lines that it prints, as ASCII bytes.
+-- Docs/SCOPE.md, "The printing program": the lines that it prints, as ASCII bytes.
 use Prim.Native.Nat.{ℕ, zero, suc, _+_, _/_, _%_}
 use Prim.Native.String.{String}
 use mathlib.Core.Bool.{cond, not}
@@ -13,58 +13,58 @@ use Rattle.answers.specs.Output.{wordsIn}
 use Rattle.tickets.specs.Listing.{Pair}
 use Rattle.tickets.specs.PairWords.{pairsIn}
 
--- the byte of a blank
+-- The byte of a blank.
 abbrev pub BLANK : ℕ
 BLANK = 32
 
--- the byte that ends a line
+-- The byte that ends a line.
 abbrev pub LINE-FEED : ℕ
 LINE-FEED = 10
 
--- a number in decimal: the digits of its tenth, and then its last one, at most as many in all as
--- the first argument says
+-- A number in decimal: the digits of its tenth, and then its last one, at most as many in all as
+-- the first argument says.
 unfoldable pub digitsTo : ℕ → ℕ → List ℕ
 digitsTo zero n = []
 digitsTo (suc most) n = cond (ltb n 10) ((48 + n) ∷ []) (digitsTo most (n / 10) ++ (48 + n % 10) ∷ [])
 
--- the most digits of a 64-bit number
+-- The most digits of a 64-bit number.
 abbrev pub MOST-DIGITS : ℕ
 MOST-DIGITS = 20
 
--- a 64-bit number in decimal
+-- A 64-bit number in decimal.
 unfoldable pub decimal : ℕ → List ℕ
 decimal n = digitsTo MOST-DIGITS n
 
--- a word without its filling blanks
+-- A word without its filling blanks.
 unfoldable pub unfilled : List ℕ → List ℕ
 unfilled letters = keep (λ b. not (eqb b BLANK)) letters
 
--- the bytes of a word
+-- The bytes of a word.
 unfoldable pub word : String → List ℕ
 word text = unfilled (padded text)
 
--- a pair of an ancestor and a descendant
+-- A pair of an ancestor and a descendant.
 abbrev pub pairWith : Node → Node → Pair
 pairWith x y = record { ancestor = x; descendant = y }
 
--- a pair's line: document, ancestor's start, descendant's start, with single blanks
+-- A pair's line: document, ancestor's start, descendant's start, with single blanks.
 unfoldable pub pairLine : Pair → List ℕ
 pairLine p =
     decimal (p .ancestor .document) ++ BLANK ∷ decimal (p .ancestor .start) ++ BLANK ∷ decimal (p .descendant .start) ++ LINE-FEED ∷ []
 
--- the most bytes of a pair's line: three numbers of ten digits, and a byte after each
+-- The most bytes of a pair's line: three numbers of ten digits, and a byte after each.
 abbrev pub LINE-BYTES : ℕ
 LINE-BYTES = 33
 
--- the lines of the pairs that the words make, but only of as many pairs as the text has room for,
--- however long their lines are
+-- The lines of the pairs that the words make, but only of as many pairs as the text has room for,
+-- however long their lines are.
 unfoldable pub linesFor : List ℕ → List ℕ → List ℕ
 linesFor pairs text = wordsIn pairLine (take (length text / LINE-BYTES) (pairsIn (nodes pairs)))
 
--- the line after all pairs: the word `pairs` and how many there were
+-- The line after all pairs: the word `pairs` and how many there were.
 unfoldable pub totalLine : ℕ → List ℕ
 totalLine count = word "pairs" ++ BLANK ∷ decimal count ++ LINE-FEED ∷ []
 
--- a refusal's line: the word `refused`, the number, and the name up to its blanks
+-- A refusal's line: the word `refused`, the number, and the name up to its blanks.
 unfoldable pub refusalLine : ℕ → List ℕ
 refusalLine answer = word "refused" ++ BLANK ∷ decimal answer ++ BLANK ∷ unfilled (nameOf answer) ++ LINE-FEED ∷ []

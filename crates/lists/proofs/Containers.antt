@@ -22,19 +22,19 @@ use Rattle.lists.specs.Check.{checkNodes, checkWords}
 use Rattle.lists.proofs.Faults.{Sound}
 use Rattle.lists.proofs.Taken.{Fine, nested-read, fine-settles, taken-iff, words-taken-iff}
 
--- if e contains n, its level is at least b and below n's
+-- If e contains n, its level is at least b and below n's.
 abbrev Between : ℕ → Node → Node → Type 0
 Between b n e = insideb n e ≡ true → (b ≤ e .level) × (e .level < n .level)
 
--- no earlier node lies inside a later one
+-- No earlier node lies inside a later one.
 none-later : (e n : Node) → Fine e n → insideb e n ≡ true → ⊥
 none-later e n f h = let w = within e n h in omega (arith, after-starts n e (f .after) (w .document))
 
--- a later node that starts before an earlier one has ended has a higher level
+-- A later node that starts before an earlier one has ended has a higher level.
 climbs : (e f : Node) → Fine e f → f .start ≤ f .end → e .document ≡ f .document → f .start ≤ e .end → e .level < f .level
 climbs e f g span d s = ⊎-elim (λ q. omega arith) (λ q. nested-read f e q .1) (fine-settles f e span g d)
 
--- of any two nodes of a taken list the outer one has the lower level, whichever comes first
+-- Of any two nodes of a taken list the outer one has the lower level, whichever comes first.
 all-between : (ns : List Node) → All Sound ns → EveryTwo Fine ns → All (λ n. All (Between 1 n) ns) ns
 all-between [] s p = tt
 all-between (m ∷ ns) s p =
@@ -45,7 +45,7 @@ all-between (m ∷ ns) s p =
     )
 
 module _ (n : Node) (span : n .start ≤ n .end) where
-  -- each node that contains n has a level of its own
+  -- Each node that contains n has a level of its own.
   levels : (b : ℕ) (ns : List Node) → b ≤ n .level → EveryTwo Fine ns → All (Between b n) ns → length (keep (insideb n) ns) + b ≤ n .level
   unfolding keep
   levels b [] l p h = omega arith
@@ -59,13 +59,13 @@ module _ (n : Node) (span : n .start ≤ n .end) where
         | inr k ↦ rw k (levels b ns l (p .1) (h .1))
       ]
 
--- fewer nodes than there are levels contain a given node of a taken list
+-- Fewer nodes than there are levels contain a given node of a taken list.
 pub containers : (ns : List Node) → checkNodes ns .answer ≡ TAKEN → All (λ n. length (keep (insideb n) ns) < MOST-LEVELS) ns
 containers ns h =
     let t = taken-iff ns .0 h in
     all-both (λ n s b. omega (arith, levels n (s .span) 1 ns (s .lowest) (t .1) b)) ns (t .0) (all-between ns (t .0) (t .1))
 
--- a text contains no node of an accepted list, since none of them ends before it starts
+-- A text contains no node of an accepted list, since none of them ends before it starts.
 pub text-contains-nothing : (words : List ℕ) → checkWords words .answer ≡ TAKEN → (x y : Node) → In y (nodes words) → x .end ≡ x .start
     → insideb y x ≡ false
 text-contains-nothing words h x y m t = text-empty y x (all-in Sound (nodes words) (words-taken-iff words .0 h .2) m .span) t

@@ -15,13 +15,13 @@ use Rattle.nodes.specs.Node.{insideb, openb, MOST-LEVELS}
 use Rattle.laws.proofs.Tests.{never, or-none}
 use Rattle.lists.specs.Fault.{levelb, spanb}
 
--- a node's level is from 1 to 64, and it doesn't end before it starts
+-- A node's level is from 1 to 64, and it doesn't end before it starts.
 pub record Sound (n : Node) : Type 0 where
   pub lowest : 1 ≤ n .level
   pub highest : n .level ≤ MOST-LEVELS
   pub span : n .start ≤ n .end
 
--- where the first test doesn't apply, the answer is what the later tests say
+-- Where the first test doesn't apply, the answer is what the later tests say.
 pub skip : (b : Bool) (k rest : ℕ) → (cond b (suc k) rest ≡ TAKEN) ↔ ((b ≡ false) × (rest ≡ TAKEN))
 skip true k rest = (λ h. absurd (omega arith), λ h. absurd (never refl (h .0)))
 skip false k rest = (λ h. (refl, h), λ h. h .1)
@@ -40,7 +40,7 @@ pub span-sound : (n : Node) → (spanb n ≡ false) ↔ (n .start ≤ n .end)
 unfolding spanb
 span-sound n = (λ h. ltb-false _ _ h, λ h. le-ltb _ _ h)
 
--- the tests of CROSS and of DEPTH, for a later node n and one earlier node e
+-- The tests of CROSS and of DEPTH, for a later node n and one earlier node e.
 abbrev pub crosses : Node → Node → Bool
 crosses n e = openb n e && not (insideb n e)
 

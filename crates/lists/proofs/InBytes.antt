@@ -23,7 +23,7 @@ use Rattle.lists.proofs.Faults.{Sound}
 use Rattle.lists.proofs.Taken.{Fine, whole-words, taken-iff, words-taken-iff}
 
 module _ (bs : List ℕ) where
-  -- the length of the bytes decides: they are RAGGED, or LONG, or their nodes are checked
+  -- The length of the bytes decides: they are RAGGED, or LONG, or their nodes are checked.
   pub ragged-bytes : (length bs % NODE-BYTES ≡ 0 → ⊥) → checkBytes bs ≡ verdict RAGGED ANCESTORS 0
   unfolding checkBytes checkWords wordFault raggedb
   ragged-bytes h =
@@ -50,8 +50,8 @@ module _ (bs : List ℕ) where
         let q = length-numbers bs in
         rw (eq-eqb (length bs % NUMBER-BYTES) 0 (omega arith), eq-eqb _ _ (whole-words (numbers bs) .1 (omega arith, omega arith)))
 
-  -- bytes are taken exactly when they make whole nodes, not too many, and the list of these is
-  -- taken
+  -- Bytes are taken exactly when they make whole nodes, not too many, and the list of these is
+  -- taken.
   pub bytes-taken-iff : (checkBytes bs .answer ≡ TAKEN)
       ↔ ((length bs % NODE-BYTES ≡ 0) × (length bs / NODE-BYTES ≤ MOST-NODES) × All Sound (nodes (numbers bs)) × EveryTwo Fine (nodes (numbers bs)))
   unfolding checkBytes

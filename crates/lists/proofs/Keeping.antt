@@ -23,11 +23,11 @@ use Rattle.lists.proofs.WalkLaws.{chain-after}
 use Rattle.lists.proofs.Faults.{skip, level-sound, span-sound, crosses, rises}
 
 module _ {P : Node → Type 0} {before s : List Node} where
-  -- a chain that stands for the nodes before still does where fewer nodes may come next
+  -- A chain that stands for the nodes before still does where fewer nodes may come next.
   pub stands-later : {Q : Node → Type 0} → ((n : Node) → Q n → P n) → Stands P before s → Stands Q before s
   stands-later f k = record { chain = k .chain; keeps = λ n q. k .keeps n (f n q) }
 
-  -- a new node that lies inside the head becomes the head of the new chain
+  -- A new node that lies inside the head becomes the head of the new chain.
   pub stands-push : (e : Node) → 1 ≤ e .level → Upon e s → Stands P before s → Stands P (e ∷ before) (e ∷ s)
   unfolding keep
   stands-push e l u k = record {
@@ -35,7 +35,7 @@ module _ {P : Node → Type 0} {before s : List Node} where
     keeps = λ n p test only. ap (λ ns. cond (test e) (e ∷ ns) ns) (k .keeps n p test only);
   }
 
--- a head that is open at none of the nodes that may come is taken off
+-- A head that is open at none of the nodes that may come is taken off.
 pub stands-pop : {P : Node → Type 0} {before s : List Node} (e : Node) → ((n : Node) → P n → openb n e ≡ false) → Stands P before (e ∷ s)
     → Stands P before s
 stands-pop e shut k = record {
@@ -43,8 +43,8 @@ stands-pop e shut k = record {
   keeps = λ n p test only. k .keeps n p test only ∙ keep-failed test e _ (not-so (λ h. never (only e h) (shut n p)));
 }
 
--- all nodes that ended before n are taken off, where they are open at none of the nodes that may
--- come
+-- All nodes that ended before n are taken off, where they are open at none of the nodes that may
+-- come.
 pub stands-left : {P : Node → Type 0} {before : List Node} (n : Node)
     → ((m e : Node) → P m → openb n e ≡ false → afterb n e ≡ true → openb m e ≡ false)
     → (s : List Node) → All (λ e. afterb n e ≡ true) s → Stands P before s → Stands P before (unended n s)
@@ -54,7 +54,7 @@ stands-left n shut (e ∷ s) a k =
     elim (either (openb n e))
     [ inl o ↦ rw o k | inr o ↦ rw o (stands-left n shut s (a .1) (stands-pop e (λ m p. shut m e p o (a .0)) k)) ]
 
--- everything under a head that contains n also contains n, and has a lower level than the head
+-- Everything under a head that contains n also contains n, and has a lower level than the head.
 pub chain-contains : (n e : Node) (s : List Node) → Chain (e ∷ s) → insideb n e ≡ true → All (λ f. insideb n f ≡ true) s
 chain-contains n e [] ch h = tt
 chain-contains n e (f ∷ s) ch h = let p = inside-trans n e f h (ch .1 .0) in (p, chain-contains n f s (ch .2) p)
@@ -69,7 +69,7 @@ uncrossed n e h = not-so (λ c. never h (not-read _ (and-read (openb n e) c .1))
 deeper : (n e : Node) → e .level < n .level → rises n e ≡ false
 deeper n e h = not-so (λ c. never (lt-ltb _ _ h) (not-read _ (and-read (insideb n e) c .1)))
 
--- the head of what is left tells what is wrong over the whole chain
+-- The head of what is left tells what is wrong over the whole chain.
 top-tells : (n : Node) → n .start ≤ n .end → (s : List Node) → Chain s
     → cond (crossb s n) CROSS (cond (depthb s n) DEPTH TAKEN) ≡ headFault (unended n s) n
 unfolding crossb depthb any unended headFault
@@ -90,13 +90,13 @@ top-tells n span (e ∷ s) ch = elim (either (openb n e)) [ inl o ↦ opened o (
         → cond (crossb (e ∷ s) n) CROSS (cond (depthb (e ∷ s) n) DEPTH TAKEN) ≡ headFault (unended n (e ∷ s)) n
     ended o h = rw (o, not-so (λ i. never (inside-open n e span i) o)) h
 
--- what a walk along a list keeps of the open nodes: their chain stands for all nodes before, and
--- its head is the node before
+-- What a walk along a list keeps of the open nodes: their chain stands for all nodes before, and
+-- its head is the node before.
 pub record Kept (before s : List Node) : Type 0 where
   pub stands : Stands (λ n. orderb before n ≡ false) before s
   pub last : (n : Node) → orderb before n ≡ orderb s n
 
--- CROSS and DEPTH are tests that only open nodes pass, so they say the same of the chain
+-- CROSS and DEPTH are tests that only open nodes pass, so they say the same of the chain.
 same-crosses : (before s : List Node) (n : Node)
     → ((test : Node → Bool) → ((e : Node) → test e ≡ true → openb n e ≡ true) → keep test before ≡ keep test s) → crossb before n ≡ crossb s n
 unfolding crossb
@@ -107,7 +107,7 @@ same-rises : (before s : List Node) (n : Node) → n .start ≤ n .end
 unfolding depthb
 same-rises before s n span keeps = any-same (rises n) before s (keeps (rises n) (λ e h. inside-open n e span (and-read (insideb n e) h .0)))
 
--- what is wrong at a node, given all nodes before, is what the chain tells
+-- What is wrong at a node, given all nodes before, is what the chain tells.
 pub fault-told : (before s : List Node) (n : Node) → Kept before s → fault before n ≡ topFault s n
 unfolding fault topFault
 fault-told before s n k =
@@ -131,7 +131,7 @@ fault-told before s n k =
         same-depth : depthb before n ≡ depthb s n
         same-depth = same-rises before s n span (k .stands .keeps n (k .last n ∙ o))
 
--- a node at which the head tells of nothing wrong lies inside the head and is deeper
+-- A node at which the head tells of nothing wrong lies inside the head and is deeper.
 head-taken : (n : Node) (s : List Node) → headFault s n ≡ TAKEN → Upon n s
 unfolding headFault
 head-taken n [] h = tt
@@ -140,8 +140,8 @@ head-taken n (e ∷ s) h =
     let q = skip (not (ltb (e .level) (n .level))) _ _ .0 (p .1) in
     (not-none _ (p .0), ltb-true _ _ (not-none _ (q .0)))
 
--- the chain tells of nothing wrong at n: its level is right, it stands after the head, and the head
--- of what is left tells of nothing wrong
+-- The chain tells of nothing wrong at n: its level is right, it stands after the head, and the head
+-- of what is left tells of nothing wrong.
 record Clean (s : List Node) (n : Node) : Type 0 where
   level : 1 ≤ n .level
   next : orderb s n ≡ false
@@ -155,13 +155,13 @@ clean s n h =
     let r = skip (orderb s n) _ _ .0 (q .1) in
     record { level = level-sound n .0 (p .0) .0; next = r .0; head = r .1 }
 
--- a node after one that may come next may also come next
+-- A node after one that may come next may also come next.
 later : (before : List Node) (m n : Node) → orderb before n ≡ false → afterb m n ≡ true → orderb before m ≡ false
 unfolding orderb
 later [] m n o a = refl
 later (e ∷ before) m n o a = ap not (after-trans m n e a (not-none (afterb n e) o))
 
--- after a node at which nothing is wrong, the chain is that node upon what is left
+-- After a node at which nothing is wrong, the chain is that node upon what is left.
 pub kept-next : (before s : List Node) (n : Node) → topFault s n ≡ TAKEN → Kept before s → Kept (n ∷ before) (n ∷ unended n s)
 unfolding orderb
 kept-next before s n h k =
@@ -176,7 +176,7 @@ kept-next before s n h k =
       last = λ m. refl;
     }
 
--- before any node nothing is open
+-- Before any node nothing is open.
 pub kept-none : Kept [] []
 unfolding orderb
 kept-none = record { stands = record { chain = tt; keeps = λ n p test only. refl }; last = λ n. refl }

@@ -19,13 +19,13 @@ use Rattle.lists.specs.Private.Merge.{merge, Cut, Drawn}
 use Rattle.lists.specs.Private.Walk.{nodeFrom}
 use Rattle.lists.proofs.MergeSteps.{merge-nil, merge-left, merge-both, merge-right}
 
--- the words from i on begin with the four words there
+-- The words from i on begin with the four words there.
 four-on : (ws : List ℕ) (i a b c d : ℕ) → a ≡ suc i → b ≡ suc a → c ≡ suc b → d ≡ suc c → c < length ws
     → drop i ws ≡ getD ws i 0 ∷ getD ws a 0 ∷ getD ws b 0 ∷ getD ws c 0 ∷ drop d ws
 four-on ws i a b c d p q r s h =
     rw (s, ← drop-cons ws c 0 h, r, ← drop-cons ws b 0 (omega arith), q, ← drop-cons ws a 0 (omega arith), p) (drop-cons ws i 0 (omega arith))
 
--- so the nodes from there on begin with the node whose words start there; at the end there is none
+-- So the nodes from there on begin with the node whose words start there; at the end there is none.
 head-from : (ws : List ℕ) (i : ℕ) → i + 3 < length ws → nodes (drop i ws) ≡ nodeFrom ws i ∷ nodes (drop (i + 4) ws)
 unfolding nodes nodeFrom
 head-from ws i h = ap nodes (four-on ws i (i + 1) (i + 2) (i + 3) (i + 4) (omega arith) (omega arith) (omega arith) (omega arith) h)
@@ -34,12 +34,12 @@ ended : (ws : List ℕ) (i : ℕ) → length ws ≤ i → nodes (drop i ws) ≡ 
 unfolding nodes
 ended ws i h = rw (drop-of-length-le ws {i = i} h) refl
 
--- at the end of both lists nothing is left of the merge
+-- At the end of both lists nothing is left of the merge.
 pub none-left : (xs ys : List ℕ) (i j : ℕ) → length xs ≤ i → length ys ≤ j → merge (nodes (drop i xs)) (nodes (drop j ys)) ≡ []
 unfolding merge
 none-left xs ys i j h k = rw (ended xs i h, ended ys j k) refl
 
--- what is drawn, in the terms of a function's result
+-- What is drawn, in the terms of a function's result.
 pub drawn-as : {xs ys : List ℕ} {i j : ℕ} {m n : Node} {f s first second : ℕ} → record { node : n ≡ m; first : first ≡ f; second : second ≡ s }
     → Drawn xs ys i j m f s → Drawn xs ys i j n first second
 drawn-as e d = rw (e .node, e .first, e .second) d
@@ -62,7 +62,7 @@ module _ (xs ys : List ℕ) (i j : ℕ) (iₙ : Cut i xs) (jₙ : Cut j ys) wher
     second-in = (omega arith, omega arith);
   }
 
-  -- both lists have a head
+  -- Both lists have a head.
   module _ (h : i < length xs) (k : j < length ys) where
     abbrev x : Node
     x = nodeFrom xs i
@@ -103,7 +103,7 @@ module _ (xs ys : List ℕ) (i j : ℕ) (iₙ : Cut i xs) (jₙ : Cut j ys) wher
       second-in = (omega arith, omega arith);
     }
 
-    -- of two documents, the head of the earlier one is taken
+    -- Of two documents, the head of the earlier one is taken.
     pub earlier-first : x .document < y .document → Drawn xs ys i j x (i + 4) j
     earlier-first d = take-first (after-document y x d)
 
@@ -112,7 +112,7 @@ module _ (xs ys : List ℕ) (i j : ℕ) (iₙ : Cut i xs) (jₙ : Cut j ys) wher
         take-second (not-so (λ a. ⊎-elim (λ p. omega arith) (λ p. let e = p .0 in omega arith) (after-read y x a)))
         (not-so (λ a. let e = ap (λ (n : Node). n .document) (same-read x y a) in omega arith))
 
-    -- within one document the head that starts earlier is taken, or both where they are identical
+    -- Within one document the head that starts earlier is taken, or both where they are identical.
     module _ (d : x .document ≡ y .document) where
       pub starts-first : x .start < y .start → Drawn xs ys i j x (i + 4) j
       starts-first s = take-first (after-start y x (sym d) s)

@@ -15,17 +15,17 @@ merge-nil [] = refl
 merge-nil (x ∷ xs) = refl
 
 module _ (x y : Node) (xs ys : List Node) where
-  -- the first list's head stands before the second's and is taken
+  -- The first list's head stands before the second's and is taken.
   pub merge-left : afterb y x ≡ true → merge (x ∷ xs) (y ∷ ys) ≡ x ∷ merge xs (y ∷ ys)
   unfolding merge mergeInto
   merge-left h = rw h
 
-  -- a node of both lists is taken once
+  -- A node of both lists is taken once.
   pub merge-both : afterb y x ≡ false → sameb x y ≡ true → merge (x ∷ xs) (y ∷ ys) ≡ x ∷ merge xs ys
   unfolding merge mergeInto
   merge-both h s = rw (h, s)
 
-  -- otherwise the second list's head is taken
+  -- Otherwise the second list's head is taken.
   pub merge-right : afterb y x ≡ false → sameb x y ≡ false → merge (x ∷ xs) (y ∷ ys) ≡ y ∷ merge (x ∷ xs) ys
   unfolding merge mergeInto
   merge-right h s = rw (h, s)

@@ -23,7 +23,7 @@ use Rattle.lists.proofs.MergeSteps.{merge-left, merge-both, merge-right
 use Rattle.lists.proofs.Faults.{Sound}
 use Rattle.lists.proofs.Taken.{Fine, nested-read, agree-apart, agree-nested, agree-nests, agree-read, taken-iff}
 
--- no node of the first list is at odds with one of the second
+-- No node of the first list is at odds with one of the second.
 abbrev pub Even : List Node → List Node → Type 0
 Even xs ys = All (λ x. All (λ y. oddsb x y ≡ false) ys) xs
 
@@ -34,7 +34,7 @@ joint-iff xs ys = (
   λ h. none-any _ xs (all-map (λ x k. none-any (oddsb x) ys k) xs h),
 )
 
--- how two lists make a merge, one node at a time
+-- How two lists make a merge, one node at a time.
 data Merged : List Node → List Node → List Node → Type 0 where
   no-first : {ys : List Node} → Merged [] ys ys
   no-second : {x : Node} {xs : List Node} → Merged (x ∷ xs) [] (x ∷ xs)
@@ -80,7 +80,7 @@ module _ (x y : Node) where
       let q = or-none (sameb x y) (not-read _ (p .1)) in
       ⊎-elim (λ s. never s (q .0)) (λ a. never a (q .1)) (f (eqb-true _ _ (p .0))))
 
-  -- two sound nodes that start at the same place and aren't the same are at odds
+  -- Two sound nodes that start at the same place and aren't the same are at odds.
   tied : Sound x → Sound y → y .document ≡ x .document → y .start ≡ x .start → sameb x y ≡ false → oddsb x y ≡ false → ⊥
   tied s t d e n o =
       elim (even-read o (sym d)) [
@@ -110,7 +110,7 @@ even-turned x y h =
       | inr a ↦ inr (agree-turned x y a)
     ])
 
--- what holds of all nodes of a merge holds of all nodes of both lists, and the other way round
+-- What holds of all nodes of a merge holds of all nodes of both lists, and the other way round.
 module _ (P : Node → Type 0) where
   merged-all : {xs ys ms : List Node} → Merged xs ys ms → All P ms → All P xs × All P ys
   merged-all no-first h = (tt, h)
@@ -126,15 +126,16 @@ module _ (P : Node → Type 0) where
   all-merged (both m) h k = (h .0, all-merged m (h .1) (k .1))
   all-merged (right a s m) h k = (k .0, all-merged m h (k .1))
 
--- a node is at odds with none of the nodes that it is fine with
+-- A node is at odds with none of the nodes that it is fine with.
 all-even : (e : Node) (ns : List Node) → All (Fine e) ns → All (λ n. oddsb e n ≡ false) ns
 all-even e ns h = all-map (λ n f. fine-even e n f) ns h
 
--- a node that is fine with the first list may be added to the second
+-- A node that is fine with the first list may be added to the second.
 even-more : (y : Node) (xs ys : List Node) → All (Fine y) xs → Even xs ys → Even xs (y ∷ ys)
 even-more y xs ys h k = all-both (λ x f r. (even-turned y x (fine-even y x f), r)) xs h k
 
--- both lists are parts of the merge, and a pair across is one of its pairs or one and the same node
+-- Both lists are parts of the merge, and a pair across is one of its pairs or one and the same
+-- node.
 merged-pairs : {xs ys ms : List Node} → Merged xs ys ms → EveryTwo Fine ms → EveryTwo Fine xs × EveryTwo Fine ys × Even xs ys
 merged-pairs no-first h = (tt, h, tt)
 merged-pairs (no-second {x = x} {xs = xs}) h = (h, tt, all-of (λ x. tt) (x ∷ xs))
@@ -151,11 +152,11 @@ merged-pairs (right {x = x} {y = y} {xs = xs} {ys = ys} a s m) h =
     let r = merged-pairs m (h .1) in
     (r .0, (f .1, r .1), even-more y (x ∷ xs) ys (f .0) (r .2))
 
--- a node before the head of a list, at odds with none of its nodes, is fine with all of them
+-- A node before the head of a list, at odds with none of its nodes, is fine with all of them.
 ahead : (e n : Node) (ns : List Node) → afterb n e ≡ true → All (Fine n) ns → All (λ m. oddsb e m ≡ false) (n ∷ ns) → All (Fine e) (n ∷ ns)
 ahead e n ns a h o = (even-fine e n a (o .0), all-both (λ m f k. even-fine e m (after-trans m n e (f .after) a) k) ns h (o .1))
 
--- each node that a merge takes stands before all that is left of both lists
+-- Each node that a merge takes stands before all that is left of both lists.
 pairs-merged : {xs ys ms : List Node} → Merged xs ys ms → All Sound xs → All Sound ys
     → EveryTwo Fine xs → EveryTwo Fine ys → Even xs ys → EveryTwo Fine ms
 pairs-merged no-first s t h k o = k
@@ -170,7 +171,7 @@ pairs-merged (right {x = x} {y = y} {xs = xs} a n m) s t h k o =
       pairs-merged m s (t .1) h (k .1) (all-map (λ e r. r .1) (x ∷ xs) o),
     )
 
--- a merge is taken exactly when both lists are taken and no pair across is at odds
+-- A merge is taken exactly when both lists are taken and no pair across is at odds.
 pub merge-taken-iff : (xs ys : List Node)
     → (checkNodes (merge xs ys) .answer ≡ TAKEN) ↔ ((checkNodes xs .answer ≡ TAKEN) × (checkNodes ys .answer ≡ TAKEN) × (jointb xs ys ≡ false))
 merge-taken-iff xs ys =

@@ -21,7 +21,7 @@ use Rattle.answers.specs.Verdict.{refusedb, inList, ANCESTORS, DESCENDANTS, ver
 use Rattle.lists.proofs.Merging.{joint-iff}
 use Rattle.lists.proofs.Pairing.{two-taken-iff}
 
--- a verdict on one list names the ancestors, and has index 0 where the list is taken
+-- A verdict on one list names the ancestors, and has index 0 where the list is taken.
 abbrev Single : Verdict → Type 0
 Single v = (v .list ≡ ANCESTORS) × (v .answer ≡ TAKEN → v .index ≡ 0)
 
@@ -43,7 +43,7 @@ single ws =
     ]
 
 module _ (ancestors descendants : List ℕ) where
-  -- the four answers of the check of two lists: the first list's, the second's, JOINT and TAKEN
+  -- The four answers of the check of two lists: the first list's, the second's, JOINT and TAKEN.
   pub two-first : (checkWords ancestors .answer ≡ TAKEN → ⊥) → checkWords ancestors ≡ checkTwo ancestors descendants
   unfolding checkTwo refusedb
   two-first h =

@@ -19,7 +19,7 @@ use Rattle.answers.specs.Verdict.{refusedb, inList, ANCESTORS, verdict, taken}
 use Rattle.laws.specs.Choose.{All}
 use Rattle.lists.proofs.Merging.{joint-iff}
 
--- the check of two lists goes on past a list that is taken
+-- The check of two lists goes on past a list that is taken.
 list-passes : (list : ℕ) (v w : Verdict) → (cond (refusedb v) (inList list v) w .answer ≡ TAKEN) ↔ ((v .answer ≡ TAKEN) × (w .answer ≡ TAKEN))
 unfolding refusedb
 list-passes list v w = (
@@ -27,12 +27,12 @@ list-passes list v w = (
   λ h. rw (eq-eqb (v .answer) TAKEN (h .0)) (h .1),
 )
 
--- and past JOINT where no pair is at odds
+-- And past JOINT where no pair is at odds.
 joint-passes : (b : Bool) → (cond b (verdict JOINT ANCESTORS 0) taken .answer ≡ TAKEN) ↔ (b ≡ false)
 joint-passes true = (λ h. absurd (omega arith), λ h. absurd (never refl h))
 joint-passes false = (λ h. refl, λ h. refl)
 
--- two lists are taken exactly when each is taken and no pair across is at odds
+-- Two lists are taken exactly when each is taken and no pair across is at odds.
 pub two-taken-iff : (as′ ds : List ℕ)
     → (checkTwo as′ ds .answer ≡ TAKEN) ↔ ((checkWords as′ .answer ≡ TAKEN) × (checkWords ds .answer ≡ TAKEN)
     × All (λ x. All (λ y. oddsb x y ≡ false) (nodes ds)) (nodes as′))

@@ -32,7 +32,7 @@ use Rattle.lists.proofs.Pairing.{two-taken-iff}
 use Rattle.lists.proofs.Taken.{Fine, nested-read, fine-settles, whole-words, words-check, words-taken-iff}
 
 module _ {e n : Node} where
-  -- what holds of every earlier and later node of a list holds of e and n
+  -- What holds of every earlier and later node of a list holds of e and n.
   pair-in : (R : Node → Node → Type 0) {ns : List Node} → EveryTwo R ns → Follows e n ns → R e n
   pair-in R h (here {x = x} {ns = ns} p m) = subst (λ z. R z n) (sym p) (all-in (R x) ns (h .0) m)
   pair-in R h (later b) = pair-in R (h .1) b
@@ -53,9 +53,9 @@ span-read : (n : Node) → spanb n ≡ true → n .end < n .start
 unfolding spanb
 span-read n h = ltb-true _ _ h
 
--- a check that has passed the nodes `before`, kept with the last one first, and has ns left
+-- A check that has passed the nodes `before`, kept with the last one first, and has ns left.
 module _ (words : List ℕ) where
-  -- what is found among the nodes left is found among all nodes
+  -- What is found among the nodes left is found among all nodes.
   among : (P : List Node → Type 0) → ((x : Node) (ns : List Node) → P ns → P (x ∷ ns))
       → (before ns : List Node) → reverseAux before ns ≡ nodes words → P ns → P (nodes words)
   among P more [] ns q h = subst P q h
@@ -130,7 +130,7 @@ module _ (words : List ℕ) where
         ]
       ]
 
-  -- what a taken list has at each place where something is said to be wrong
+  -- What a taken list has at each place where something is said to be wrong.
   module _ (t : checkWords words .answer ≡ TAKEN) where
     sound : {n : Node} → In n (nodes words) → Sound n
     sound m = all-in Sound (nodes words) (words-taken-iff words .0 t .2) m
@@ -153,7 +153,7 @@ module _ (words : List ℕ) where
         let s = sound (beyond-in b) in
         ⊎-elim (λ p. omega arith) (λ p. omega (arith, nested-read n e p)) (settled e n b (sym (w .document)))
 
--- a list is refused exactly when its words or nodes have a fault of the scope's table
+-- A list is refused exactly when its words or nodes have a fault of the scope's table.
 pub list-refused-iff : (words : List ℕ) → (checkWords words .answer ≡ TAKEN → ⊥) ↔ Faulty words
 list-refused-iff words = (λ h. words-found words h, λ f t. unfaulty words t f)
 
@@ -184,8 +184,8 @@ odds-make o =
     let s : sameb (o .x) (o .y) ≡ false = not-so (λ h. o .not-same (same-read (o .x) (o .y) h)) in
     rw (eq-eqb (o .x .document) (o .y .document) (o .document), s, o .not-apart, o .not-nested .0, o .not-nested .1)
 
--- two lists are refused exactly when one of them is, or when a node of one and a node of the other
--- are at odds
+-- Two lists are refused exactly when one of them is, or when a node of one and a node of the other
+-- are at odds.
 pub refused-iff : (ancestors descendants : List ℕ) → (checkTwo ancestors descendants .answer ≡ TAKEN → ⊥)
     ↔ (Faulty ancestors ⊎ (Faulty descendants ⊎ AtOdds (nodes ancestors) (nodes descendants)))
 refused-iff ancestors descendants = (

@@ -22,8 +22,8 @@ use Rattle.lists.specs.Private.Walk.{listPlace, firsts, opened, unended,
 use Rattle.lists.proofs.Faults.{Sound, level-sound, span-sound}
 use Rattle.lists.proofs.WalkLaws.{head-at, top-at, length-firsts, chain-length, first-unended, first-next}
 
--- a chain is at most as long as its head is deep, so below the greatest level it has room for one
--- node more
+-- A chain is at most as long as its head is deep, so below the greatest level it has room for one
+-- node more.
 room : (k : ℕ) (ws : List ℕ) (n e : Node) → 0 < k → e ≡ nodeAt ws (k - 1) → Chain (firsts k (nodes ws)) → e .level < n .level
     → n .level ≤ MOST-LEVELS → k < MOST-LEVELS
 room k ws n e h q ch below above =
@@ -40,7 +40,7 @@ room-on u ws n e h f q ch below above =
     let r = room (u / 4) ws n e (omega arith) q ch below above in
     (omega arith, omega arith)
 
--- the step's answer r, where `wrong` is the fault at n over the nodes that are left
+-- The step's answer r, where `wrong` is the fault at n over the nodes that are left.
 module _ (wrong : ℕ) (left : List Node) (n : Node) (i : ℕ) (ws : List ℕ) (r : Step) where
   refuse : (f : ℕ) → wrong ≡ suc f → r ≡ Refused (verdict (suc f) ANCESTORS i) → Passed wrong left n i r ws
   refuse f q e =
@@ -51,7 +51,7 @@ module _ (wrong : ℕ) (left : List Node) (n : Node) (i : ℕ) (ws : List ℕ) (
       → Passed wrong left n i r ws
   reach u h l e p = subst (λ (step : Step). Passed wrong left n i step ws) (sym e) (h, refl, l, p)
 
--- the returns of `pass_node`, where s is the chain that was open at the node before
+-- The returns of `pass_node`, where s is the chain that was open at the node before.
 module _ (s : List Node) (n : Node) (i : ℕ) (ws : List ℕ) (r : Step) where
   pub passed-low : n .level ≡ 0 → r ≡ Refused (verdict LEVEL ANCESTORS i) → SteppedPast s n i r ws
   unfolding levelb topFault
@@ -71,12 +71,12 @@ module _ (s : List Node) (n : Node) (i : ℕ) (ws : List ℕ) (r : Step) where
     passed-order o e =
         refuse (topFault s n) (unended n s) n i ws r 4 (rw (level-sound n .1 (g .lowest, g .highest), span-sound n .1 (g .span), o) refl) e
 
-    -- nothing is wrong so far, and the head of those left tells the rest
+    -- Nothing is wrong so far, and the head of those left tells the rest.
     pub passed-rest : orderb s n ≡ false → (left : List Node) → left ≡ unended n s → SteppedOnto left n i r ws → SteppedPast s n i r ws
     unfolding topFault
     passed-rest o left q h = rw (level-sound n .1 (g .lowest, g .highest), span-sound n .1 (g .span), o, ← q) h
 
--- the returns of `put_on_top`, where u words of the stack are left
+-- The returns of `put_on_top`, where u words of the stack are left.
 module _ (st : List ℕ) (u : ℕ) (n : Node) (i : ℕ) (ws : List ℕ) (r : Step) where
   abbrev Pushed : Type 0
   Pushed = record { answer : r ≡ Reached (listPlace (i + 1) (u + 4)); stack : opened (u + 4) ws ≡ n ∷ opened u st }
@@ -110,7 +110,7 @@ module _ (st : List ℕ) (u : ℕ) (n : Node) (i : ℕ) (ws : List ℕ) (r : Ste
           reach (headFault (opened u st) n) (opened u st) n i ws r u (head ∙ rw (sym by-end ∙ h, lt-ltb (e .level) (n .level) l) refl) m
           (p .answer) (p .stack)
 
--- the first node of a document becomes the only one on the stack
+-- The first node of a document becomes the only one on the stack.
 pub passed-first : (s : List Node) (n : Node) (i : ℕ) (ws : List ℕ) (r : Step) → Sound n → Chain s → firstb s n ≡ true
     → (st : List ℕ) → Pushed st 0 n i ws r → SteppedPast s n i r ws
 unfolding firsts

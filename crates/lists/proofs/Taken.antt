@@ -26,13 +26,13 @@ use Rattle.answers.specs.Verdict.{ANCESTORS, verdict}
 use Rattle.laws.specs.Choose.{All, EveryTwo}
 use Rattle.lists.proofs.Faults.{Sound, skip, level-sound, span-sound, crosses, rises}
 
--- an earlier node e and a later one n are fine: n stands after e, and within one document they
--- agree
+-- An earlier node e and a later one n are fine: n stands after e, and within one document they
+-- agree.
 pub record Fine (e n : Node) : Type 0 where
   pub after : afterb n e ≡ true
   pub agree : e .document ≡ n .document → agreeb e n ≡ true
 
--- in a list kept with the last node first, each node stands after all that follow in the list
+-- In a list kept with the last node first, each node stands after all that follow in the list.
 abbrev pub Descends : List Node → Type 0
 Descends before = EveryTwo (λ n e. afterb n e ≡ true) before
 
@@ -61,7 +61,7 @@ module _ (e n : Node) where
   unfolding agreeb
   agree-read h = elim (or-read (apartb e n) h) [ inl p ↦ inl p | inr p ↦ inr (or-read (nestedb e n) p) ]
 
--- what stands after the head of a descending list stands after all of it
+-- What stands after the head of a descending list stands after all of it.
 order-all : (before : List Node) (n : Node) → Descends before → orderb before n ≡ false → All (λ e. afterb n e ≡ true) before
 unfolding orderb
 order-all [] n c h = tt
@@ -82,7 +82,7 @@ pair-agrees n e c r d =
       | inr s ↦ agree-apart e n (apart-ahead e n (shut-read n e s d))
     ]
 
--- within one document, the earlier node has ended or the later one is nested in it
+-- Within one document, the earlier node has ended or the later one is nested in it.
 pub fine-settles : (n e : Node) → n .start ≤ n .end → Fine e n → e .document ≡ n .document → (e .end < n .start) ⊎ (nestedb n e ≡ true)
 fine-settles n e span f d =
     let s = after-starts n e (f .after) d in
@@ -105,7 +105,7 @@ never-rises n e span f =
     ⊎-elim (λ q. omega arith) (λ q. omega (arith, nested-read n e q)) (fine-settles n e span f (sym (w .document))))
 
 module _ (before : List Node) (n : Node) where
-  -- no fault after a descending list: the node is sound, and fine with each node of the list
+  -- No fault after a descending list: the node is sound, and fine with each node of the list.
   pub fault-fine : Descends before → fault before n ≡ TAKEN → Sound n × All (λ e. Fine e n) before
   unfolding fault crossb depthb
   fault-fine c h =
@@ -131,7 +131,7 @@ module _ (before : List Node) (n : Node) where
         none-any (rises n) before (all-map (λ e. never-rises n e (s .span)) before h),
       )
 
--- a check goes on where it has found no fault
+-- A check goes on where it has found no fault.
 goes-on : (f index : ℕ) (v : Verdict)
     → (cond (eqb f TAKEN) v (verdict f ANCESTORS index) .answer ≡ TAKEN) ↔ ((f ≡ TAKEN) × (v .answer ≡ TAKEN))
 goes-on f index v = (
@@ -139,7 +139,7 @@ goes-on f index v = (
   λ h. rw (eq-eqb f TAKEN (h .0)) (h .1),
 )
 
--- the nodes are fine with one another, and with the list before them
+-- The nodes are fine with one another, and with the list before them.
 record Follows (before ns : List Node) : Type 0 where
   sound : All Sound ns
   pairs : EveryTwo Fine ns

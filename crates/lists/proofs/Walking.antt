@@ -20,8 +20,8 @@ use Rattle.lists.specs.Step.{verdictOf}
 use Rattle.lists.specs.Private.Walk.{opened, Fits, SteppedPast}
 use Rattle.lists.proofs.Keeping.{Kept, kept-none, kept-next, fault-told}
 
--- a walk that keeps the chain s, stands at an index and has `rest` before it; `whole` is what the
--- check of all nodes says
+-- A walk that keeps the chain s, stands at an index and has `rest` before it; `whole` is what the
+-- check of all nodes says.
 pub record Walk (s : List Node) (index : ℕ) (rest : List Node) (whole : Verdict) : Type 0 where
   pub before : List Node
   pub kept : Kept before s
@@ -31,17 +31,17 @@ pub walk-start : (ns : List Node) → Walk [] 0 ns (checkNodes ns)
 unfolding checkNodes
 walk-start ns = record { before = []; kept = kept-none; same = refl }
 
--- the same walk, with an equal list of nodes as its rest
+-- The same walk, with an equal list of nodes as its rest.
 pub walk-as : {s ns ms : List Node} {index : ℕ} {whole : Verdict} → ns ≡ ms → Walk s index ns whole → Walk s index ms whole
 walk-as {s} {index = index} {whole} e w = subst (λ rest. Walk s index rest whole) e w
 
--- at the end nothing was wrong
+-- At the end nothing was wrong.
 pub walk-end : {s : List Node} {index : ℕ} {whole : Verdict} → Walk s index [] whole → taken ≡ whole
 unfolding checkFrom
 walk-end w = w .same
 
 module _ {s : List Node} {n : Node} {index : ℕ} {rest : List Node} {whole : Verdict} (w : Walk s index (n ∷ rest) whole) where
-  -- the check of the rest goes past a node at which nothing is wrong
+  -- The check of the rest goes past a node at which nothing is wrong.
   passed-on : (words : List ℕ) (p : ListPlace) → SteppedPast s n index (Reached p) words → Walk (opened (p .used) words) (p .index) rest whole
   unfolding checkFrom
   passed-on words p h =
@@ -53,14 +53,14 @@ module _ {s : List Node} {n : Node} {index : ℕ} {rest : List Node} {whole : Ve
         same = rw (eq-eqb _ _ f) at (w .same);
       })
 
-  -- and it ends at the first node at which something is wrong
+  -- And it ends at the first node at which something is wrong.
   stopped : (words : List ℕ) (v : Verdict) → SteppedPast s n index (Refused v) words → v ≡ whole
   unfolding checkFrom
   stopped words v h =
       let q = fault-told (w .before) s n (w .kept) in
       h .1 ∙ ap (λ (f : ℕ). verdict f ANCESTORS index) (sym q) ∙ (rw (ne-eqb _ _ (λ z. h .0 (sym q ∙ z))) at (w .same))
 
-  -- a place reached is the walk one node further; a refusal is the whole check's answer
+  -- A place reached is the walk one node further; a refusal is the whole check's answer.
   module _ (words : List ℕ) (r : Step) (h : SteppedPast s n index r words) where
     pub walk-on : (p : ListPlace) → r ≡ Reached p → (p .index ≡ index + 1) × Fits (p .used) × Walk (opened (p .used) words) (p .index) rest whole
     walk-on p e = let g = subst (λ (step : Step). SteppedPast s n index step words) e h in (g .1, g .2, passed-on words p g)

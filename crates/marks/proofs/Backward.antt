@@ -28,7 +28,7 @@ use Rattle.marks.proofs.MarkLaws.{closes, is-text, opens, kind-of, open
 use Rattle.marks.proofs.Keeping.{before-closes, kept-none, kept-before, rows-here, open-forth, length-kept}
 use Rattle.marks.proofs.Passing.{count-closes, count-node}
 
--- a row stored right before those that were written
+-- A row stored right before those that were written.
 row-before : (out₀ out : List ℕ) (count : ℕ) (r : Row) (later : List Row) → 0 < count → ROW-WORDS * count ≤ length out₀
     → out ≡ take (ROW-WORDS * count) out₀ ++ written (wordsIn rowWords later) (drop (ROW-WORDS * count) out₀)
     → sets out (ROW-WORDS * (count - 1)) (rowWords r)
@@ -39,7 +39,7 @@ row-before out₀ out count r later h room e =
     ap (λ words. sets words (5 * (count - 1)) (rowWords r)) (e ∙ ap (λ n. take n out₀ ++ written (wordsIn rowWords later) (drop n out₀)) f)
     ∙ sets-before out₀ (5 * (count - 1)) (rowWords r) (wordsIn rowWords later) (omega arith)
 
--- the place and the output, one mark further back
+-- The place and the output, one mark further back.
 module _ (p : MarkPlace) (mark : ℕ) (rest : List ℕ) (some : (mark ≡ CLOSE → ⊥) → (0 < p .rows) × ((mark ≡ TEXT → ⊥) → 0 < p .depth)) where
   rows-back : {total : ℕ} → p .rows + rowCount rest ≡ total → beforeMark p mark .rows + rowCount (mark ∷ rest) ≡ total
   unfolding beforeMark
@@ -68,7 +68,7 @@ module _ (p : MarkPlace) (mark : ℕ) (rest : List ℕ) (some : (mark ≡ CLOSE 
             (row-before out₀ out (p .rows) here (rowsFrom document (position + 1) (p .depth) rest) (s .0) room e)
       ]
 
--- the output keeps its length
+-- The output keeps its length.
 length-output : (document position : ℕ) (kept : List ℕ) (p : MarkPlace) (mark : ℕ) (out : List ℕ)
     → length (outputBefore document position kept p mark out) ≡ length out
 unfolding outputBefore
@@ -78,13 +78,13 @@ length-output document position kept p mark out =
       | inr h ↦ rw h (length-sets out (5 * (p .rows - 1)) (rowWords (rowHere document position kept (p .depth) mark)))
     ]
 
--- how many elements are open after the marks before an index
+-- How many elements are open after the marks before an index.
 pub openAt : List ℕ → ℕ → ℕ
 openAt marks zero = 0
 openAt marks (suc k) = openAfter (openAt marks k) (getD marks k 0)
 
 module _ (marks : List ℕ) (taken : faultFrom 1 0 marks ≡ TAKEN) where
-  -- taken marks are taken from each position on
+  -- Taken marks are taken from each position on.
   rest-taken : (k : ℕ) → k ≤ length marks → faultFrom (k + 1) (openAt marks k) (drop k marks) ≡ TAKEN
   unfolding openAt
   rest-taken zero i = taken
@@ -107,7 +107,7 @@ module _ (marks : List ℕ) (taken : faultFrom 1 0 marks ≡ TAKEN) where
         | opens h t ↦ let l = in-place-at k i .level h in rw (open-opens (openAt marks k) (getD marks k 0) h t) (omega arith)
       ]
 
--- the marks from a position on make no more rows than all
+-- The marks from a position on make no more rows than all.
 count-rest : (marks : List ℕ) (k : ℕ) → rowCount (drop k marks) ≤ rowCount marks
 count-rest marks zero = omega arith
 count-rest [] (suc k) = omega arith
@@ -119,8 +119,8 @@ count-rest (mark ∷ marks) (suc k) =
       | opens h t ↦ rw (count-node mark marks h) (omega arith)
     ]
 
--- a walk back to a position, which keeps the closes of the elements open there and has written the
--- rows that begin after it
+-- A walk back to a position, which keeps the closes of the elements open there and has written the
+-- rows that begin after it.
 pub record Back (document : ℕ) (marks out₀ : List ℕ) (position : ℕ) (kept : List ℕ) (p : MarkPlace) (out : List ℕ) : Type 0 where
   pub long : length kept ≡ MOST-LEVELS
   pub same : length out ≡ length out₀
@@ -130,7 +130,7 @@ pub record Back (document : ℕ) (marks out₀ : List ℕ) (position : ℕ) (kep
   pub output : out ≡ take (ROW-WORDS * p .rows) out₀
       ++ written (wordsIn rowWords (rowsFrom document (position + 1) (p .depth) (drop position marks))) (drop (ROW-WORDS * p .rows) out₀)
 
--- what has to hold where a mark is passed on the way back
+-- What has to hold where a mark is passed on the way back.
 pub record MarkNeeds (marks : List ℕ) (p : MarkPlace) (mark : ℕ) : Type 0 where
   pub low : p .depth ≤ MOST-LEVELS
   pub few : p .rows ≤ rowCount marks
@@ -138,7 +138,7 @@ pub record MarkNeeds (marks : List ℕ) (p : MarkPlace) (mark : ℕ) : Type 0 wh
   pub some : (mark ≡ CLOSE → ⊥) → (0 < p .rows) × ((mark ≡ TEXT → ⊥) → 0 < p .depth)
 
 module _ (document : ℕ) (marks out₀ : List ℕ) (taken : faultFrom 1 0 marks ≡ TAKEN) where
-  -- at the end of the marks nothing is open, and nothing is written
+  -- At the end of the marks nothing is open, and nothing is written.
   pub back-start : (kept : List ℕ) (total : ℕ) → length kept ≡ MOST-LEVELS → total ≡ rowCount marks
       → Back document marks out₀ (length marks) kept (markPlace 0 total) out₀
   unfolding rowsFrom wordsIn flatMap written rowCount keep
@@ -154,7 +154,7 @@ module _ (document : ℕ) (marks out₀ : List ℕ) (taken : faultFrom 1 0 marks
         output = rw (drop-length marks) (sym (take-append-drop (5 * total) out₀));
       }
 
-  -- at the first position all rows are written
+  -- At the first position all rows are written.
   pub back-end : (kept : List ℕ) (p : MarkPlace) (out : List ℕ) (position : ℕ) → position ≤ 0 → Back document marks out₀ position kept p out
       → out ≡ written (tableWords document marks) out₀
   unfolding tableWords tableOf openAt
@@ -164,7 +164,7 @@ module _ (document : ℕ) (marks out₀ : List ℕ) (taken : faultFrom 1 0 marks
       b .output ∙ rw (z, b .depth) refl
   back-end kept p out (suc k) h b = absurd (not-suc-le-zero h)
 
-  -- what has to hold for the mark before a position
+  -- What has to hold for the mark before a position.
   asks-at : (kept : List ℕ) (p : MarkPlace) (out : List ℕ) (k : ℕ) → k < length marks → Back document marks out₀ (suc k) kept p out
       → MarkNeeds marks p (getD marks k 0)
   unfolding openAt
@@ -190,7 +190,7 @@ module _ (document : ℕ) (marks out₀ : List ℕ) (taken : faultFrom 1 0 marks
   back-asks kept p out zero h i b = absurd (not-suc-le-zero h)
   back-asks kept p out (suc k) h i b = rw (sub-one (suc k)) (asks-at kept p out k i b)
 
-  -- one mark further back, where there is room for all rows
+  -- One mark further back, where there is room for all rows.
   module _ (kept : List ℕ) (p : MarkPlace) (out : List ℕ) (room : ROW-WORDS * rowCount marks ≤ length out₀) where
     back-to : (k : ℕ) → k < length marks → Back document marks out₀ (suc k) kept p out
         → Back document marks out₀ k (closesBefore kept (suc k) (p .depth) (getD marks k 0)) (beforeMark p (getD marks k 0))

@@ -24,7 +24,7 @@ use Rattle.marks.specs.Table.{row, closeAt, endOf, rowsFrom, tableOf}
 use Rattle.marks.proofs.MarkLaws.{closes, is-text, opens, kind-of, open-closes, open-text, open-opens, close-closes, close-text, close-opens, rows-closes, rows-node, end-opens, InPlace, fault-read, check-read, closes-some}
 use Rattle.marks.proofs.Numbered.{close-from, Made, all-made, Settled, all-settled}
 
--- a row of a level that contains another row
+-- A row of a level that contains another row.
 pub record Around (rs : List Row) (level : ℕ) (y : Row) : Type 0 where
   pub outer : Row
   pub stands : In outer rs
@@ -34,7 +34,7 @@ pub record Around (rs : List Row) (level : ℕ) (y : Row) : Type 0 where
 further : (r y : Row) (rs : List Row) (level : ℕ) → Around rs level y → Around (r ∷ rs) level y
 further r y rs level a = record { outer = a .outer; stands = List·Memᴰ·tail (a .stands); level-of = a .level-of; contains = a .contains }
 
--- a close comes after the opening or the text from which it is looked for
+-- A close comes after the opening or the text from which it is looked for.
 close-beyond : (inner position mark : ℕ) (marks : List ℕ) → (mark ≡ CLOSE → ⊥) → position < closeAt inner position (mark ∷ marks)
 close-beyond inner position mark marks h =
     elim (kind-of mark) [
@@ -43,11 +43,11 @@ close-beyond inner position mark marks h =
       | opens c t ↦ rw (close-opens inner position mark marks c t) (omega (arith, close-from (inner + 1) (position + 1) marks))
     ]
 
--- an element of a level is open at a position and still open at a row
+-- An element of a level is open at a position and still open at a row.
 abbrev Open : ℕ → ℕ → ℕ → List ℕ → Row → Type 0
 Open level depth position marks y = (level ≤ depth) × (y .node .start < closeAt (depth - level) position marks)
 
--- the same, seen from before a mark
+-- The same, seen from before a mark.
 module _ (level depth position mark : ℕ) (marks : List ℕ) (y : Row) where
   seen-from-close : mark ≡ CLOSE → 0 < depth → Open level (depth - 1) (position + 1) marks y → Open level depth position (mark ∷ marks) y
   seen-from-close h d o =
@@ -65,13 +65,13 @@ module _ (level depth position mark : ℕ) (marks : List ℕ) (y : Row) where
       close-opens (depth - level) position mark marks h k ∙ ap (λ n. closeAt n (position + 1) marks) (omega arith) in
       (l, rw e (o .1))
 
--- an element that is still open at a later row contains it
+-- An element that is still open at a later row contains it.
 opened-contains : (x y : Row) → Settled x y → y .node .start < x .node .end → insideb (y .node) (x .node) ≡ true
 opened-contains x y s l =
     ⊎-elim (λ p. absurd (omega arith)) (λ p. inside-make (y .node) (x .node) (s .document) (s .start) (p .0)) (s .ends)
 
--- around a row stands an element of each level above its own: one of the rows, or one that was open
--- before them and is still open at the row
+-- Around a row stands an element of each level above its own: one of the rows, or one that was open
+-- before them and is still open at the row.
 all-around : (document position depth : ℕ) (marks : List ℕ) → faultFrom position depth marks ≡ TAKEN → (y : Row) (level : ℕ)
     → In y (rowsFrom document position depth marks) → level < y .node .level
     → Around (rowsFrom document position depth marks) level y ⊎ Open level depth position marks y
@@ -101,8 +101,8 @@ all-around document position depth (mark ∷ marks) f y level m l =
     rest : List Row
     rest = rowsFrom document (position + 1) (openAfter depth mark) marks
 
-    -- of the elements that are open after an opening, the one that it opens is around the row, or
-    -- one that was open before it still is
+    -- Of the elements that are open after an opening, the one that it opens is around the row, or
+    -- one that was open before it still is.
     in-opening : (mark ≡ CLOSE → ⊥) → (mark ≡ TEXT → ⊥) → In y rest → Open level (depth + 1) (position + 1) marks y
         → Around rest level y ⊎ ((insideb (y .node) (head .node) ≡ true) × (level ≡ depth + 1)) ⊎ Open level depth position (mark ∷ marks) y
     in-opening h k n o =
@@ -135,7 +135,7 @@ all-around document position depth (mark ∷ marks) f y level m l =
           ]
         ])
 
--- what holds of all rows of a numbered document
+-- What holds of all rows of a numbered document.
 module _ (document : ℕ) (marks : List ℕ) (taken : checkMarks marks ≡ TAKEN) where
   pub table-made : All (Made document 1) (tableOf document marks)
   unfolding tableOf
@@ -154,7 +154,7 @@ module _ (document : ℕ) (marks : List ℕ) (taken : checkMarks marks ≡ TAKEN
     settled : (x ≡ y) ⊎ (Settled x y ⊎ Settled y x)
     settled = every-two-in Settled (tableOf document marks) x y table-settled x-in y-in
 
-    -- y is inside x exactly when its first mark comes after x's opening and before x's close
+    -- y is inside x exactly when its first mark comes after x's opening and before x's close.
     pub inside-between : (insideb (y .node) (x .node) ≡ true) ↔ ((x .node .start < y .node .start) × (y .node .start < x .node .end))
     inside-between = (
       λ h. let w = within (y .node) (x .node) h in
@@ -172,7 +172,7 @@ module _ (document : ℕ) (marks : List ℕ) (taken : checkMarks marks ≡ TAKEN
       ],
     )
 
-    -- what is inside has a higher level
+    -- What is inside has a higher level.
     inside-deeper : insideb (y .node) (x .node) ≡ true → x .node .level < y .node .level
     inside-deeper h =
         let b = inside-between .0 h in
@@ -181,7 +181,7 @@ module _ (document : ℕ) (marks : List ℕ) (taken : checkMarks marks ≡ TAKEN
           | inr s ↦ elim s [ inl s ↦ ⊎-elim (λ p. absurd (omega (arith, b .1))) (λ p. p .1) (s .ends) | inr s ↦ absurd (omega (arith, b .0, s .start)) ]
         ]
 
-  -- of two rows around a third the deeper one is inside the other
+  -- Of two rows around a third the deeper one is inside the other.
   around-nested : (x z y : Row) → In x (tableOf document marks) → In z (tableOf document marks) → In y (tableOf document marks)
       → insideb (y .node) (x .node) ≡ true → insideb (y .node) (z .node) ≡ true → x .node .level < z .node .level → insideb (z .node) (x .node) ≡ true
   around-nested x z y x-in z-in y-in h k l =
@@ -196,7 +196,7 @@ module _ (document : ℕ) (marks : List ℕ) (taken : checkMarks marks ≡ TAKEN
       ]
 
   -- y is directly inside x exactly when x is the element that y stands in: it contains y, and
-  -- nothing that contains y is inside it
+  -- nothing that contains y is inside it.
   pub directly-stands : (x y : Row) → In x (tableOf document marks) → In y (tableOf document marks)
       → (directlyb (y .node) (x .node) ≡ true) ↔ ((insideb (y .node) (x .node) ≡ true)
       × ((z : Row) → In z (tableOf document marks) → insideb (y .node) (z .node) ≡ true → insideb (z .node) (x .node) ≡ true → ⊥))

@@ -25,7 +25,7 @@ use Rattle.marks.proofs.MarkLaws.{check-read}
 use Rattle.marks.proofs.Numbered.{few-rows}
 use Rattle.marks.proofs.RowLaws.{rows-of-words, words-of-rows, length-words}
 
--- rows are a table exactly where some accepted marks have them
+-- Rows are a table exactly where some accepted marks have them.
 pub table-exact : (rs : List Row) → (numberedb rs ≡ true) ↔ Numbering rs
 table-exact rs = (numbered-read rs, numbered-make rs)
 
@@ -39,7 +39,7 @@ whole-rows words = (
   λ h. rw (eq-eqb (length words % ROW-WORDS) 0 (h .0), le-ltb MOST-NODES (length words / ROW-WORDS) (h .1)),
 )
 
--- no other fault is TABLE
+-- No other fault is TABLE.
 other-fault : (words : List ℕ) → rowFault words ≡ TABLE → ⊥
 unfolding rowFault
 other-fault words h =
@@ -75,7 +75,7 @@ module _ (words : List ℕ) where
     λ h. rw (eq-eqb (rowFault words) TAKEN (h .0), not-so (λ n. h .1 (numbered-read (rows words) n))) refl,
   )
 
--- a table is turned back into the marks that it came from
+-- A table is turned back into the marks that it came from.
 module _ (document : ℕ) (marks : List ℕ) (h : checkMarks marks ≡ TAKEN) where
   numbers : Numbering (rows (tableWords document marks))
   unfolding tableWords
@@ -97,7 +97,7 @@ module _ (document : ℕ) (marks : List ℕ) (h : checkMarks marks ≡ TAKEN) wh
   unfolding numbers
   same-document = tell-document (rows (tableWords document marks)) numbers
 
--- and the marks of a table are numbered into it again
+-- And the marks of a table are numbered into it again.
 pub same-table : (table : List ℕ) → checkTable table ≡ TAKEN
     → (checkMarks (tableMarks table) ≡ TAKEN) × (tableOf (documentOf (rows table)) (tableMarks table) ≡ rows table)
     × (tableWords (documentOf (rows table)) (tableMarks table) ≡ table)

@@ -22,7 +22,7 @@ use Rattle.marks.specs.Mark.{CLOSE, closeb, openAfter, faultFrom, checkM
 use Rattle.marks.specs.Table.{row, closeAt, rowsFrom, tableOf, rowIn}
 use Rattle.marks.proofs.MarkLaws.{closes, is-text, opens, kind-of, open-closes, open-text, open-opens, close-here, close-closes, close-text, close-opens, rows-node, end-opens, fault-read, end-read, check-read}
 
--- each tag comes to its mark's place, and what is no row's start stays a close
+-- Each tag comes to its mark's place, and what is no row's start stays a close.
 tags-back : (document position depth : ℕ) (front marks : List ℕ) → position ≡ length front + 1
     → tagged (rowsFrom document position depth marks) (front ++ replicate (length marks) CLOSE) ≡ front ++ marks
 unfolding rowsFrom tagged
@@ -37,12 +37,12 @@ tags-back document position depth front (mark ∷ marks) e =
       | inr h ↦ rw h (ap (tagged later) (set-at front CLOSE rest mark (position - 1) (omega arith)) ∙ next)
     ]
 
--- nothing follows the root's close
+-- Nothing follows the root's close.
 none-follow : (position depth : ℕ) (marks : List ℕ) → 2 ≤ position → depth ≡ 0 → faultFrom position depth marks ≡ TAKEN → length marks ≡ 0
 none-follow position depth [] p z h = refl
 none-follow position depth (mark ∷ marks) p z h = let r = fault-read position depth mark marks h .0 .rooted z in absurd (omega (arith, r .2))
 
--- so the root closes at the last mark
+-- So the root closes at the last mark.
 root-closes : (inner position depth : ℕ) (marks : List ℕ) → depth ≡ inner + 1 → 1 ≤ position → faultFrom position depth marks ≡ TAKEN
     → closeAt inner position marks + 1 ≡ position + length marks
 root-closes inner position depth [] d p h = absurd (omega (arith, end-read position depth h .0))
@@ -64,8 +64,8 @@ root-closes inner position depth (mark ∷ marks) d p h =
         (omega (arith, none-follow (position + 1) (openAfter depth mark) marks (omega arith) (omega (arith, open-closes depth mark k)) f))
     closed (suc i) e k f on = rw (close-closes i position mark marks k) (omega (arith, on i (omega (arith, open-closes depth mark k))))
 
--- the first row of accepted marks is the root's: it ends at the last of them, and tells the
--- document
+-- The first row of accepted marks is the root's: it ends at the last of them, and tells the
+-- document.
 root : (document : ℕ) (marks : List ℕ) → faultFrom 1 0 marks ≡ TAKEN
     → (0 < length (rowsFrom document 1 0 marks)) × (rowIn (rowsFrom document 1 0 marks) 0 .node .end ≡ length marks)
     × (rowIn (rowsFrom document 1 0 marks) 0 .node .document ≡ document)
@@ -95,7 +95,7 @@ module _ (document : ℕ) (marks : List ℕ) (h : faultFrom 1 0 marks ≡ TAKEN)
   marks-back =
       ap (λ n. tagged (rowsFrom document 1 0 marks) (replicate n CLOSE)) (root document marks h .1) ∙ tags-back document 1 0 [] marks (omega arith)
 
--- the rows tell the marks and the document
+-- The rows tell the marks and the document.
 module _ (rs : List Row) (n : Numbering rs) where
   pub tell-some : 0 < length rs
   tell-some = rw (← n .table) (some-row (n .document) (n .marks) (check-read (n .marks) (n .taken) .1))
@@ -109,7 +109,7 @@ module _ (rs : List Row) (n : Numbering rs) where
   pub tell-marks : marksOf rs ≡ n .marks
   tell-marks = rw (← n .table) (marks-back (n .document) (n .marks) (check-read (n .marks) (n .taken) .1))
 
--- rows that are the same are equal
+-- Rows that are the same are equal.
 pub same-row : (x y : Row) → sameRowb x y ≡ true → x ≡ y
 unfolding sameRowb
 same-row x y h =
@@ -134,7 +134,7 @@ unfolding sameRowsb
 rows-themselves [] = refl
 rows-themselves (x ∷ xs) = and-make (row-itself x) (rows-themselves xs)
 
--- rows are numbered exactly where some accepted marks have them as their table
+-- Rows are numbered exactly where some accepted marks have them as their table.
 pub numbered-read : (rs : List Row) → numberedb rs ≡ true → Numbering rs
 unfolding numberedb
 numbered-read rs h =

@@ -31,7 +31,7 @@ module _ (depth mark : ℕ) where
   unfolding openBefore
   before-opens h k = rw (ne-eqb mark CLOSE h, ne-eqb mark TEXT k)
 
-  -- an opening or a text closes nothing, so no more elements are open before it than after
+  -- An opening or a text closes nothing, so no more elements are open before it than after.
   pub before-low : (mark ≡ CLOSE → ⊥) → openBefore depth mark ≤ depth
   before-low h =
       elim (kind-of mark) [
@@ -40,7 +40,7 @@ module _ (depth mark : ℕ) where
         | opens c t ↦ rw (before-opens c t) (omega arith)
       ]
 
-  -- a step back and a step forth lead to the same depth
+  -- A step back and a step forth lead to the same depth.
   pub open-back : ((mark ≡ CLOSE → ⊥) → (mark ≡ TEXT → ⊥) → 0 < depth) → openAfter (openBefore depth mark) mark ≡ depth
   open-back some =
       elim (kind-of mark) [
@@ -49,7 +49,7 @@ module _ (depth mark : ℕ) where
         | opens h k ↦ let s = some h k in rw (before-opens h k, open-opens (depth - 1) mark h k) (omega arith)
       ]
 
--- a step forth and a step back do too, where a mark is in its place
+-- A step forth and a step back do too, where a mark is in its place.
 pub open-forth : (position depth mark : ℕ) → InPlace position depth mark → openBefore (openAfter depth mark) mark ≡ depth
 open-forth position depth mark i =
     elim (kind-of mark) [
@@ -59,17 +59,17 @@ open-forth position depth mark i =
       | opens h k ↦ rw (open-opens depth mark h k, before-opens (depth + 1) mark h k) (omega arith)
     ]
 
--- as many closes are kept as before
+-- As many closes are kept as before.
 pub length-kept : (kept : List ℕ) (position depth mark : ℕ) → length (closesBefore kept position depth mark) ≡ length kept
 unfolding closesBefore
 length-kept kept position depth mark =
     elim (either (closeb mark)) [ inl h ↦ rw h (length-set kept depth position) | inr h ↦ rw h refl ]
 
--- at the end of the marks nothing is open
+-- At the end of the marks nothing is open.
 pub kept-none : (kept : List ℕ) (position : ℕ) (marks : List ℕ) → Kept kept position 0 marks
 kept-none kept position marks inner i = absurd (not-suc-le-zero i)
 
--- the closes kept, one mark further back
+-- The closes kept, one mark further back.
 module _ (kept : List ℕ) (position depth mark : ℕ) (marks : List ℕ) (k : Kept kept (position + 1) depth marks) where
   kept-closes : mark ≡ CLOSE → depth < length kept → Kept (set kept depth position) position (depth + 1) (mark ∷ marks)
   kept-closes h l zero i =
@@ -100,7 +100,7 @@ module _ (kept : List ℕ) (position depth mark : ℕ) (marks : List ℕ) (k : K
         | opens h t ↦ rw (before-opens depth mark h t, ne-eqb mark CLOSE h) (kept-opens h t)
       ]
 
-  -- the row of the node that the mark begins: the innermost of the closes kept is an element's end
+  -- The row of the node that the mark begins: the innermost of the closes kept is an element's end.
   here-ends : (document : ℕ) → (mark ≡ CLOSE → ⊥) → ((mark ≡ TEXT → ⊥) → 0 < depth)
       → rowHere document position kept depth mark ≡ row (node document position (endOf position mark marks) (openBefore depth mark + 1)) mark
   unfolding rowHere
@@ -112,7 +112,7 @@ module _ (kept : List ℕ) (position depth mark : ℕ) (marks : List ℕ) (k : K
             rw (ne-eqb mark TEXT t, end-opens position mark marks t, ap (λ at. getD kept at 0) e ∙ k 0 (some t)) refl
       ]
 
-  -- so the rows from a mark on begin with its own
+  -- So the rows from a mark on begin with its own.
   pub rows-here : (document : ℕ) → (mark ≡ CLOSE → ⊥) → ((mark ≡ TEXT → ⊥) → 0 < depth)
       → rowsFrom document position (openBefore depth mark) (mark ∷ marks)
       ≡ rowHere document position kept depth mark ∷ rowsFrom document (position + 1) depth marks

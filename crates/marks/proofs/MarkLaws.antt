@@ -20,7 +20,7 @@ use Rattle.lists.proofs.Faults.{skip}
 use Rattle.marks.specs.Mark.{CLOSE, TEXT, closeb, textb, openAfter, strayb, deepb, markFault, unclosedb, faultFrom, checkMarks}
 use Rattle.marks.specs.Table.{row, closeAt, endOf, rowsFrom}
 
--- the three kinds of mark
+-- The three kinds of mark.
 pub data Kind (mark : ℕ) : Type 0 where
   closes : mark ≡ CLOSE → Kind mark
   is-text : mark ≡ TEXT → Kind mark
@@ -46,7 +46,7 @@ module _ (depth mark : ℕ) where
   unfolding openAfter
   open-opens h k = rw (ne-eqb mark CLOSE h, ne-eqb mark TEXT k)
 
--- the close of an element, mark by mark
+-- The close of an element, mark by mark.
 module _ (inner position mark : ℕ) (marks : List ℕ) where
   pub close-here : mark ≡ CLOSE → closeAt 0 position (mark ∷ marks) ≡ position
   unfolding closeAt
@@ -64,7 +64,7 @@ module _ (inner position mark : ℕ) (marks : List ℕ) where
   unfolding closeAt openAfter
   close-opens h k = rw (ne-eqb mark CLOSE h, ne-eqb mark TEXT k)
 
--- the rows, mark by mark
+-- The rows, mark by mark.
 module _ (document position depth mark : ℕ) (marks : List ℕ) where
   pub rows-closes : mark ≡ CLOSE → rowsFrom document position depth (mark ∷ marks) ≡ rowsFrom document (position + 1) (depth - 1) marks
   unfolding rowsFrom openAfter
@@ -84,7 +84,7 @@ module _ (position mark : ℕ) (marks : List ℕ) where
   unfolding endOf
   end-opens h = rw (ne-eqb mark TEXT h)
 
--- a mark at a position is in its place, where `depth` elements are open
+-- A mark at a position is in its place, where `depth` elements are open.
 pub record InPlace (position depth mark : ℕ) : Type 0 where
   pub known : mark ≤ TEXT
   pub rooted : depth ≡ 0 → (mark ≡ CLOSE → ⊥) × (mark ≡ TEXT → ⊥) × (position ≤ 1)
@@ -130,12 +130,12 @@ module _ (position depth mark : ℕ) where
   unfolding markFault
   place-in h = rw (le-ltb TEXT mark (h .known), rooted-stray (h .rooted), level-deep (h .level))
 
--- a close that is in its place has an element to close
+-- A close that is in its place has an element to close.
 pub closes-some : (position depth mark : ℕ) → InPlace position depth mark → mark ≡ CLOSE → 0 < depth
 closes-some position zero mark i h = absurd (i .rooted refl .0 h)
 closes-some position (suc depth) mark i h = omega arith
 
--- marks that are taken, mark by mark
+-- Marks that are taken, mark by mark.
 pub fault-read : (position depth mark : ℕ) (marks : List ℕ) → faultFrom position depth (mark ∷ marks) ≡ TAKEN
     → InPlace position depth mark × (faultFrom (position + 1) (openAfter depth mark) marks ≡ TAKEN)
 unfolding faultFrom
@@ -150,7 +150,7 @@ pub fault-make : (position depth mark : ℕ) (marks : List ℕ) → InPlace posi
 unfolding faultFrom
 fault-make position depth mark marks p h = rw (eq-eqb (markFault position depth mark) TAKEN (place-in position depth mark p)) h
 
--- taken marks end with nothing open, and not at the first position
+-- Taken marks end with nothing open, and not at the first position.
 pub end-read : (position depth : ℕ) → faultFrom position depth [] ≡ TAKEN → (depth ≡ 0) × (position ≡ 1 → ⊥)
 unfolding faultFrom unclosedb
 end-read position depth h =
@@ -162,7 +162,7 @@ pub end-make : (position depth : ℕ) → depth ≡ 0 → (position ≡ 1 → �
 unfolding faultFrom unclosedb
 end-make position depth z p = rw (z, ne-eqb position 1 p)
 
--- a list of marks is taken when it isn't too long and no mark is faulty
+-- A list of marks is taken when it isn't too long and no mark is faulty.
 pub check-read : (marks : List ℕ) → checkMarks marks ≡ TAKEN → (length marks ≤ MOST-NODES) × (faultFrom 1 0 marks ≡ TAKEN)
 unfolding checkMarks
 check-read marks h = let p = skip (ltb MOST-NODES (length marks)) _ _ .0 h in (ltb-false _ _ (p .0), p .1)

@@ -16,13 +16,13 @@ use Rattle.marks.specs.Table.{MarkAt, Marked, closeAt, rowsFrom, tableOf
 use Rattle.marks.proofs.MarkLaws.{closes, is-text, opens, kind-of, open-closes, open-text, open-opens, close-here, close-closes, close-text, close-opens, rows-closes, rows-node, end-text, end-opens, InPlace, fault-read, end-read, check-read}
 use Rattle.marks.proofs.Numbered.{close-from}
 
--- the first mark is the one at the first position,
+-- The first mark is the one at the first position,
 mark-first : (position mark : ℕ) (marks : List ℕ) → MarkAt position (mark ∷ marks) position mark
 mark-first position mark marks =
     let e : position - position ≡ 0 = omega arith in
     record { reached = omega arith; present = omega arith; read = ap (λ k. getD (mark ∷ marks) k 0) e }
 
--- and a mark after the first is one of the others
+-- And a mark after the first is one of the others.
 mark-later : (first position at mark : ℕ) (marks : List ℕ) → MarkAt (position + 1) marks at mark → MarkAt position (first ∷ marks) at mark
 mark-later first position at mark marks m =
     let r = m .reached in
@@ -30,7 +30,7 @@ mark-later first position at mark marks m =
     let e : at - position ≡ suc (at - (position + 1)) = omega arith in
     record { reached = omega arith; present = omega arith; read = ap (λ k. getD (first ∷ marks) k 0) e ∙ m .read }
 
--- the mark at the position of an open element's close is a close
+-- The mark at the position of an open element's close is a close.
 close-mark : (inner position depth : ℕ) (marks : List ℕ) → faultFrom position depth marks ≡ TAKEN → inner < depth
     → MarkAt position marks (closeAt inner position marks) CLOSE
 close-mark inner position depth [] f l = absurd (omega (arith, end-read position depth f .0))
@@ -53,7 +53,7 @@ close-mark inner position depth (mark ∷ marks) f l =
     at-close (suc inner) h l later =
         rw (close-closes inner position mark marks h) (mark-later mark position _ CLOSE marks (later inner (omega arith)))
 
--- what holds of the marks after the first holds with the first before them
+-- What holds of the marks after the first holds with the first before them.
 later-marked : (position mark : ℕ) (marks : List ℕ) (r : Row) → Marked (position + 1) marks r → Marked position (mark ∷ marks) r
 later-marked position mark marks r k =
     record {
@@ -106,7 +106,7 @@ all-marked document position depth (mark ∷ marks) f =
     later : All (Marked (position + 1) marks) rest → All (Marked position (mark ∷ marks)) rest
     later m = all-map (later-marked position mark marks) rest m
 
--- the rows of accepted marks stand where their marks do
+-- The rows of accepted marks stand where their marks do.
 pub table-marked : (document : ℕ) (marks : List ℕ) → checkMarks marks ≡ TAKEN → All (Marked 1 marks) (tableOf document marks)
 unfolding tableOf
 table-marked document marks taken = all-marked document 1 0 marks (check-read marks taken .1)

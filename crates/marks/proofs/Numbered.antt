@@ -19,7 +19,7 @@ use Rattle.marks.specs.Mark.{CLOSE, TEXT, closeb, openAfter, faultFrom}
 use Rattle.marks.specs.Table.{closeAt, endOf, rowsFrom}
 use Rattle.marks.proofs.MarkLaws.{closes, is-text, opens, kind-of, open-closes, open-text, open-opens, close-here, close-closes, close-text, close-opens, rows-closes, rows-node, end-text, end-opens, InPlace, fault-read, end-read}
 
--- a close doesn't come before the position from which it is looked for
+-- A close doesn't come before the position from which it is looked for.
 pub close-from : (inner position : ℕ) (marks : List ℕ) → position ≤ closeAt inner position marks
 unfolding closeAt
 close-from inner position [] = omega arith
@@ -35,7 +35,7 @@ close-from inner position (mark ∷ marks) =
     close-first zero h later = rw (close-here 0 position mark marks h) (omega arith)
     close-first (suc inner) h later = let r = later inner in rw (close-closes inner position mark marks h) (omega arith)
 
--- accepted marks close an element before the one around it
+-- Accepted marks close an element before the one around it.
 pub closes-in-turn : (inner position depth : ℕ) (marks : List ℕ) → faultFrom position depth marks ≡ TAKEN → suc inner < depth
     → closeAt inner position marks < closeAt (suc inner) position marks
 closes-in-turn inner position depth [] f h = absurd (omega (arith, end-read position depth f .0))
@@ -60,7 +60,7 @@ closes-in-turn inner position depth (mark ∷ marks) f h =
     close-turn (suc inner) e h later =
         rw (close-closes inner position mark marks e, close-closes (suc inner) position mark marks e) (later inner (omega arith))
 
--- so the innermost element closes first
+-- So the innermost element closes first.
 pub innermost-first : (inner position depth : ℕ) (marks : List ℕ) → faultFrom position depth marks ≡ TAKEN → suc inner < depth
     → closeAt 0 position marks < closeAt (suc inner) position marks
 innermost-first zero position depth marks f h = closes-in-turn 0 position depth marks f h
@@ -69,7 +69,7 @@ innermost-first (suc inner) position depth marks f h =
     let t = closes-in-turn (suc inner) position depth marks f h in
     omega arith
 
--- what every row of accepted marks has, where the rows are made from a position on
+-- What every row of accepted marks has, where the rows are made from a position on.
 pub record Made (document position : ℕ) (r : Row) : Type 0 where
   pub of-document : r .node .document ≡ document
   pub begins : position ≤ r .node .start
@@ -119,8 +119,8 @@ all-made document position depth (mark ∷ marks) f =
           all-map (later-made document position) (rowsFrom document (position + 1) (openAfter depth mark) marks) later,
         )
 
--- a row begins after the close of an element that is open, or ends before that close and stands
--- deeper than the element
+-- A row begins after the close of an element that is open, or ends before that close and stands
+-- deeper than the element.
 abbrev Beside : ℕ → ℕ → Row → Type 0
 Beside close level r = (close < r .node .start) ⊎ ((r .node .end < close) × (level < r .node .level))
 
@@ -160,8 +160,8 @@ all-beside document position depth inner (mark ∷ marks) f l =
         let e : depth - 1 - inner ≡ depth - suc inner = omega arith in
         rw (close-closes inner position mark marks h) (rw e at (later inner (omega arith)))
 
--- of two rows of one document the later one starts later; it starts after the earlier one's end, or
--- ends before it and stands deeper
+-- Of two rows of one document the later one starts later; it starts after the earlier one's end, or
+-- ends before it and stands deeper.
 pub record Settled (x y : Row) : Type 0 where
   pub document : y .node .document ≡ x .node .document
   pub start : x .node .start < y .node .start
@@ -195,7 +195,7 @@ all-settled document position depth (mark ∷ marks) f =
     r : InPlace position depth mark × (faultFrom (position + 1) (openAfter depth mark) marks ≡ TAKEN)
     r = fault-read position depth mark marks f
 
--- there are no more rows than marks
+-- There are no more rows than marks.
 pub few-rows : (document position depth : ℕ) (marks : List ℕ) → length (rowsFrom document position depth marks) ≤ length marks
 unfolding rowsFrom
 few-rows document position depth [] = omega arith

@@ -10,7 +10,7 @@ use Rattle.answers.specs.Output.{written, answerOf, outputOf}
 use Rattle.answers.proofs.OutputLaws.{if-taken, if-refused}
 use Rattle.marks.specs.Outcome.{outcome, outcomeOf}
 
--- what the two calls that count their result answer and write
+-- What the two calls that count their result answer and write.
 module _ (fault : ℕ) (result out : List ℕ) (count : ℕ) where
   pub all-refused : (answer : ℕ) → answerOf fault result out ≡ answer → (answer ≡ TAKEN → ⊥)
       → (outcome answer 0 ≡ outcomeOf fault result out count) × (out ≡ outputOf fault result out)

@@ -23,7 +23,7 @@ use Rattle.marks.specs.Table.{rowsFrom}
 use Rattle.marks.specs.Private.Walk.{markPlace, rowCount, afterMark, passed, walked, answerIn}
 use Rattle.marks.proofs.MarkLaws.{closes, is-text, opens, kind-of, open-closes, open-text, open-opens}
 
--- how many rows the marks make, mark by mark
+-- How many rows the marks make, mark by mark.
 module _ (mark : ℕ) (marks : List ℕ) where
   pub count-closes : mark ≡ CLOSE → rowCount (mark ∷ marks) ≡ rowCount marks
   unfolding rowCount keep
@@ -33,12 +33,12 @@ module _ (mark : ℕ) (marks : List ℕ) where
   unfolding rowCount keep
   count-node h = rw (ne-eqb mark CLOSE h) (omega arith)
 
--- a mark makes at most one row
+-- A mark makes at most one row.
 count-high : (mark : ℕ) → rowCount (mark ∷ []) ≤ 1
 unfolding rowCount keep
 count-high mark = elim (either (closeb mark)) [ inl h ↦ rw h (omega arith) | inr h ↦ rw h (omega arith) ]
 
--- the table has as many rows
+-- The table has as many rows.
 pub length-table : (document position depth : ℕ) (marks : List ℕ) → length (rowsFrom document position depth marks) ≡ rowCount marks
 unfolding rowsFrom rowCount keep
 length-table document position depth [] = refl
@@ -46,7 +46,7 @@ length-table document position depth (mark ∷ marks) =
     let later = length-table document (position + 1) (openAfter depth mark) marks in
     elim (either (closeb mark)) [ inl h ↦ rw h later | inr h ↦ rw h (ap suc later) ]
 
--- the rows counted and those to come are as many after a mark as before it
+-- The rows counted and those to come are as many after a mark as before it.
 rows-after : (p : MarkPlace) (mark : ℕ) (marks : List ℕ) → afterMark p mark .rows + rowCount marks ≡ p .rows + rowCount (mark ∷ marks)
 unfolding afterMark
 rows-after p mark marks =
@@ -55,7 +55,7 @@ rows-after p mark marks =
       | inr h ↦ rw (h, count-node mark marks (eqb-false _ _ h)) (omega arith)
     ]
 
--- what a walk's answer says of the marks' fault and of the rows
+-- What a walk's answer says of the marks' fault and of the rows.
 Told : ℕ → ℕ → Step → Type 0
 Told fault rows (Reached p) = (fault ≡ TAKEN) × (p .rows ≡ rows)
 Told fault rows (Refused answer) = (answer ≡ fault) × (fault ≡ TAKEN → ⊥)
@@ -81,7 +81,7 @@ module _ (marks : List ℕ) (r : Step) (e : r ≡ walked 1 (markPlace 0 0) marks
       let t = subst (Told (faultFrom 1 0 marks) (0 + rowCount marks)) (sym e ∙ h) (told 1 (markPlace 0 0) marks) in
       (ap answerIn h ∙ t .0, t .1)
 
--- a walk that has passed `count` marks. What it has left to walk leads to the answer of the whole
+-- A walk that has passed `count` marks. What it has left to walk leads to the answer of the whole
 -- walk, and it has opened and begun no more than it has passed.
 pub record Walk (count : ℕ) (p : MarkPlace) (rest : List ℕ) (whole : Step) : Type 0 where
   pub depth : p .depth ≤ count
@@ -91,12 +91,12 @@ pub record Walk (count : ℕ) (p : MarkPlace) (rest : List ℕ) (whole : Step) :
 pub walk-start : (marks : List ℕ) → Walk 0 (markPlace 0 0) marks (walked 1 (markPlace 0 0) marks)
 walk-start marks = record { depth = omega arith; rows = omega arith; same = refl }
 
--- what a step's answer says of the walk
+-- What a step's answer says of the walk.
 Steps : ℕ → List ℕ → Step → Step → Type 0
 Steps count rest whole (Reached p) = Walk count p rest whole
 Steps count rest whole (Refused answer) = _≡_ {A = Step} (Refused answer) whole
 
--- a mark opens at most one element
+-- A mark opens at most one element.
 open-high : (depth mark : ℕ) → openAfter depth mark ≤ depth + 1
 open-high depth mark =
     elim (kind-of mark) [
@@ -105,7 +105,7 @@ open-high depth mark =
       | opens h k ↦ rw (open-opens depth mark h k) (omega arith)
     ]
 
--- the marks from an index on begin with the one there
+-- The marks from an index on begin with the one there.
 from-here : (marks : List ℕ) (i : ℕ) → i < length marks → drop i marks ≡ getD marks i 0 ∷ drop (i + 1) marks
 from-here marks i h = rw (add-one i) (drop-cons marks i 0 h)
 
@@ -133,7 +133,7 @@ module _ {count : ℕ} {p : MarkPlace} (marks : List ℕ) {whole : Step} (w : Wa
       unfolding Steps
       walk-stop answer h = h ∙ subst (Steps (count + 1) (drop (count + 1) marks) whole) (sym e ∙ h) steps
 
-  -- at the end the root must have been opened and closed, else the answer is UNCLOSED
+  -- At the end the root must have been opened and closed, else the answer is UNCLOSED.
   module _ (i : length marks ≤ count) where
     walk-end : cond (unclosedb (count + 1) (p .depth)) (Refused UNCLOSED) (Reached p) ≡ whole
     unfolding walked

@@ -34,7 +34,7 @@ use Rattle.marks.proofs.MarkLaws.{check-read}
 use Rattle.marks.proofs.Numbered.{Made, Settled, few-rows}
 use Rattle.marks.proofs.RowLaws.{rows-of-words}
 
--- what holds of the nodes of all rows holds of the nodes picked
+-- What holds of the nodes of all rows holds of the nodes picked.
 all-nodes : (P : Node → Type 0) (rs : List Row) → All (λ r. P (r .node)) rs → All P (map (λ r. r .node) rs)
 all-nodes P [] h = tt
 all-nodes P (r ∷ rs) h = (h .0, all-nodes P rs (h .1))
@@ -61,19 +61,19 @@ settled-fine x y s = record {
       (s .ends);
 }
 
--- two rows that are equal, or of which one is settled after the other, are not at odds
+-- Two rows that are equal, or of which one is settled after the other, are not at odds.
 none-odd : (x y : Row) → (x ≡ y) ⊎ (Settled x y ⊎ Settled y x) → oddsb (x .node) (y .node) ≡ false
 none-odd x y (inl e) = subst (λ z. oddsb (x .node) (z .node) ≡ false) e (even-self (x .node))
 none-odd x y (inr (inl s)) = fine-even (x .node) (y .node) (settled-fine x y s)
 none-odd x y (inr (inr s)) = even-turned (y .node) (x .node) (fine-even (y .node) (x .node) (settled-fine y x s))
 
 module _ (document : ℕ) (marks : List ℕ) (taken : checkMarks marks ≡ TAKEN) where
-  -- what picking a tag finds in the words that numbering wrote
+  -- What picking a tag finds in the words that numbering wrote.
   picked-nodes : (tag : ℕ) → nodes (pickedWords tag (tableWords document marks)) ≡ nodesWith tag (tableOf document marks)
   unfolding pickedWords tableWords
   picked-nodes tag = nodes-of-words _ ∙ ap (nodesWith tag) (rows-of-words (tableOf document marks))
 
-  -- each tag's list of a numbered document is accepted,
+  -- Each tag's list of a numbered document is accepted,
   pub tag-taken : (tag : ℕ) → checkWords (pickedWords tag (tableWords document marks)) .answer ≡ TAKEN
   unfolding pickedWords tableWords tableOf
   tag-taken tag =
@@ -93,7 +93,7 @@ module _ (document : ℕ) (marks : List ℕ) (taken : checkMarks marks ≡ TAKEN
       sound : (r : Row) → Made document 1 r → Sound (r .node)
       sound r m = record { lowest = m .lowest; highest = m .highest; span = m .span }
 
-  -- and any two of them agree: no JOINT
+  -- And any two of them agree: no JOINT.
   pub tags-agree : (s t : ℕ) → checkTwo (pickedWords s (tableWords document marks)) (pickedWords t (tableWords document marks)) .answer ≡ TAKEN
   tags-agree s t =
       two-taken-iff (pickedWords s (tableWords document marks)) (pickedWords t (tableWords document marks)) .1 (

@@ -23,7 +23,7 @@ use Rattle.marks.specs.Table.{ROW-WORDS, row, rows, rowIn}
 use Rattle.nodes.proofs.WordLaws.{length-words}
 use Rattle.marks.proofs.RowLaws.{length-rows}
 
--- the nodes picked of some rows and of one row more
+-- The nodes picked of some rows and of one row more.
 module _ (tag : ℕ) where
   picked-append : (rs qs : List Row) → nodesWith tag (rs ++ qs) ≡ nodesWith tag rs ++ nodesWith tag qs
   unfolding nodesWith keep
@@ -47,7 +47,7 @@ module _ (tag : ℕ) where
   picked-few [] = omega arith
   picked-few (r ∷ rs) = let h = picked-few rs in elim (either (eqb (r .tag) tag)) [ inl k ↦ rw k (omega arith) | inr k ↦ rw k (omega arith) ]
 
--- the nodes picked of the first rows of a table
+-- The nodes picked of the first rows of a table.
 abbrev pub firstsWith : ℕ → List ℕ → ℕ → List Node
 firstsWith tag table index = nodesWith tag (take index (rows table))
 
@@ -62,7 +62,7 @@ module _ (tag : ℕ) (table : List ℕ) (index : ℕ) where
   pub firsts-all : length table / ROW-WORDS ≤ index → firstsWith tag table index ≡ nodesWith tag (rows table)
   firsts-all h = ap (nodesWith tag) (take-all index (rows table) (omega (arith, length-rows table)))
 
-  -- the first rows never give more nodes than all rows
+  -- The first rows never give more nodes than all rows.
   pub firsts-part : length (firstsWith tag table index) ≤ length (nodesWith tag (rows table))
   firsts-part =
       let e = ap (λ rs. length (nodesWith tag rs)) (take-append-drop index (rows table)) in
@@ -80,7 +80,7 @@ module _ (tag : ℕ) (table : List ℕ) (index : ℕ) where
     pub firsts-no : (r .tag ≡ tag → ⊥) → firstsWith tag table (index + 1) ≡ firstsWith tag table index
     firsts-no k = ap (nodesWith tag) one-more ∙ picked-no tag (take index (rows table)) r k
 
--- a node put after those already written
+-- A node put after those already written.
 pub put-beyond : (ns : List Node) (n : Node) (out₀ out : List ℕ) (found : ℕ) → found ≡ length ns → found < count out
     → length out ≡ length out₀ → out ≡ written (wordsIn wordsOf ns) out₀ → putNode out found n ≡ written (wordsIn wordsOf (ns ++ (n ∷ []))) out₀
 unfolding putNode wordsOf

@@ -29,8 +29,8 @@ use Rattle.marks.proofs.Inverse.{tell-some, tell-last, tell-document, s
 use Rattle.marks.proofs.Keeping.{before-closes, open-back, kept-none, kept-before, rows-here, open-forth, length-kept}
 use Rattle.marks.proofs.MarkLaws.{closes, is-text, opens, kind-of, open-closes, open-text, open-opens, rows-closes, rows-node, closes-some, InPlace, in-place, place-in, fault-read, fault-make, end-read, end-make, check-read, check-make}
 
--- a mark fits the last of the rows left: there is room to keep a close, and any other mark is in
--- its place and has that row
+-- A mark fits the last of the rows left: there is room to keep a close, and any other mark is in
+-- its place and has that row.
 pub record Fits (rs : List Row) (document position : ℕ) (kept : List ℕ) (q : MarkPlace) (mark : ℕ) : Type 0 where
   pub room : mark ≡ CLOSE → q .depth < MOST-LEVELS
   pub inner : (mark ≡ CLOSE → ⊥) → (mark ≡ TEXT → ⊥) → 0 < q .depth
@@ -65,7 +65,7 @@ module _ (rs : List Row) (document position : ℕ) (kept : List ℕ) (q : MarkPl
             rw (c, d, eq-eqb _ _ (place-in position (openBefore (q .depth) mark) mark (f .right n)), f .same n) (row-itself (rowIn rs (q .rows - 1)))
       ]
 
--- the rows from an index on
+-- The rows from an index on.
 module _ (rs : List Row) (k : ℕ) {x : Row} {xs : List Row} (h : drop k rs ≡ x ∷ xs) where
   row-first : rowIn rs k ≡ x
   unfolding rowIn
@@ -84,7 +84,7 @@ unfolding rowIn
 rows-last rs zero p h = absurd (not-suc-le-zero p)
 rows-last rs (suc k) p h = rw (sub-one (suc k)) (drop-cons rs k (row (node 0 0 0 0) 0) h)
 
--- a mark that fits is in its place
+-- A mark that fits is in its place.
 right-place : (rs : List Row) (document position : ℕ) (kept : List ℕ) (q : MarkPlace) (mark : ℕ) → Fits rs document position kept q mark
     → InPlace position (openBefore (q .depth) mark) mark
 right-place rs document position kept q mark f =
@@ -94,14 +94,14 @@ right-place rs document position kept q mark f =
       | inr c ↦ f .right (eqb-false _ _ c)
     ]
 
--- the rows from index `count` on are those of marks that are taken after position `p`, where
--- `depth` elements are open
+-- The rows from index `count` on are those of marks that are taken after position `p`, where
+-- `depth` elements are open.
 record Part (rs : List Row) (document p depth count : ℕ) (marks : List ℕ) : Type 0 where
   fault : faultFrom (p + 1) depth marks ≡ TAKEN
   beyond : drop count rs ≡ rowsFrom document (p + 1) depth marks
   within : count ≤ length rs
 
--- one mark further back, which fits
+-- One mark further back, which fits.
 module _ (rs : List Row) (document p : ℕ) (kept : List ℕ) (q : MarkPlace) (mark : ℕ) (marks : List ℕ)
     (a : Part rs document (suc p) (q .depth) (q .rows) marks) (k : Kept kept (suc p + 1) (q .depth) marks)
     (f : Fits rs document (suc p) kept q mark) where
@@ -138,7 +138,7 @@ module _ (rs : List Row) (document p : ℕ) (kept : List ℕ) (q : MarkPlace) (m
             })
       ]
 
--- the mark told is the last row's tag if that row starts at the position, else a close
+-- The mark told is the last row's tag if that row starts at the position, else a close.
 module _ (rs : List Row) (count position : ℕ) where
   pub told-close : (0 < count → rowIn rs (count - 1) .node .start ≡ position → ⊥) → markHere rs count position ≡ CLOSE
   unfolding markHere
@@ -152,20 +152,20 @@ module _ (rs : List Row) (count position : ℕ) where
   unfolding markHere
   told-tag l h = rw (lt-ltb 0 count l, eq-eqb (rowIn rs (count - 1) .node .start) position h) refl
 
--- a mark told that is no close begins the last row
+-- A mark told that is no close begins the last row.
 pub told-some : (rs : List Row) (count position : ℕ) → (markHere rs count position ≡ CLOSE → ⊥) → 0 < count
 unfolding markHere
 told-some rs zero position n = absurd (n refl)
 told-some rs (suc count) position n = omega arith
 
--- `count` marks that are taken and have the rows
+-- `count` marks that are taken and have the rows.
 record Marks (rs : List Row) (document count : ℕ) : Type 0 where
   marks : List ℕ
   fault : faultFrom 1 0 marks ≡ TAKEN
   table : rowsFrom document 1 0 marks ≡ rs
   long : length marks ≡ count
 
--- rows that read back are the table of the marks told
+-- Rows that read back are the table of the marks told.
 sound : (rs : List Row) (document p : ℕ) (kept : List ℕ) (q : MarkPlace) (marks : List ℕ) (count : ℕ) → count ≡ p + length marks
     → Part rs document p (q .depth) (q .rows) marks → Kept kept (p + 1) (q .depth) marks → length kept ≡ MOST-LEVELS
     → readsBack rs document p kept q ≡ true → Marks rs document count
@@ -190,7 +190,7 @@ sound rs document (suc p) kept q marks count e a k l h =
     (length-kept kept (suc p) (q .depth) mark ∙ l)
     (r .1)
 
--- the place after marks; the last mark comes first in the list
+-- The place after marks; the last mark comes first in the list.
 placeOf : List ℕ → MarkPlace
 placeOf [] = markPlace 0 0
 placeOf (mark ∷ marks) = afterMark (placeOf marks) mark
@@ -198,7 +198,7 @@ placeOf (mark ∷ marks) = afterMark (placeOf marks) mark
 back-one : (n : ℕ) → n + 1 - 1 ≡ n
 back-one n = omega arith
 
--- what holds at a place in marks that are taken and have the rows: the rows left start before it
+-- What holds at a place in marks that are taken and have the rows: the rows left start before it.
 record Before (rs : List Row) (document p : ℕ) (q : MarkPlace) (marks : List ℕ) : Type 0 where
   part : Part rs document p (q .depth) (q .rows) marks
   deep : q .depth ≤ MOST-LEVELS
@@ -208,7 +208,7 @@ module _ (rs : List Row) (document p : ℕ) (q : MarkPlace) (mark : ℕ) (marks 
   here : InPlace (suc p) (q .depth) mark × (faultFrom (suc p + 1) (openAfter (q .depth) mark) marks ≡ TAKEN)
   here = fault-read (suc p) (q .depth) mark marks (rw (add-one p) at (b .part .fault))
 
-  -- the first row after the place is the node's own
+  -- The first row after the place is the node's own.
   own : (mark ≡ CLOSE → ⊥) → drop (q .rows) rs
       ≡ row (node document (suc p) (endOf (suc p) mark marks) (q .depth + 1)) mark ∷ rowsFrom document (suc p + 1) (openAfter (q .depth) mark) marks
   own n = (rw (add-one p) at (b .part .beyond)) ∙ rows-node document (suc p) (q .depth) mark marks n
@@ -247,7 +247,7 @@ module _ (rs : List Row) (document p : ℕ) (q : MarkPlace) (mark : ℕ) (marks 
             })
       ]
 
-  -- the rows tell the mark
+  -- The rows tell the mark.
   told : markHere rs (afterMark q mark .rows) (suc p) ≡ mark
   unfolding afterMark
   told =
@@ -279,7 +279,7 @@ module _ (rs : List Row) (document p : ℕ) (q : MarkPlace) (mark : ℕ) (marks 
             ∙ rows-here kept (suc p) (openAfter (q .depth) mark) mark marks k document n (inner n))));
       }
 
--- what holds where marks that are taken and have the rows are cut in two
+-- What holds where marks that are taken and have the rows are cut in two.
 cut : (rs : List Row) (document : ℕ) (passed marks : List ℕ) → faultFrom 1 0 (reverseAux passed marks) ≡ TAKEN
     → rowsFrom document 1 0 (reverseAux passed marks) ≡ rs → Before rs document (length passed) (placeOf passed) marks
 unfolding placeOf
@@ -288,7 +288,7 @@ cut rs document [] marks f t =
 cut rs document (mark ∷ passed) marks f t =
     before-on rs document (length passed) (placeOf passed) mark marks (cut rs document passed (mark ∷ marks) f t)
 
--- the table of such marks reads back
+-- The table of such marks reads back.
 complete : (rs : List Row) (document : ℕ) (passed marks kept : List ℕ) → faultFrom 1 0 (reverseAux passed marks) ≡ TAKEN
     → rowsFrom document 1 0 (reverseAux passed marks) ≡ rs → Kept kept (length passed + 1) (placeOf passed .depth) marks → length kept ≡ MOST-LEVELS
     → readsBack rs document (length passed) kept (placeOf passed) ≡ true
@@ -339,13 +339,13 @@ module _ (rs : List Row) (document last : ℕ) where
       (λ i. readsBack rs document (l i) (replicate MOST-LEVELS 0) (markPlace (d i) (n i)))
       ∙ complete rs document passed [] (replicate MOST-LEVELS 0) g u (rw (← d) (kept-none (replicate MOST-LEVELS 0) (length passed + 1) [])) refl
 
--- a table has a row, and at most 4,096 marks
+-- A table has a row, and at most 4,096 marks.
 pub table-tells : (rs : List Row) → numberedb rs ≡ true → (0 < length rs) × (rowIn rs 0 .node .end ≤ MOST-NODES)
 table-tells rs h =
     let n = numbered-read rs h in
     (tell-some rs n, omega (arith, check-read (n .marks) (n .taken) .0, tell-last rs n))
 
--- rows of at most 4,096 marks read back exactly where they are a table
+-- Rows of at most 4,096 marks read back exactly where they are a table.
 pub reads-back : (rs : List Row) → 0 < length rs → rowIn rs 0 .node .end ≤ MOST-NODES
     → allReadBack rs (documentOf rs) (rowIn rs 0 .node .end) ≡ numberedb rs
 unfolding tableOf

@@ -15,7 +15,7 @@ use Rattle.marks.specs.Table.{tableOf, tableWords, rows}
 use Rattle.marks.proofs.Outcomes.{all-written}
 use Rattle.marks.proofs.Exact.{table-taken, same-marks, same-document, same-table}
 
--- what numbering and the way back answer and write if they are taken and have room
+-- What numbering and the way back answer and write if they are taken and have room.
 pub number-taken : (document : ℕ) (marks out : List ℕ) → checkMarks marks ≡ TAKEN → length (tableWords document marks) ≤ length out
     → (numberOutcome document marks out ≡ outcome TAKEN (length (tableOf document marks)))
     × (numberOutput document marks out ≡ written (tableWords document marks) out)
@@ -37,7 +37,7 @@ unnumber-taken table out h l =
       if-taken f m out (written m out) out a,
     )
 
--- what numbering wrote is turned back into the marks and the document that it was given
+-- What numbering wrote is turned back into the marks and the document that it was given.
 pub marks-return : (document : ℕ) (marks out : List ℕ) → checkMarks marks ≡ TAKEN → length marks ≤ length out
     → (unnumberOutcome (tableWords document marks) out ≡ unnumbered TAKEN document (length marks))
     × (unnumberOutput (tableWords document marks) out ≡ written marks out)
@@ -47,7 +47,7 @@ marks-return document marks out h l =
     let r = unnumber-taken (tableWords document marks) out (table-taken document marks h) (rw m l) in
     (r .0 ∙ (λ t. unnumbered TAKEN (d t) (length (m t))), r .1 ∙ (λ t. written (m t) out))
 
--- what the way back wrote is numbered into the table that it was given
+-- What the way back wrote is numbered into the table that it was given.
 pub table-returns : (table out : List ℕ) → checkTable table ≡ TAKEN → length table ≤ length out
     → (numberOutcome (documentOf (rows table)) (tableMarks table) out ≡ outcome TAKEN (length (rows table)))
     × (numberOutput (documentOf (rows table)) (tableMarks table) out ≡ written table out)

@@ -27,7 +27,7 @@ length-rows (d ∷ s ∷ e ∷ l ∷ t ∷ ws) = let h = length-rows ws in omega
 beyond : (d s e l t : ℕ) (ws : List ℕ) {k m : ℕ} → m ≡ suc (suc (suc (suc (suc k)))) → getD (d ∷ s ∷ e ∷ l ∷ t ∷ ws) m 0 ≡ getD ws k 0
 beyond d s e l t ws q = rw q
 
--- a row's words are those at five times its index
+-- A row's words are those at five times its index.
 pub row-words : (ws : List ℕ) (i : ℕ) → i < length ws / ROW-WORDS
     → rowIn (rows ws) i
     ≡ row (node (getD ws (5 * i) 0) (getD ws (5 * i + 1) 0) (getD ws (5 * i + 2) 0) (getD ws (5 * i + 3) 0)) (getD ws (5 * i + 4) 0)
@@ -48,7 +48,7 @@ row-words (d ∷ s ∷ e ∷ l ∷ t ∷ ws) (suc i) h =
     (sym (beyond d s e l t ws {k = 5 * i + 3} {m = 5 * suc i + 3} (omega arith)) k))
     (sym (beyond d s e l t ws {k = 5 * i + 4} {m = 5 * suc i + 4} (omega arith)) k)
 
--- the rows from an index on begin with the one there, and after the last there is none
+-- The rows from an index on begin with the one there, and after the last there is none.
 pub rows-from : (ws : List ℕ) (i : ℕ) → i < length ws / ROW-WORDS → drop i (rows ws) ≡ rowIn (rows ws) i ∷ drop (i + 1) (rows ws)
 unfolding rowIn
 rows-from ws i h = rw (add-one i) (drop-cons (rows ws) i (row (node 0 0 0 0) 0) (omega (arith, length-rows ws)))
@@ -56,8 +56,8 @@ rows-from ws i h = rw (add-one i) (drop-cons (rows ws) i (row (node 0 0 0 0) 0) 
 pub rows-beyond : (ws : List ℕ) (i : ℕ) → length ws / ROW-WORDS ≤ i → drop i (rows ws) ≡ []
 rows-beyond ws i h = drop-of-length-le (rows ws) {i = i} (omega (arith, length-rows ws))
 
--- rows written as words are read as the same rows, and the words of whole rows are written as they
--- were
+-- Rows written as words are read as the same rows, and the words of whole rows are written as they
+-- were.
 pub rows-of-words : (rs : List Row) → rows (wordsIn rowWords rs) ≡ rs
 unfolding rows wordsIn flatMap rowWords wordsOf
 rows-of-words [] = refl

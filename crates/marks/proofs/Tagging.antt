@@ -20,7 +20,7 @@ use Rattle.marks.specs.Mark.{CLOSE, closeb, openAfter}
 use Rattle.marks.specs.Table.{rowsFrom, tableOf, rowIn}
 use Rattle.marks.proofs.Inverse.{tell-last, numbered-read}
 
--- one close more, put after the others
+-- One close more, put after the others.
 pub close-more : (put : ℕ) (out : List ℕ) → put < length out
     → set (written (replicate put CLOSE) out) put CLOSE ≡ written (replicate (put + 1) CLOSE) out
 unfolding written
@@ -33,7 +33,7 @@ close-more put out h =
     ∙ ap (λ us. us ++ drop (suc put) out) (replicate-append-replicate put 1 CLOSE)
     ∙ ap (λ k. replicate (put + 1) CLOSE ++ drop k out) (sym (length-replicate (put + 1) CLOSE ∙ add-one put))
 
--- a row starts at one of the first `count` marks
+-- A row starts at one of the first `count` marks.
 abbrev pub Within : ℕ → Row → Type 0
 Within count r = (0 < r .node .start) × (r .node .start ≤ count)
 
@@ -48,7 +48,7 @@ unfolding tagged
 length-tagged [] marks = refl
 length-tagged (r ∷ rs) marks = length-tagged rs (set marks (r .node .start - 1) (r .tag)) ∙ length-set marks (r .node .start - 1) (r .tag)
 
--- tags put into an output that begins with marks change those marks only
+-- Tags put into an output that begins with marks change those marks only.
 tagged-front : (rs : List Row) (count : ℕ) (marks rest : List ℕ) → length marks ≡ count → All (Within count) rs
     → tagged rs (marks ++ rest) ≡ tagged rs marks ++ rest
 unfolding tagged
@@ -58,7 +58,7 @@ tagged-front (r ∷ rs) count marks rest l a =
     ap (tagged rs) (set-append-left marks rest (r .node .start - 1) (r .tag) (omega (arith, s .0, s .1)))
     ∙ tagged-front rs count (set marks (r .node .start - 1) (r .tag)) rest (length-set marks (r .node .start - 1) (r .tag) ∙ l) (a .1)
 
--- the rows of marks start at them
+-- The rows of marks start at them.
 starts-in : (document position depth last : ℕ) (marks : List ℕ) → 0 < position → position + length marks ≤ last + 1
     → All (Within last) (rowsFrom document position depth marks)
 unfolding rowsFrom
@@ -75,7 +75,7 @@ module _ (rs : List Row) (h : numberedb rs ≡ true) where
   pub table-within : All (Within (rowIn rs 0 .node .end)) rs
   table-within = all-within rs (numbered-read rs h)
 
-  -- so putting closes and then tags puts the marks
+  -- So putting closes and then tags puts the marks.
   pub puts-marks : (out : List ℕ) → tagged rs (written (replicate (rowIn rs 0 .node .end) CLOSE) out) ≡ written (marksOf rs) out
   unfolding written marksOf
   puts-marks out =

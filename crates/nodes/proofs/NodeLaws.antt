@@ -15,7 +15,7 @@ use Rattle.nodes.specs.declared.node.Node.{Node}
 use Rattle.nodes.specs.Node.{endsb, insideb, deeperb, directlyb, apartb, afterb, openb, sameb}
 use Rattle.laws.proofs.Tests.{not-so, and-read, and-make, or-read, or-left, or-right, or-none}
 
--- a node that ends within another ends before it
+-- A node that ends within another ends before it.
 ends-before : (y x : Node) → endsb y x ≡ true → y .end < x .end
 unfolding endsb
 ends-before y x h = ltb-true _ _ h
@@ -24,7 +24,7 @@ ends-trans : (z y x : Node) → endsb z y ≡ true → endsb y x ≡ true → en
 unfolding endsb
 ends-trans z y x h k = let p = ends-before z y h in let q = ends-before y x k in lt-ltb (z .end) (x .end) (omega arith)
 
--- what every layer above may use of a node inside another
+-- What every layer above may use of a node inside another.
 pub record Within (y x : Node) : Type 0 where
   pub document : y .document ≡ x .document
   pub start : x .start < y .start
@@ -42,12 +42,12 @@ within y x h =
     let e = ends-before y x (q .1) in
     record { document = eqb-true _ _ (p .0); start = ltb-true _ _ (q .0); end = omega arith }
 
--- of a later node of x's document only the end is left to compare
+-- Of a later node of x's document only the end is left to compare.
 pub inside-by-end : (y x : Node) → y .document ≡ x .document → x .start < y .start → endsb y x ≡ insideb y x
 unfolding insideb
 inside-by-end y x d s = rw (eq-eqb _ _ d, lt-ltb _ _ s)
 
--- a node that starts later in x's document and ends earlier is inside x
+-- A node that starts later in x's document and ends earlier is inside x.
 pub inside-make : (y x : Node) → y .document ≡ x .document → x .start < y .start → y .end < x .end → insideb y x ≡ true
 unfolding endsb
 inside-make y x d s e = sym (inside-by-end y x d s) ∙ lt-ltb (y .end) (x .end) e
@@ -58,11 +58,11 @@ inside-trans z y x h k =
     let q = within y x k in
     sym (inside-by-end z x (omega arith) (omega arith)) ∙ ends-trans z y x (inside-ends z y h) (inside-ends y x k)
 
--- a node isn't inside itself
+-- A node isn't inside itself.
 pub inside-self : (x : Node) → insideb x x ≡ false
 inside-self x = not-so (λ h. lt-irrefl _ (within x x h .start))
 
--- no node is inside a text, which ends where it starts, unless that node ends before its own start
+-- No node is inside a text, which ends where it starts, unless that node ends before its own start.
 pub text-empty : (y x : Node) → y .start ≤ y .end → x .end ≡ x .start → insideb y x ≡ false
 text-empty y x span t = not-so (λ h. let w = within y x h in omega arith)
 
@@ -96,7 +96,7 @@ after-read y x h =
     (λ p. let q = and-read (eqb (y .document) (x .document)) p in inr (eqb-true _ _ (q .0), ltb-true _ _ (q .1)))
     (or-read (ltb (x .document) (y .document)) h)
 
--- within one document, a node that stands after another starts after it
+-- Within one document, a node that stands after another starts after it.
 pub after-starts : (y x : Node) → afterb y x ≡ true → x .document ≡ y .document → x .start < y .start
 after-starts y x h d = ⊎-elim (λ p. omega arith) (λ p. p .1) (after-read y x h)
 
@@ -117,7 +117,7 @@ after-trans z y x h k =
 pub after-self : (x : Node) → afterb x x ≡ false
 after-self x = not-so (λ h. ⊎-elim (λ p. omega arith) (λ p. omega arith) (after-read x x h))
 
--- of two nodes one stands after the other, or both have the same document and start
+-- Of two nodes one stands after the other, or both have the same document and start.
 pub after-none : (y x : Node) → afterb y x ≡ false → afterb x y ≡ false → (y .document ≡ x .document) × (y .start ≡ x .start)
 unfolding afterb
 after-none y x h k =
@@ -130,11 +130,11 @@ after-none y x h k =
     let v : x .start ≤ y .start = ltb-false _ _ (rw (eq-eqb _ _ (sym d)) at (q .1)) in
     (d, omega arith)
 
--- a node inside another stands after it
+-- A node inside another stands after it.
 pub inside-after : (y x : Node) → insideb y x ≡ true → afterb y x ≡ true
 inside-after y x h = after-start y x (within y x h .document) (within y x h .start)
 
--- what every layer above may use of a node e that is open at n
+-- What every layer above may use of a node e that is open at n.
 pub record Open (n e : Node) : Type 0 where
   pub document : e .document ≡ n .document
   pub reaches : n .start ≤ e .end
@@ -147,12 +147,12 @@ pub open-make : (n e : Node) → e .document ≡ n .document → n .start ≤ e 
 unfolding openb
 open-make n e d h = and-make (eq-eqb _ _ d) (le-leb _ _ h)
 
--- a node of n's document that isn't open at n has ended before n
+-- A node of n's document that isn't open at n has ended before n.
 pub shut-read : (n e : Node) → openb n e ≡ false → e .document ≡ n .document → e .end < n .start
 unfolding openb
 shut-read n e h d = leb-false _ _ (rw (eq-eqb _ _ d) at h)
 
--- a node that contains n is open at n, where n doesn't end before it starts
+-- A node that contains n is open at n, where n doesn't end before it starts.
 pub inside-open : (n e : Node) → n .start ≤ n .end → insideb n e ≡ true → openb n e ≡ true
 inside-open n e s h = let w = within n e h in open-make n e (omega arith) (omega arith)
 
@@ -173,7 +173,7 @@ unfolding sameb
 same-self x =
     rw (eq-eqb (x .document) (x .document) refl, eq-eqb (x .start) (x .start) refl, eq-eqb (x .end) (x .end) refl, eq-eqb (x .level) (x .level) refl)
 
--- a node e that n stands after and that isn't open at n isn't open at any later node either
+-- A node e that n stands after and that isn't open at n isn't open at any later node either.
 pub shut-later : (m n e : Node) → openb n e ≡ false → afterb n e ≡ true → afterb m n ≡ true → openb m e ≡ false
 shut-later m n e h k l = not-so (λ o. let p = open-read m e o in clash p (after-read n e k) (after-read m n l))
   where

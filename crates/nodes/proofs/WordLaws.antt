@@ -26,7 +26,7 @@ length-nodes (d ∷ s ∷ e ∷ l ∷ ws) = let h = length-nodes ws in omega ari
 beyond : (d s e l : ℕ) (ws : List ℕ) {k m : ℕ} → m ≡ suc (suc (suc (suc k))) → getD (d ∷ s ∷ e ∷ l ∷ ws) m 0 ≡ getD ws k 0
 beyond d s e l ws q = rw q
 
--- a node's words are those at four times its index
+-- A node's words are those at four times its index.
 pub node-words : (ws : List ℕ) (i : ℕ) → i < count ws
     → nodeAt ws i ≡ node (getD ws (4 * i) 0) (getD ws (4 * i + 1) 0) (getD ws (4 * i + 2) 0) (getD ws (4 * i + 3) 0)
 unfolding nodes nodeAt
@@ -43,13 +43,13 @@ node-words (d ∷ s ∷ e ∷ l ∷ ws) (suc i) h =
     (sym (beyond d s e l ws {k = 4 * i + 2} {m = 4 * suc i + 2} (omega arith)) k)
     (sym (beyond d s e l ws {k = 4 * i + 3} {m = 4 * suc i + 3} (omega arith)) k)
 
--- storing words past the first node stores them into the rest
+-- Storing words past the first node stores them into the rest.
 past : (d s e l : ℕ) (ws : List ℕ) {k m : ℕ} (vs : List ℕ) → m ≡ suc (suc (suc (suc k)))
     → sets (d ∷ s ∷ e ∷ l ∷ ws) m vs ≡ d ∷ s ∷ e ∷ l ∷ sets ws k vs
 past d s e l ws [] q = refl
 past d s e l ws {k} (v ∷ vs) q = rw q (past d s e l (set ws k v) vs refl)
 
--- storing a node's four words at four times its index stores the node there
+-- Storing a node's four words at four times its index stores the node there.
 stored : (ws : List ℕ) (i : ℕ) (n : Node) → i < count ws → nodes (sets ws (4 * i) (wordsOf n)) ≡ set (nodes ws) i n
 unfolding nodes wordsOf
 stored [] i n h = absurd (not-suc-le-zero h)
@@ -60,13 +60,13 @@ stored (d ∷ s ∷ e ∷ l ∷ ws) zero n h = refl
 stored (d ∷ s ∷ e ∷ l ∷ ws) (suc i) n h =
     ap nodes (past d s e l ws {k = 4 * i} {m = 4 * suc i} (wordsOf n) (omega arith)) ∙ ap (λ ns. node d s e l ∷ ns) (stored ws i n (omega arith))
 
--- four stores in a row write a node's words, at any place
+-- Four stores in a row write a node's words, at any place.
 pub four-words : (ws : List ℕ) (w : ℕ) (n : Node)
     → set (set (set (set ws w (n .document)) (w + 1) (n .start)) (w + 2) (n .end)) (w + 3) (n .level) ≡ sets ws w (wordsOf n)
 unfolding wordsOf
 four-words ws w n = simp towards-suc
 
--- writing a node's words where node i begins is `putNode` at i
+-- Writing a node's words where node i begins is `putNode` at i.
 pub words-put : (ws : List ℕ) (w i : ℕ) (n : Node) → w ≡ 4 * i → i < count ws → sets ws w (wordsOf n) ≡ putNode ws i n
 unfolding putNode
 words-put ws w i n q h = rw (q, lt-ltb _ _ h) refl
@@ -75,12 +75,12 @@ pub four-stores : (ws : List ℕ) (w i : ℕ) (n : Node) → w ≡ 4 * i → i <
     → set (set (set (set ws w (n .document)) (w + 1) (n .start)) (w + 2) (n .end)) (w + 3) (n .level) ≡ putNode ws i n
 four-stores ws w i n q h = four-words ws w n ∙ words-put ws w i n q h
 
--- after `putNode` at i the nodes are those from before, with node i replaced
+-- After `putNode` at i the nodes are those from before, with node i replaced.
 pub nodes-put : (ws : List ℕ) (i : ℕ) (n : Node) → i < count ws → nodes (putNode ws i n) ≡ set (nodes ws) i n
 unfolding putNode
 nodes-put ws i n h = rw (lt-ltb i (count ws) h) (stored ws i n h)
 
--- the nodes from an index on begin with the one there; from the count on there are none
+-- The nodes from an index on begin with the one there; from the count on there are none.
 pub nodes-from : (ws : List ℕ) (i : ℕ) → i < count ws → drop i (nodes ws) ≡ nodeAt ws i ∷ drop (i + 1) (nodes ws)
 unfolding nodeAt
 nodes-from ws i h = rw (add-one i) (drop-cons (nodes ws) i (node 0 0 0 0) (omega (arith, length-nodes ws)))
@@ -88,7 +88,7 @@ nodes-from ws i h = rw (add-one i) (drop-cons (nodes ws) i (node 0 0 0 0) (omega
 pub nodes-beyond : (ws : List ℕ) (i : ℕ) → count ws ≤ i → drop i (nodes ws) ≡ []
 nodes-beyond ws i h = drop-of-length-le (nodes ws) {i = i} (omega (arith, length-nodes ws))
 
--- dropping or taking k nodes is dropping or taking 4 * k words
+-- Dropping or taking k nodes is dropping or taking 4 * k words.
 beyond-four : (d s e l : ℕ) (ws : List ℕ) {k m : ℕ} → m ≡ suc (suc (suc (suc k))) → drop m (d ∷ s ∷ e ∷ l ∷ ws) ≡ drop k ws
 beyond-four d s e l ws q = rw q
 
@@ -120,13 +120,13 @@ nodes-take (d ∷ s ∷ e ∷ l ∷ ws) zero = refl
 nodes-take (d ∷ s ∷ e ∷ l ∷ ws) (suc k) =
     ap nodes (up-to-four d s e l ws {k = 4 * k} {m = 4 * suc k} (omega arith)) ∙ ap (λ ns. node d s e l ∷ ns) (nodes-take ws k)
 
--- nodes written as words are read as the same nodes
+-- Nodes written as words are read as the same nodes.
 pub nodes-of-words : (ns : List Node) → nodes (wordsIn wordsOf ns) ≡ ns
 unfolding nodes wordsIn flatMap wordsOf
 nodes-of-words [] = refl
 nodes-of-words (n ∷ ns) = ap (λ ms. n ∷ ms) (nodes-of-words ns)
 
--- and words that make whole nodes, read as nodes, are written as the same words
+-- And words that make whole nodes, read as nodes, are written as the same words.
 pub words-of-nodes : (ws : List ℕ) → length ws % 4 ≡ 0 → wordsIn wordsOf (nodes ws) ≡ ws
 unfolding nodes wordsIn flatMap wordsOf
 words-of-nodes [] h = refl

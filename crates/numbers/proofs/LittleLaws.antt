@@ -20,7 +20,7 @@ use lib.Seq.{take-all}
 use Rattle.numbers.specs.Part.{copied}
 use Rattle.numbers.specs.Little.{NODE-BYTES, little, bytesOf, numbers, numberCount, numberAt, putNumber, nodeIn}
 
--- four bytes, read as if they were a node's words, give this number
+-- Four bytes, read as if they were a node's words, give this number.
 four : Node → ℕ
 four n = little (n .document) (n .start) (n .end) (n .level)
 
@@ -35,7 +35,7 @@ by-fours (a ∷ b ∷ c ∷ d ∷ bs) = ap (λ ns. little a b c d ∷ ns) (by-fo
 pub length-numbers : (bs : List ℕ) → length (numbers bs) ≡ numberCount bs
 length-numbers bs = ap length (by-fours bs) ∙ length-map (nodes bs) four ∙ length-nodes bs
 
--- number i has the bytes from 4 * i on
+-- Number i has the bytes from 4 * i on.
 pub number-bytes : (bs : List ℕ) (i : ℕ) → i < numberCount bs
     → numberAt bs i ≡ little (getD bs (4 * i) 0) (getD bs (4 * i + 1) 0) (getD bs (4 * i + 2) 0) (getD bs (4 * i + 3) 0)
 unfolding numberAt nodeAt four little
@@ -45,7 +45,7 @@ pub number-beyond : (bs : List ℕ) (i : ℕ) → numberCount bs ≤ i → numbe
 unfolding numberAt
 number-beyond bs i h = List·getD-eq-default (numbers bs) 0 (omega (arith, length-numbers bs))
 
--- dropping or taking k numbers is dropping or taking 4 * k bytes
+-- Dropping or taking k numbers is dropping or taking 4 * k bytes.
 pub numbers-drop : (bs : List ℕ) (k : ℕ) → numbers (drop (4 * k) bs) ≡ drop k (numbers bs)
 numbers-drop bs k = by-fours (drop (4 * k) bs) ∙ ap (map four) (nodes-drop bs k) ∙ map-drop four k (nodes bs) ∙ ap (drop k) (sym (by-fours bs))
 
@@ -60,7 +60,7 @@ numbers-append (a ∷ b ∷ []) ys h = absurd (omega arith)
 numbers-append (a ∷ b ∷ c ∷ []) ys h = absurd (omega arith)
 numbers-append (a ∷ b ∷ c ∷ d ∷ xs) ys h = ap (λ ns. little a b c d ∷ ns) (numbers-append xs ys (omega arith))
 
--- a number is the sum of its four digits to the base 256, and each digit is read off with `%`
+-- A number is the sum of its four digits to the base 256, and each digit is read off with `%`.
 digits : (n one two three : ℕ) → one ≡ n / 256 → two ≡ one / 256 → three ≡ two / 256 → three < 256
     → n % 256 + 256 * (one % 256) + 65536 * (two % 256) + 16777216 * (three % 256) ≡ n
 digits n one two three p q r h = omega arith
@@ -68,8 +68,8 @@ digits n one two three p q r h = omega arith
 digit : (a m n : ℕ) → a < 256 → n ≡ a + 256 * m → n % 256 ≡ a
 digit a m n h e = omega arith
 
--- a number written as bytes is read as the same number, and bytes read as a number are written as
--- the same bytes
+-- A number written as bytes is read as the same number, and bytes read as a number are written as
+-- the same bytes.
 pub number-of-bytes : (n : ℕ) → n < 4294967296 → little (n % 256) (n / 256 % 256) (n / 65536 % 256) (n / 16777216 % 256) ≡ n
 unfolding little
 number-of-bytes n h = digits n (n / 256) (n / 65536) (n / 16777216) refl (omega arith) (omega arith) (omega arith)
@@ -85,7 +85,7 @@ bytes-of-number a b c d p q r s =
       digit d 0 (n / 16777216) s (omega arith),
     )
 
--- the same holds of lists of numbers and of bytes
+-- The same holds of lists of numbers and of bytes.
 pub numbers-of-bytes : (ns : List ℕ) → All (λ n. n < 4294967296) ns → numbers (wordsIn bytesOf ns) ≡ ns
 unfolding numbers wordsIn flatMap bytesOf
 numbers-of-bytes [] h = refl
@@ -106,14 +106,14 @@ pub length-bytes : (ns : List ℕ) → length (wordsIn bytesOf ns) ≡ 4 * lengt
 unfolding bytesOf
 length-bytes ns = length-items bytesOf 4 (λ n. refl) ns
 
--- four stores in a row write a number
+-- Four stores in a row write a number.
 pub four-bytes : (bs : List ℕ) (i n : ℕ) → i < numberCount bs
     → set (set (set (set bs (4 * i) (n % 256)) (4 * i + 1) (n / 256 % 256)) (4 * i + 2) (n / 65536 % 256)) (4 * i + 3) (n / 16777216 % 256)
     ≡ putNumber bs i n
 unfolding putNumber bytesOf
 four-bytes bs i n h = rw (lt-ltb _ _ h) (simp towards-suc)
 
--- the nodes of a list that lies in bytes
+-- The nodes of a list that lies in bytes.
 pub nodes-in : (bs : List ℕ) → length (nodes (numbers bs)) ≡ length bs / NODE-BYTES
 nodes-in bs = length-nodes (numbers bs) ∙ ap (λ k. k / 4) (length-numbers bs) ∙ omega arith
 
@@ -125,7 +125,7 @@ node-in-from bs i h = nodes-from (numbers bs) i (omega (arith, length-numbers bs
 pub node-in-beyond : (bs : List ℕ) (i : ℕ) → length bs / NODE-BYTES ≤ i → drop i (nodes (numbers bs)) ≡ []
 node-in-beyond bs i h = nodes-beyond (numbers bs) i (omega (arith, length-numbers bs))
 
--- the number that the four bytes from `at` on make
+-- The number that the four bytes from `at` on make.
 abbrev numberFrom : List ℕ → ℕ → ℕ
 numberFrom bs at = little (getD bs at 0) (getD bs (at + 1) 0) (getD bs (at + 2) 0) (getD bs (at + 3) 0)
 
@@ -133,7 +133,7 @@ number-there : (bs : List ℕ) (i at : ℕ) → at ≡ 4 * i → i < numberCount
 unfolding numberAt
 number-there bs i at e h = rw e (number-bytes bs i h)
 
--- node i has the four numbers of the bytes from 16 * i on
+-- Node i has the four numbers of the bytes from 16 * i on.
 pub node-numbers : (bs : List ℕ) (i d s e l : ℕ) → i < length bs / NODE-BYTES
     → d ≡ numberFrom bs (16 * i) → s ≡ numberFrom bs (16 * i + 4) → e ≡ numberFrom bs (16 * i + 8) → l ≡ numberFrom bs (16 * i + 12)
     → node d s e l ≡ nodeIn bs i
@@ -145,7 +145,7 @@ node-numbers bs i d s e l h p q r t =
     let last = t ∙ sym (number-there bs (4 * i + 3) (16 * i + 12) (omega arith) (omega arith)) in
     (λ k. node (one k) (two k) (three k) (last k)) ∙ sym (node-words (numbers bs) i (omega (arith, length-numbers bs)))
 
--- where the words have room for all numbers, `copied` writes all of them
+-- Where the words have room for all numbers, `copied` writes all of them.
 pub copied-whole : (bytes words : List ℕ) → numberCount bytes ≤ length words → copied bytes words ≡ written (numbers bytes) words
 unfolding copied
 copied-whole bytes words h = ap (λ ns. written ns words) (take-all (length words) (numbers bytes) (omega (arith, length-numbers bytes)))

@@ -7,12 +7,12 @@ use native.Mathlib.Omega.{arith}
 use borrow.Author.Tests.{le-leb, lt-leb}
 use Rattle.numbers.specs.Part.{placeIn}
 
--- a part that begins no later than the end lies `from` bytes further on
+-- A part that begins no later than the end lies `from` bytes further on.
 pub before-the-end : (start : ℕ × ℕ) (size from at : ℕ) → from ≤ size → at ≡ start .1 + from → (start .0, at) ≡ placeIn start size from
 unfolding placeIn
 before-the-end start size from at h q = rw (le-leb from size h) (λ k. (start .0, q k))
 
--- a part that would begin after the end lies at the beginning
+-- A part that would begin after the end lies at the beginning.
 pub at-the-beginning : (start : ℕ × ℕ) (size from : ℕ) → size < from → start ≡ placeIn start size from
 unfolding placeIn
 at-the-beginning start size from h =

@@ -7,7 +7,7 @@ use lib.ListN.{length, take, drop}
 use Rattle.answers.specs.Output.{written}
 use Rattle.numbers.specs.Little.{numbers}
 
--- at most `count` of the bytes, from byte `from` on; fewer where the bytes end before
+-- At most `count` of the bytes, from byte `from` on; fewer where the bytes end before.
 unfoldable pub partOf : List ℕ → ℕ → ℕ → List ℕ
 partOf bytes from count = take count (drop from bytes)
 
@@ -18,6 +18,6 @@ partOf bytes from count = take count (drop from bytes)
 unfoldable pub placeIn : ℕ × ℕ → ℕ → ℕ → ℕ × ℕ
 placeIn start size from = (start .0, start .1 + cond (leb from size) from 0)
 
--- the words with the numbers of the bytes at their beginning, as many as the words have room for
+-- The words with the numbers of the bytes at their beginning, as many as the words have room for.
 unfoldable pub copied : List ℕ → List ℕ → List ℕ
 copied bytes words = written (take (length words) (numbers bytes)) words

@@ -21,32 +21,32 @@ use Rattle.paging.specs.Page.{Spot, fresh, after, pastb, remains, handed
 use Rattle.paging.proofs.KeyLaws.{above-self, above-trans}
 
 module _ {A : Type 0} (key : A → List ℕ) where
-  -- the items ascend strictly by key
+  -- The items ascend strictly by key.
   abbrev pub Ascends : List A → Type 0
   Ascends xs = EveryTwo (λ x y. aboveb (key y) (key x) ≡ true) xs
 
-  -- the listing of an accepted call ascends
+  -- The listing of an accepted call ascends.
   abbrev pub Ascending : Call A → Type 0
   Ascending refused = Unit {0}
   Ascending (accepted xs room) = Ascends xs
 
-  -- x stands in the listing of an accepted call
+  -- x stands in the listing of an accepted call.
   abbrev pub Stood : A → Call A → Type 0
   Stood x refused = Unit {0}
   Stood x (accepted xs room) = In x xs
 
-  -- each item lies past the one before it, and the first past a place
+  -- Each item lies past the one before it, and the first past a place.
   abbrev pub Run : Spot → List A → Type 0
   Run place [] = Unit {0}
   Run place (x ∷ xs) = (pastb place (key x) ≡ true) × Run (after (key x)) xs
 
-  -- what stands above a key past a place lies past it too
+  -- What stands above a key past a place lies past it too.
   pub past-trans : (place : Spot) (j k : List ℕ) → pastb place j ≡ true → aboveb k j ≡ true → pastb place k ≡ true
   unfolding pastb
   past-trans fresh j k p q = refl
   past-trans (after i) j k p q = above-trans k j i q p
 
-  -- all of a run lies past its place
+  -- All of a run lies past its place.
   pub run-past : (place : Spot) (xs : List A) → Run place xs → All (λ x. pastb place (key x) ≡ true) xs
   unfolding pastb
   run-past place [] r = tt
@@ -72,14 +72,14 @@ module _ {A : Type 0} (key : A → List ℕ) where
   run-take place (suc n) [] r = tt
   run-take place (suc n) (x ∷ xs) r = (r .0, run-take (after (key x)) n xs (r .1))
 
-  -- what remains of an ascending listing is a run from the place on
+  -- What remains of an ascending listing is a run from the place on.
   pub run-remains : (place : Spot) (xs : List A) → Ascends xs → Run place (remains key place xs)
   unfolding remains
   run-remains place xs a =
       let test : A → Bool = λ x. pastb place (key x) in
       ascends-run place (keep test xs) (keep-past test xs) (keep-every-two (λ x y. aboveb (key y) (key x) ≡ true) test xs a)
 
-  -- an item of a run is among the first n, or lies past the place that these reach
+  -- An item of a run is among the first n, or lies past the place that these reach.
   run-split : (place : Spot) (n : ℕ) (xs : List A) → Run place xs → (x : A) → In x xs
       → In x (take n xs) ⊎ (pastb (reached (λ y. after (key y)) place (take n xs)) (key x) ≡ true)
   unfolding reached
@@ -91,7 +91,7 @@ module _ {A : Type 0} (key : A → List ℕ) where
         | inr k ↦ ⊎-elim (λ i. inl (List·Memᴰ·tail i)) inr (run-split (after (key y)) n xs (r .1) x k)
       ]
 
-  -- all that a call hands out is a run from its place on
+  -- All that a call hands out is a run from its place on.
   given-run : (place : Spot) (call : Call A) → Ascending call → Run place (given key place call)
   unfolding given handed
   given-run place refused a = tt
@@ -103,7 +103,7 @@ module _ {A : Type 0} (key : A → List ℕ) where
   calls-run place (call ∷ calls) a =
       run-append place (given key place call) _ (given-run place call (a .0)) (calls-run (moved key place call) calls (a .1))
 
-  -- an item past a call's place is handed out by it, or lies past the place that it reaches
+  -- An item past a call's place is handed out by it, or lies past the place that it reaches.
   given-split : (place : Spot) (call : Call A) → Ascending call → (x : A) → Stood x call → pastb place (key x) ≡ true
       → In x (given key place call) ⊎ (pastb (moved key place call) (key x) ≡ true)
   unfolding given handed moved reached remains
@@ -111,7 +111,7 @@ module _ {A : Type 0} (key : A → List ℕ) where
   given-split place (accepted xs room) a x s p =
       run-split place room (remains key place xs) (run-remains place xs a) x (keep-in (λ y. pastb place (key y)) xs x s p)
 
-  -- where a call is done, all that lies past its place is handed out
+  -- Where a call is done, all that lies past its place is handed out.
   done-gives : (place : Spot) (xs : List A) (room : ℕ) → doneb key place room xs ≡ true → (x : A) → In x xs → pastb place (key x) ≡ true
       → In x (handed key place room xs)
   unfolding doneb handed remains
@@ -120,7 +120,7 @@ module _ {A : Type 0} (key : A → List ℕ) where
       let full : length (take room kept) ≡ length kept = eqb-true (length (take room kept)) (length kept) d in
       rw (take-all room kept (omega (arith, full, length-take room kept))) (keep-in (λ y. pastb place (key y)) xs x s p)
 
-  -- the same from any place that lies before the item
+  -- The same from any place that lies before the item.
   none-lost-from : (place : Spot) (calls : List (Call A)) (xs : List A) (room : ℕ) → All Ascending calls
       → doneb key (placeAfter key place calls) room xs ≡ true → (x : A) → All (Stood x) calls → In x xs → pastb place (key x) ≡ true
       → In x (allGiven key place (calls ++ accepted xs room ∷ []))
@@ -132,26 +132,26 @@ module _ {A : Type 0} (key : A → List ℕ) where
         | inr q ↦ Memᴰ·append-right (given key place call) (none-lost-from (moved key place call) calls xs room (a .1) d x (s .1) i q)
       ]
 
-  -- what stands in every listing of a done sequence of calls is handed out
+  -- What stands in every listing of a done sequence of calls is handed out.
   pub none-lost : (calls : List (Call A)) (xs : List A) (room : ℕ) → All Ascending calls
       → doneb key (placeAfter key fresh calls) room xs ≡ true → (x : A) → All (Stood x) calls → In x xs
       → In x (allGiven key fresh (calls ++ accepted xs room ∷ []))
   unfolding pastb
   none-lost calls xs room a d x s i = none-lost-from fresh calls xs room a d x s i refl
 
-  -- no two items that a sequence of calls hands out have the same key
+  -- No two items that a sequence of calls hands out have the same key.
   pub no-key-twice : (calls : List (Call A)) → All Ascending calls → EveryTwo (λ x y. key x ≡ key y → ⊥) (allGiven key fresh calls)
   no-key-twice calls a =
       every-two-map (λ x y h e. never h (subst (λ k. aboveb k (key x) ≡ false) e (above-self (key x)))) (allGiven key fresh calls)
       (run-ascends fresh (allGiven key fresh calls) (calls-run fresh calls a))
 
-  -- a call hands out only items of its own listing
+  -- A call hands out only items of its own listing.
   pub own-listing : (place : Spot) (xs : List A) (room : ℕ) → All (λ x. In x xs) (handed key place room xs)
   unfolding handed remains
   own-listing place xs room =
       take-all-of (λ x. In x xs) room (remains key place xs) (keep-all-of (λ x. In x xs) (λ x. pastb place (key x)) xs (each-in xs))
 
-  -- a call that isn't done fills its room
+  -- A call that isn't done fills its room.
   pub fills-room : (place : Spot) (xs : List A) (room : ℕ) → doneb key place room xs ≡ false → length (handed key place room xs) ≡ room
   unfolding doneb handed
   fills-room place xs room d =

@@ -13,13 +13,13 @@ use borrow.Author.Tests.{ltb-true, eqb-true, lt-ltb, le-ltb, eq-eqb}
 use Rattle.laws.proofs.Tests.{never, and-read, and-make, or-read, or-left, or-right}
 use Rattle.paging.specs.Key.{aboveb}
 
--- no key stands above itself
+-- No key stands above itself.
 pub above-self : (k : List ℕ) → aboveb k k ≡ false
 unfolding aboveb
 above-self [] = refl
 above-self (n ∷ k) = rw (le-ltb n n (omega arith), eq-eqb n n refl) (above-self k)
 
--- a key stands above another by its first number, or by the rest
+-- A key stands above another by its first number, or by the rest.
 abbrev Over : ℕ → List ℕ → ℕ → List ℕ → Type 0
 Over m j n k = (n < m) ⊎ ((m ≡ n) × (aboveb j k ≡ true))
 
@@ -39,7 +39,7 @@ rest-above : (m : ℕ) (j : List ℕ) (n : ℕ) (k : List ℕ) → m ≡ n → a
 unfolding aboveb
 rest-above m j n k e h = or-right (ltb n m) (and-make (eq-eqb m n e) h)
 
--- what stands above a key stands above all that the key stands above
+-- What stands above a key stands above all that the key stands above.
 pub above-trans : (i j k : List ℕ) → aboveb i j ≡ true → aboveb j k ≡ true → aboveb i k ≡ true
 unfolding aboveb
 above-trans [] j k p q = absurd (never p refl)

@@ -8,13 +8,13 @@ use Prim.Native.Nat.{ℕ}
 use Rattle.laws.proofs.Choices.{keep-append}
 use Rattle.paging.specs.Page.{Spot, pastb, remains, reached}
 
--- what remains of two listings in a row is what remains of each
+-- What remains of two listings in a row is what remains of each.
 pub remains-append : {A : Type 0} (key : A → List ℕ) (place : Spot) (xs ys : List A)
     → remains key place (xs ++ ys) ≡ remains key place xs ++ remains key place ys
 unfolding remains
 remains-append key place xs ys = keep-append (λ x. pastb place (key x)) xs ys
 
--- a function of the place reached is the place reached with that function applied to every mark
+-- A function of the place reached is the place reached with that function applied to every mark.
 pub reached-map : {A P Q : Type 0} (f : P → Q) (mark : A → P) (place : P) (xs : List A)
     → f (reached mark place xs) ≡ reached (λ x. f (mark x)) (f place) xs
 unfolding reached

@@ -18,24 +18,24 @@ use Rattle.answers.proofs.OutputLaws.{sets-beyond, written-beyond}
 use Rattle.paging.specs.Private.Serve.{store, serve}
 use Rattle.answers.specs.Output.{wordsIn, written}
 
--- answers equal in each part are equal
+-- Answers equal in each part are equal.
 same-answer : {o o′ : List ℕ} {n n′ : ℕ} {b b′ : Bool} → o ≡ o′ → n ≡ n′ → b ≡ b′ → _≡_ {A = List ℕ × ℕ × Bool} (o, n, b) (o′, n′, b′)
 same-answer p q r = rw (p, q, r)
 
 module _ {A : Type 0} (words : A → List ℕ) (width : ℕ) where
-  -- while there is room, an item is stored
+  -- While there is room, an item is stored.
   pub serve-next : (out : List ℕ) (count : ℕ) (x : A) (xs : List A) → count < length out / width
       → serve words width out count (x ∷ xs) ≡ serve words width (store words width out count x) (count + 1) xs
   unfolding serve
   serve-next out count x xs h = rw (lt-ltb count (length out / width) h)
 
-  -- an item that finds no room ends the serving
+  -- An item that finds no room ends the serving.
   pub serve-full : (out : List ℕ) (count : ℕ) (x : A) (xs : List A) → length out / width ≤ count
       → serve words width out count (x ∷ xs) ≡ (out, count, false)
   unfolding serve
   serve-full out count x xs h = rw (le-ltb count (length out / width) h)
 
-  -- where all items found room, the serving goes on with those that follow
+  -- Where all items found room, the serving goes on with those that follow.
   pub serve-on : (out : List ℕ) (count : ℕ) (xs ys : List A) (o : List ℕ) (d : ℕ) → serve words width out count xs ≡ (o, d, true)
       → serve words width out count (xs ++ ys) ≡ serve words width o d ys
   unfolding serve
@@ -46,7 +46,7 @@ module _ {A : Type 0} (words : A → List ℕ) (width : ℕ) where
         | inr h ↦ absurd (never (ap (λ t. t .2) (rw h at e)) refl)
       ]
 
-  -- where an item found no room, nothing that follows changes the answer
+  -- Where an item found no room, nothing that follows changes the answer.
   pub serve-stop : (out : List ℕ) (count : ℕ) (xs ys : List A) (o : List ℕ) (d : ℕ) → serve words width out count xs ≡ (o, d, false)
       → serve words width out count (xs ++ ys) ≡ (o, d, false)
   unfolding serve
@@ -57,31 +57,31 @@ module _ {A : Type 0} (words : A → List ℕ) (width : ℕ) where
         | inr h ↦ rw h (rw h at e)
       ]
 
-  -- a loop hands out items part by part, and serving what is left gives what serving the whole
+  -- A loop hands out items part by part, and serving what is left gives what serving the whole
   -- gives: a part that found room leaves the others,
   pub left-on : (out : List ℕ) (n : ℕ) (xs ys : List A) {o : List ℕ} {d : ℕ} {b : Bool} {rest : List A} {whole : List ℕ × ℕ × Bool}
       → (o, d, b) ≡ serve words width out n xs → b ≡ true → rest ≡ xs ++ ys → serve words width out n rest ≡ whole → serve words width o d ys ≡ whole
   left-on out n xs ys {o} {d} p t r e =
       sym (serve-on out n xs ys o d (sym p ∙ same-answer refl refl t)) ∙ ap (serve words width out n) (sym r) ∙ e
 
-  -- a part that didn't ends the loop,
+  -- A part that didn't ends the loop,
   pub left-stop : (out : List ℕ) (n : ℕ) (xs ys : List A) {o : List ℕ} {d : ℕ} {b : Bool} {rest : List A} {whole : List ℕ × ℕ × Bool}
       → (o, d, b) ≡ serve words width out n xs → b ≡ false → rest ≡ xs ++ ys → serve words width out n rest ≡ whole → (o, d, b) ≡ whole
   left-stop out n xs ys {o} {d} p t r e =
       same-answer refl refl t ∙ sym (serve-stop out n xs ys o d (sym p ∙ same-answer refl refl t)) ∙ ap (serve words width out n) (sym r) ∙ e
 
-  -- and so does the end of the parts
+  -- And so does the end of the parts.
   pub left-end : (out : List ℕ) (n : ℕ) {b : Bool} {rest : List A} {whole : List ℕ × ℕ × Bool}
       → b ≡ true → rest ≡ [] → serve words width out n rest ≡ whole → (out, n, b) ≡ whole
   unfolding serve
   left-end out n t r e = same-answer refl refl t ∙ ap (serve words width out n) (sym r) ∙ e
 
-  -- storing an item keeps the length of the output
+  -- Storing an item keeps the length of the output.
   pub store-length : (out : List ℕ) (count : ℕ) (x : A) → length (store words width out count x) ≡ length out
   unfolding store
   store-length out count x = length-sets out (width * count) (words x)
 
-  -- serving keeps the length of the output
+  -- Serving keeps the length of the output.
   pub serve-length : (out : List ℕ) (count : ℕ) (xs : List A) → length (serve words width out count xs .0) ≡ length out
   unfolding serve
   serve-length out count [] = refl
@@ -91,7 +91,7 @@ module _ {A : Type 0} (words : A → List ℕ) (width : ℕ) where
         | inr h ↦ rw h refl
       ]
 
-  -- no more items are served than there is room for
+  -- No more items are served than there is room for.
   pub serve-count : (out : List ℕ) (count : ℕ) (xs : List A) → count ≤ length out / width
       → serve words width out count xs .1 ≤ length out / width
   unfolding serve
@@ -105,7 +105,7 @@ module _ {A : Type 0} (words : A → List ℕ) (width : ℕ) where
         | inr h ↦ rw h l
       ]
 
-  -- an item is stored right after the words before it
+  -- An item is stored right after the words before it.
   store-beyond : (front rest : List ℕ) (count : ℕ) (x : A) → length (words x) ≡ width → length front ≡ width * count
       → count < length (front ++ rest) / width → store words width (front ++ rest) count x ≡ front ++ words x ++ drop (length (words x)) rest
   unfolding store
@@ -115,7 +115,7 @@ module _ {A : Type 0} (words : A → List ℕ) (width : ℕ) where
       let one : width * (count + 1) ≡ width * count + width = mul-add width count 1 ∙ ap (λ n. width * count + n) (mul-one width) in
       ap (λ n. sets (front ++ rest) n (words x)) (sym l) ∙ sets-beyond front rest (words x) (omega arith)
 
-  -- the items that find room follow the words that stand already
+  -- The items that find room follow the words that stand already.
   serve-beyond : ((x : A) → length (words x) ≡ width) → (front rest : List ℕ) (count room : ℕ) (xs : List A) → length front ≡ width * count
       → length (front ++ rest) / width ≡ count + room
       → serve words width (front ++ rest) count xs
@@ -147,7 +147,7 @@ module _ {A : Type 0} (words : A → List ℕ) (width : ℕ) where
       shown : words x ++ written (wordsIn words served) (drop (length (words x)) rest) ≡ written (words x ++ wordsIn words served) rest
       shown = written-beyond (words x) (wordsIn words served) rest
 
-  -- serving from the beginning shows the first items, as many as find room
+  -- Serving from the beginning shows the first items, as many as find room.
   pub serve-shows : ((x : A) → length (words x) ≡ width) → (out : List ℕ) (xs : List A)
       → serve words width out 0 xs
       ≡ (

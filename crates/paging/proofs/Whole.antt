@@ -20,24 +20,24 @@ use Rattle.paging.proofs.Demand.{Ascends, Run, past-trans, run-past, ru
 use Rattle.paging.proofs.KeyLaws.{above-self, above-trans}
 
 module _ {A : Type 0} (key : A → List ℕ) where
-  -- the place that a run reaches
+  -- The place that a run reaches.
   abbrev end : Spot → List A → Spot
   end place xs = reached (λ x. after (key x)) place xs
 
-  -- what lies past it lies past the place where the run began
+  -- What lies past it lies past the place where the run began.
   end-past : (place : Spot) (xs : List A) → Run key place xs → (k : List ℕ) → pastb (end place xs) k ≡ true → pastb place k ≡ true
   unfolding reached pastb
   end-past place [] r k p = p
   end-past place (x ∷ xs) r k p = past-trans key place (key x) k (r .0) (end-past (after (key x)) xs (r .1) k p)
 
-  -- and the key of the place where the run began doesn't
+  -- And the key of the place where the run began doesn't.
   end-beyond : (j : List ℕ) (xs : List A) → Run key (after j) xs → pastb (end (after j) xs) j ≡ false
   unfolding reached pastb
   end-beyond j [] r = above-self j
   end-beyond j (x ∷ xs) r =
       not-so (λ p. never (above-trans j (key x) j (end-past (after (key x)) xs (r .1) j p) (r .0)) (above-self j))
 
-  -- all items of a run but its first n lie past the place that these reach
+  -- All items of a run but its first n lie past the place that these reach.
   run-rest : (place : Spot) (n : ℕ) (xs : List A) → Run key place xs → remains key (end place (take n xs)) xs ≡ drop n xs
   unfolding remains reached keep
   run-rest place zero xs r = keep-all (λ x. pastb place (key x)) xs (run-past key place xs r)
@@ -47,7 +47,7 @@ module _ {A : Type 0} (key : A → List ℕ) where
       (end-beyond (key x) (take n xs) (run-take key (after (key x)) n xs (r .1)))
       ∙ run-rest (after (key x)) n xs (r .1)
 
-  -- past the place that a page reaches, there remains what it did not hand out
+  -- Past the place that a page reaches, there remains what it did not hand out.
   pub page-rest : (place : Spot) (xs : List A) → Ascends key xs → (room : ℕ)
       → remains key (moved key place (accepted xs room)) xs ≡ drop room (remains key place xs)
   unfolding moved given handed remains
@@ -58,7 +58,7 @@ module _ {A : Type 0} (key : A → List ℕ) where
       (λ x. end-past place (take room rest) (run-take key place room rest run) (key x)) xs
       ∙ run-rest place room rest run
 
-  -- pages of a listing that nobody alters, up to one that is done, are what remained of it
+  -- Pages of a listing that nobody alters, up to one that is done, are what remained of it.
   pages-from : (place : Spot) (xs : List A) → Ascends key xs → (rooms : List ℕ) (room : ℕ)
       → doneb key (placeAfter key place (map (accepted xs) rooms)) room xs ≡ true
       → allGiven key place (map (accepted xs) rooms ++ accepted xs room ∷ []) ≡ remains key place xs
@@ -72,14 +72,14 @@ module _ {A : Type 0} (key : A → List ℕ) where
       ap (λ ys. take r rest ++ ys) (pages-from (moved key place (accepted xs r)) xs a rooms room d ∙ page-rest place xs a r)
       ∙ take-append-drop r rest
 
-  -- from a fresh start they are all of it, in its order
+  -- From a fresh start they are all of it, in its order.
   pub pages-whole : (xs : List A) → Ascends key xs → (rooms : List ℕ) (room : ℕ)
       → doneb key (placeAfter key fresh (map (accepted xs) rooms)) room xs ≡ true
       → allGiven key fresh (map (accepted xs) rooms ++ accepted xs room ∷ []) ≡ xs
   unfolding remains pastb
   pages-whole xs a rooms room d = pages-from fresh xs a rooms room d ∙ keep-all (λ x. pastb fresh (key x)) xs (all-of (λ x. refl) xs)
 
-  -- where the rooms together are enough for what remains, the last page is done
+  -- Where the rooms together are enough for what remains, the last page is done.
   ends-from : (place : Spot) (xs : List A) → Ascends key xs → (rooms : List ℕ) (room : ℕ)
       → length (remains key place xs) ≤ total rooms + room → doneb key (placeAfter key place (map (accepted xs) rooms)) room xs ≡ true
   unfolding placeAfter doneb handed
@@ -90,7 +90,7 @@ module _ {A : Type 0} (key : A → List ℕ) where
       ends-from (moved key place (accepted xs r)) xs a rooms room
       (rw (page-rest place xs a r) (omega (arith, length-drop r (remains key place xs))))
 
-  -- and from a fresh start where they are enough for all of it
+  -- And from a fresh start where they are enough for all of it.
   pub pages-end : (xs : List A) → Ascends key xs → (rooms : List ℕ) (room : ℕ) → length xs ≤ total rooms + room
       → doneb key (placeAfter key fresh (map (accepted xs) rooms)) room xs ≡ true
   unfolding remains pastb

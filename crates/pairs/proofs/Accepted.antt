@@ -23,7 +23,7 @@ use Rattle.lists.proofs.Merging.{Even, even-fine}
 use Rattle.lists.proofs.Pairing.{two-taken-iff}
 use Rattle.lists.proofs.Taken.{Fine, words-taken-iff}
 
--- what is known of two lists that are accepted together
+-- What is known of two lists that are accepted together.
 pub record Accepted (as′ ds : List Node) : Type 0 where
   pub sound-as : All Sound as′
   pub fine-as : EveryTwo Fine as′
@@ -38,24 +38,24 @@ accepted as′ ds h =
     let q = words-taken-iff ds .0 (t .1) in
     record { sound-as = p .2; fine-as = p .3; sound-ds = q .2; fine-ds = q .3; even = t .2 }
 
--- what holds at each index below k holds of the first k nodes
+-- What holds at each index below k holds of the first k nodes.
 all-firsts : (P : Node → Type 0) (k : ℕ) (ns : List Node) → ((i : ℕ) → i < k → P (getD ns i (node 0 0 0 0))) → All P (firsts k ns)
 unfolding firsts
 all-firsts P zero ns f = tt
 all-firsts P (suc k) ns f = (f k (omega arith), all-firsts P k ns (λ i l. f i (omega arith)))
 
--- the nodes before an index are fine with the one there
+-- The nodes before an index are fine with the one there.
 pub fine-before : (ns : List Node) → EveryTwo Fine ns → (i : ℕ) → i < length ns → All (λ e. Fine e (getD ns i (node 0 0 0 0))) (firsts i ns)
 fine-before ns f i l = all-firsts _ i ns (λ k m. every-two-at Fine ns k i (node 0 0 0 0) m l f)
 
--- the first ancestors that stand before a descendant are fine with it
+-- The first ancestors that stand before a descendant are fine with it.
 pub fine-with : (as′ ds : List Node) → Even as′ ds → (i j : ℕ) → i ≤ length as′ → j < length ds
     → All (λ e. afterb (getD ds j (node 0 0 0 0)) e ≡ true) (firsts i as′) → All (λ e. Fine e (getD ds j (node 0 0 0 0))) (firsts i as′)
 fine-with as′ ds even i j l m h =
     all-both (λ e a o. even-fine e (getD ds j (node 0 0 0 0)) a o) (firsts i as′) h
     (all-firsts _ i as′ (λ k n. all-at _ ds j (node 0 0 0 0) m (all-at _ as′ k (node 0 0 0 0) (omega arith) even)))
 
--- of an ascending list, all that stand at or after one that isn't before d aren't before d
+-- Of an ascending list, all that stand at or after one that isn't before d aren't before d.
 pub none-before : (d : Node) (ns : List Node) → EveryTwo Fine ns → (i : ℕ) → (i < length ns → afterb d (getD ns i (node 0 0 0 0)) ≡ false)
     → All (λ a. afterb d a ≡ false) (drop i ns)
 none-before d [] f i h = rw (drop-nil {A = Node} i) tt

@@ -39,7 +39,7 @@ ascend : (ns : List Node) → EveryTwo Fine ns → EveryTwo (λ e n. afterb n e 
 ascend ns h = every-two-map (λ e n f. f .after) ns h
 
 module _ (c : Call) where
-  -- a call is accepted exactly if it isn't refused
+  -- A call is accepted exactly if it isn't refused.
   pub not-refused : AcceptedCall c → refusedb (checkTwo (c .ancestors) (c .descendants)) ≡ false
   unfolding refusedb
   not-refused a = rw (eq-eqb (checkTwo (c .ancestors) (c .descendants) .answer) TAKEN a)
@@ -48,7 +48,7 @@ module _ (c : Call) where
   unfolding refusedb
   is-accepted h = eqb-true _ _ (not-none (eqb (checkTwo (c .ancestors) (c .descendants) .answer) TAKEN) h)
 
-  -- each of two accepted lists ascends
+  -- Each of two accepted lists ascends.
   pub lists-ascend : AcceptedCall c
       → EveryTwo (λ e n. afterb n e ≡ true) (nodes (c .ancestors)) × EveryTwo (λ e n. afterb n e ≡ true) (nodes (c .descendants))
   lists-ascend a =
@@ -60,7 +60,7 @@ unfolding pairWords wordsOf
 words-length ps = length-items pairWords PAIR-WORDS (λ p. refl) ps
 
 module _ (t : Ticket) (c : Call) where
-  -- what the call hands out
+  -- What the call hands out.
   abbrev given : List Pair
   given = handedOut (c .ancestors) (c .descendants) t (c .out)
 
@@ -68,7 +68,7 @@ module _ (t : Ticket) (c : Call) where
   unfolding handedOut
   nothing f = rw (so (λ h. f (is-accepted c h)))
 
-  -- a refused call counts nothing, isn't done, returns its ticket, and leaves the output as it was
+  -- A refused call counts nothing, isn't done, returns its ticket, and leaves the output as it was.
   pub refusal : (AcceptedCall c → ⊥) → (answer t c .count ≡ 0) × (answer t c .done ≡ false) × (answer t c .ticket ≡ t) × (output t c ≡ c .out)
   unfolding pageOf saysDone ticketAfter outputAfter written wordsIn flatMap reached
   refusal f = (
@@ -78,7 +78,7 @@ module _ (t : Ticket) (c : Call) where
     ap (λ ps. written (wordsIn pairWords ps) (c .out)) (nothing f),
   )
 
-  -- what it counts is what it hands out, which is what its output shows
+  -- What it counts is what it hands out, which is what its output shows.
   pub count-given : answer t c .count ≡ length given
   unfolding pageOf
   count-given = refl
@@ -86,7 +86,7 @@ module _ (t : Ticket) (c : Call) where
   pub count-shown : answer t c .count ≡ length (shown t c)
   count-shown = count-given ∙ ap length (sym (shown-is t c))
 
-  -- it hands out no more pairs than there is room for,
+  -- It hands out no more pairs than there is room for,
   pub given-fits : length given ≤ room (c .out)
   unfolding handedOut handed
   given-fits =
@@ -96,12 +96,12 @@ module _ (t : Ticket) (c : Call) where
         | inr h ↦ rw h (omega (arith, length-take (room (c .out)) left))
       ]
 
-  -- its output begins with their words,
+  -- Its output begins with their words,
   pub output-begins : take (PAIR-WORDS * length given) (output t c) ≡ wordsIn pairWords given
   unfolding outputAfter written
   output-begins = ap (λ k. take k (output t c)) (sym (words-length given)) ∙ take-append-seam (wordsIn pairWords given) _
 
-  -- and after them the output's words are those it had
+  -- And after them the output's words are those it had.
   pub beyond-kept : drop (PAIR-WORDS * answer t c .count) (output t c) ≡ drop (PAIR-WORDS * answer t c .count) (c .out)
   unfolding pageOf outputAfter written
   beyond-kept =
@@ -121,7 +121,7 @@ module _ (ask : Asked) (c : Call) where
   unfolding handed remains pastb
   all-handed l = rw (keep-all (λ p. true) listed (all-of (λ p. refl) listed)) (take-all (room (c .out)) listed l)
 
-  -- a first call with room for the full listing hands out exactly it, and is done
+  -- A first call with room for the full listing hands out exactly it, and is done.
   pub whole-listing : AcceptedCall c → length listed ≤ room (c .out)
       → (shown (freshTicket ask) c ≡ listed) × (answer (freshTicket ask) c .done ≡ true)
   unfolding pageOf handedOut saysDone doneb remains pastb

@@ -38,7 +38,7 @@ use Rattle.pairs.proofs.Accepted.{Accepted, accepted}
 use Rattle.pairs.proofs.Running.{running-from, end-from, inside-run}
 use Rattle.pairs.proofs.Stretches.{stretch-next, stretch-none}
 
--- what holds of all nodes of the words, or of all pairs of them, holds at each index
+-- What holds of all nodes of the words, or of all pairs of them, holds at each index.
 node-all : (ws : List ℕ) (P : Node → Type 0) (i : ℕ) → i < count ws → All P (nodes ws) → P (nodeAt ws i)
 unfolding nodeAt
 node-all ws P i l h = all-at P (nodes ws) i (node 0 0 0 0) (omega (arith, length-nodes ws)) h
@@ -48,7 +48,7 @@ unfolding nodeAt
 node-pair ws R k i m l h = every-two-at R (nodes ws) k i (node 0 0 0 0) m (omega (arith, length-nodes ws)) h
 
 module _ (ws : List ℕ) (a : Node) where
-  -- descendants of which none is a child are passed
+  -- Descendants of which none is a child are passed.
   none-from : (n k r : ℕ) → k + n ≡ r → ((j : ℕ) → k ≤ j → j < r → directlyb (nodeAt ws j) a ≡ false)
       → matches (asked Directly Ancestor) a (drop k (nodes ws)) ≡ matches (asked Directly Ancestor) a (drop r (nodes ws))
   unfolding matches relatedb pairOf keep
@@ -65,7 +65,7 @@ module _ (ws : List ℕ) (a : Node) where
       → matches (asked Directly Ancestor) a (drop k (nodes ws)) ≡ matches (asked Directly Ancestor) a (drop r (nodes ws))
   none-passed k r h f = none-from (r - k) k r (omega arith) f
 
-  -- a descendant of the run that is one level deeper comes first of what is left
+  -- A descendant of the run that is one level deeper comes first of what is left.
   child-next : (k m : ℕ) (d : Node) → Running ws a k → k < count ws → k < runEnd ws a k → d ≡ nodeAt ws k → d .level ≡ a .level + 1 → m ≡ k + 1
       → matches (asked Directly Ancestor) a (drop k (nodes ws)) ≡ (nodeAt ws k ∷ []) ++ matches (asked Directly Ancestor) a (drop m (nodes ws))
   unfolding matches relatedb pairOf keep
@@ -73,11 +73,11 @@ module _ (ws : List ℕ) (a : Node) where
       let t : directlyb (nodeAt ws k) a ≡ true = directly-make (nodeAt ws k) a (inside-run ws a k k r (omega arith) h) (rw (← q) e) in
       rw (nodes-from ws k l, t, s) refl
 
-  -- a descendant that isn't one level deeper is no child
+  -- A descendant that isn't one level deeper is no child.
   not-deeper : (d : Node) → (d .level ≡ a .level + 1 → ⊥) → directlyb d a ≡ false
   not-deeper d n = not-so (λ h. n (directly-inside d a h .1))
 
-  -- the same with places in words: the child's group comes first of what is left
+  -- The same with places in words: the child's group comes first of what is left.
   child-group : (from k level : ℕ) (d : Node) → Placed ws k → k < length ws → Running ws a (from / 4) → from ≤ k → k / 4 < runEnd ws a (from / 4)
       → d ≡ nodeAt ws (k / 4) → d .level ≡ level → level ≡ a .level + 1
       → group Ancestor a (matches (asked Directly Ancestor) a (drop (k / 4) (nodes ws)))
@@ -94,7 +94,7 @@ module _ (ws : List ℕ) (a : Node) where
       (omega arith) (omega arith))
       ∙ map-append (pairOf Ancestor a) (nodeAt ws (k / 4) ∷ []) ms ∙ ap (λ ns. group Ancestor a ns ++ group Ancestor a ms) (sym one)
 
-  -- a group that found room leaves those after it to serve, and one that didn't ends the page
+  -- A group that found room leaves those after it to serve, and one that didn't ends the page.
   pub child-on : (from k level : ℕ) (d : Node) → Placed ws k → k < length ws → Running ws a (from / 4) → from ≤ k
       → k / 4 < runEnd ws a (from / 4) → d ≡ nodeAt ws (k / 4) → d .level ≡ level → level ≡ a .level + 1 → (out : List ℕ) (n : ℕ) {o : List ℕ} {m : ℕ} {b : Bool} {whole : List ℕ × ℕ × Bool}
       → (o, m, b) ≡ servedGroup Ancestor out n a (stretch ws k (k + 4)) → b ≡ true
@@ -108,14 +108,14 @@ module _ (ws : List ℕ) (a : Node) where
   child-stop from k level d p l r h e q u v out n s t w = left-stop pairWords PAIR-WORDS out n _ _ s t (child-group from k level d p l r h e q u v) w
 
 module _ (as′ ws : List ℕ) (taken : checkTwo as′ ws .answer ≡ TAKEN) where
-  -- one more than a level is a number of 32 bits
+  -- One more than a level is a number of 32 bits.
   pub level-fits : (i : ℕ) (x : Node) → i < count as′ → x ≡ nodeAt as′ i → x .level ≤ MOST-LEVELS
   level-fits i x l q = rw q (node-all as′ Sound i l (accepted as′ ws taken .sound-as) .highest)
 
   pub even-at : (z : ℕ) → z < count as′ → All (λ d. oddsb (nodeAt as′ z) d ≡ false) (nodes ws)
   even-at z l = node-all as′ (λ x. All (λ d. oddsb x d ≡ false) (nodes ws)) z l (accepted as′ ws taken .even)
 
-  -- if a descendant stands after a zone, so do all descendants from there on
+  -- If a descendant stands after a zone, so do all descendants from there on.
   zone-running : (z k : ℕ) (x d : Node) → z < count as′ → k < count ws → x ≡ nodeAt as′ z → d ≡ nodeAt ws k → afterb d x ≡ true → Running ws x k
   zone-running z k x d l m p q h =
       let t = two-taken-iff as′ ws .0 taken .1 in
@@ -131,7 +131,7 @@ module _ (as′ ws : List ℕ) (taken : checkTwo as′ ws .answer ≡ TAKEN) whe
         after = rw e (g, all-map (λ n s. after-trans n (nodeAt ws k) x (s .after) g) (drop (k + 1) (nodes ws)) (f .0));
       }
 
-  -- what lies inside a later zone lies too deep to be a child
+  -- What lies inside a later zone lies too deep to be a child.
   no-child : (i z j : ℕ) → i < z → z < count as′ → j < count ws → insideb (nodeAt ws j) (nodeAt as′ z) ≡ true
       → directlyb (nodeAt ws j) (nodeAt as′ i) ≡ false
   no-child i z j l m n h =
@@ -160,7 +160,7 @@ module _ (as′ ws : List ℕ) (taken : checkTwo as′ ws .answer ≡ TAKEN) whe
       sd : Sound d
       sd = node-all ws Sound j n (both .sound-ds)
 
-  -- a zone that is open at a descendant after it holds those up to a place further on
+  -- A zone that is open at a descendant after it holds those up to a place further on.
   module _ (zone k : ℕ) (x d : Node) (l : zone / 4 < count as′) (m : k / 4 < count ws) (p : x ≡ nodeAt as′ (zone / 4)) (q : d ≡ nodeAt ws (k / 4))
       (h : afterb d x ≡ true) where
     pub held-running : Running ws x ((k + 4) / 4)
@@ -172,7 +172,7 @@ module _ (as′ ws : List ℕ) (taken : checkTwo as′ ws .answer ≡ TAKEN) whe
         let e = f .3 in
         (l, subst (λ n. insideb (nodeAt ws j) n ≡ true) p (inside-run ws x ((k + 4) / 4) j held-running (omega arith) (omega arith)))
 
-  -- so a descendant that isn't one level deeper is passed with what the zone after it holds
+  -- So a descendant that isn't one level deeper is passed with what the zone after it holds.
   pub inner-passed : (i zone k next level : ℕ) (d : Node) → i / 4 < zone / 4 → k < next → Placed ws next → d ≡ nodeAt ws (k / 4)
       → (d .level ≡ level → ⊥) → level ≡ nodeAt as′ (i / 4) .level + 1
       → ((j : ℕ) → k / 4 < j → j < next / 4 → (zone / 4 < count as′) × (insideb (nodeAt ws j) (nodeAt as′ (zone / 4)) ≡ true))

@@ -41,20 +41,20 @@ use Rattle.pairs.proofs.ListingGroups.{matches-rise, rest-group}
 use Rattle.pairs.proofs.SweepStart.{Tells, served-in, after-next}
 
 module _ (as′ ds : List ℕ) where
-  -- at a descendant: the stack holds the ancestors that are open at it, and no ancestor before it
-  -- is left
+  -- At a descendant: the stack holds the ancestors that are open at it, and no ancestor before it
+  -- is left.
   pub record At (d : Node) (used passed : ℕ) (stack : List ℕ) : Type 0 where
     pub opening : Opening as′ d used passed stack
     pub none : All (λ a. afterb d a ≡ false) (drop (passed / 4) (nodes as′))
     pub upon : Upon d (opened used stack)
 
-  -- the stack stands for the ancestors passed at the descendant to come
+  -- The stack stands for the ancestors passed at the descendant to come.
   pub record Ready (j used passed : ℕ) (stack : List ℕ) : Type 0 where
     pub at : Placed ds j
     pub stands : j < length ds → Opening as′ (nodeAt ds (j / 4)) used passed stack
 
   module _ (taken : checkTwo as′ ds .answer ≡ TAKEN) where
-    -- each list alone is accepted
+    -- Each list alone is accepted.
     pub taken-as : checkWords as′ .answer ≡ TAKEN
     taken-as = two-taken-iff as′ ds .0 taken .0
 
@@ -64,7 +64,7 @@ module _ (as′ ds : List ℕ) where
     whole : (length as′ % 4 ≡ 0) × (length ds % 4 ≡ 0)
     whole = (words-taken-iff as′ .0 taken-as .0, words-taken-iff ds .0 taken-ds .0)
 
-    -- before the first descendant that may have pairs past the place nothing is passed
+    -- Before the first descendant that may have pairs past the place nothing is passed.
     pub ready-start : (place : Place) (first : ℕ) (stack : List ℕ) → first ≡ servedIn place (nodes ds) → Ready (4 * first) 0 0 stack
     unfolding firsts
     ready-start place first stack q =
@@ -82,7 +82,7 @@ module _ (as′ ds : List ℕ) where
           let w = whole in
           all-at Sound (nodes ds) (j / 4) (node 0 0 0 0) (omega (arith, length-nodes ds)) (accepted as′ ds taken .sound-ds)
 
-      -- the ancestors that stand before a descendant are fine with it
+      -- The ancestors that stand before a descendant are fine with it.
       fine-at : (passed : ℕ) → passed ≤ length as′ → All (λ e. afterb (nodeAt ds (j / 4)) e ≡ true) (firsts (passed / 4) (nodes as′))
           → All (λ e. Fine e (nodeAt ds (j / 4))) (firsts (passed / 4) (nodes as′))
       unfolding nodeAt
@@ -92,8 +92,8 @@ module _ (as′ ds : List ℕ) where
           (omega (arith, length-nodes ds)) h
 
       module _ (d : Node) (q : d ≡ nodeAt ds (j / 4)) where
-        -- once those that ended are taken off, all that are left on the stack are open at the
-        -- descendant
+        -- Once those that ended are taken off, all that are left on the stack are open at the
+        -- descendant.
         pub left-at : (used passed left : ℕ) (stack : List ℕ) → Ready j used passed stack → Fits left
             → opened left stack ≡ unended d (opened used stack) → Opening as′ d left passed stack × All (λ e. openb d e ≡ true) (opened left stack)
         left-at used passed left stack r f e =
@@ -102,7 +102,7 @@ module _ (as′ ds : List ℕ) where
               rw e (left-open d (opened used stack) (o .held .stands .chain)),
             )
 
-        -- once those that started before it are put on, it lies inside all of the stack
+        -- Once those that started before it are put on, it lies inside all of the stack.
         pub at-descendant : (used passed : ℕ) (stack : List ℕ) → Opening as′ d used passed stack → All (λ e. openb d e ≡ true) (opened used stack)
             → All (λ a. afterb d a ≡ false) (drop (passed / 4) (nodes as′)) → At (nodeAt ds (j / 4)) used passed stack
         at-descendant used passed stack o b none = subst (λ n. At n used passed stack) q (record {
@@ -113,7 +113,7 @@ module _ (as′ ds : List ℕ) where
         })
 
       module _ (used passed : ℕ) (stack : List ℕ) (h : At (nodeAt ds (j / 4)) used passed stack) where
-        -- what matches among all ancestors matches on the stack, and its starts rise
+        -- What matches among all ancestors matches on the stack, and its starts rise.
         at-matches : (relation : Relation)
             → matches (asked relation Descendant) (nodeAt ds (j / 4)) (nodes as′) ≡ reverse (matches (asked relation Descendant) (nodeAt ds (j / 4)) (opened used stack))
         at-matches relation =
@@ -126,8 +126,8 @@ module _ (as′ ds : List ℕ) where
             subst (EveryTwo (λ x y. x .start < y .start)) (at-matches relation)
             (matches-rise relation Descendant (nodeAt ds (j / 4)) (nodes as′) (accepted as′ ds taken .fine-as))
 
-        -- the descendant's group comes first of what remains, from the start on that tells what
-        -- lies past the place
+        -- The descendant's group comes first of what remains, from the start on that tells what
+        -- lies past the place.
         descend-group : (relation : Relation) (place : Place) (past : ℕ) → Tells place ds past j
             → rest-of relation Descendant place (drop (j / 4) (nodes ds)) (nodes as′)
             ≡ group Descendant (nodeAt ds (j / 4)) (fromStart past (reverse (matches (asked relation Descendant) (nodeAt ds (j / 4)) (opened used stack))))
@@ -143,8 +143,8 @@ module _ (as′ ds : List ℕ) where
             (ap (λ zs. remains (sortKey Descendant) (spotOf place) (group Descendant (nodeAt ds (j / 4)) zs)) (at-matches relation)
             ∙ group-past Descendant place past (nodeAt ds (j / 4)) _ (p l) (at-rises relation)))
 
-        -- so a group that found room leaves those after it to serve, and one that didn't ends the
-        -- page
+        -- So a group that found room leaves those after it to serve, and one that didn't ends the
+        -- page.
         pub descend-on : (relation : Relation) (place : Place) (past : ℕ) → Tells place ds past j → (out : List ℕ) (n : ℕ) {o : List ℕ} {d : ℕ} {b : Bool} {whole : List ℕ × ℕ × Bool}
             → (o, d, b) ≡ servedGroup Descendant out n (nodeAt ds (j / 4)) (fromStart past (reverse (matches (asked relation Descendant) (nodeAt ds (j / 4)) (opened used stack)))) → b ≡ true
             → serve pairWords PAIR-WORDS out n (rest-of relation Descendant place (drop (j / 4) (nodes ds)) (nodes as′)) ≡ whole → serve pairWords PAIR-WORDS o d (rest-of relation Descendant place (drop ((j + 4) / 4) (nodes ds)) (nodes as′)) ≡ whole
@@ -155,7 +155,7 @@ module _ (as′ ds : List ℕ) where
             → serve pairWords PAIR-WORDS out n (rest-of relation Descendant place (drop (j / 4) (nodes ds)) (nodes as′)) ≡ whole → (o, d, b) ≡ whole
         descend-stop relation place past p out n s t e = left-stop pairWords PAIR-WORDS out n _ _ s t (descend-group relation place past p) e
 
-        -- and the stack is ready for the next one
+        -- And the stack is ready for the next one.
         pub ready-next : Placed ds j → Ready (j + 4) used passed stack
         ready-next at = record {
           at = (at .0, omega arith, omega arith);

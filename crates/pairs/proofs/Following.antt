@@ -31,7 +31,7 @@ use Rattle.pairs.specs.Page.{listingOf, handedOut, saysDone, ticketAfter
 use Rattle.pairs.proofs.Answered.{not-refused, is-accepted, lists-ascend}
 use Rattle.pairs.proofs.Shown.{shown-is}
 
--- related pairs with the same starts have the same key
+-- Related pairs with the same starts have the same key.
 pub same-key : (relation : Relation) (order : Order) (p q : Pair) → relatedb relation p ≡ true → relatedb relation q ≡ true → SameStarts p q
     → sortKey order p ≡ sortKey order q
 unfolding keyOf
@@ -53,11 +53,11 @@ handed-own t c =
           (own-listing (sortKey (t .order)) (spotOf (t .place)) xs (room (c .out))))
     ]
 
--- a call hands out only related pairs of its own two lists
+-- A call hands out only related pairs of its own two lists.
 pub own-lists : (t : Ticket) (c : Call) → All (λ p. StandsIn p c × (askedb (askedBy t) p ≡ true)) (shown t c)
 own-lists t c = subst (All (λ p. StandsIn p c × (askedb (askedBy t) p ≡ true))) (sym (shown-is t c)) (handed-own t c)
 
--- an accepted call that isn't done fills its room
+-- An accepted call that isn't done fills its room.
 pub fills-room : (t : Ticket) (c : Call) → AcceptedCall c → answer t c .done ≡ false → answer t c .count ≡ room (c .out)
 unfolding pageOf saysDone handedOut
 fills-room t c a d =
@@ -65,7 +65,7 @@ fills-room t c a d =
     (rw (not-refused c a) at d))
 
 module _ (ask : Asked) where
-  -- a call in the terms of the crate `paging`
+  -- A call in the terms of the crate `paging`.
   pub callOf : Call → PagingCall Pair
   callOf c = cond (refusedb (checkTwo (c .ancestors) (c .descendants))) refused (accepted (fullListing ask c) (room (c .out)))
 
@@ -95,14 +95,14 @@ module _ (ask : Asked) where
     unfolding callOf handedOut given
     handed-given = elim (either (refusedb (checkTwo (c .ancestors) (c .descendants)))) [ inl h ↦ rw h refl | inr h ↦ rw h refl ]
 
-    -- a call moves the ticket as it moves paging's place
+    -- A call moves the ticket as it moves paging's place.
     pub moves : spotOf (answer (ticketAt ask place) c .ticket .place) ≡ moved (sortKey (ask .order)) (spotOf place) (callOf c)
     unfolding pageOf ticketAfter moved
     moves =
         reached-map spotOf (λ p. After (keyOf (ask .order) p)) place (handedOut (c .ancestors) (c .descendants) (ticketAt ask place) (c .out))
         ∙ ap (reached (λ p. after (sortKey (ask .order) p)) (spotOf place)) handed-given
 
-  -- what a sequence of calls shows is what paging's calls hand out
+  -- What a sequence of calls shows is what paging's calls hand out.
   pub shown-through : (place : Place) (cs : List Call)
       → shownThrough (ticketAt ask place) cs ≡ allGiven (sortKey (ask .order)) (spotOf place) (map callOf cs)
   unfolding shownThrough pageOf ticketAfter allGiven
@@ -129,8 +129,8 @@ module _ (ask : Asked) where
       all-map {P = λ p. StandsIn p c × (askedb ask p ≡ true)} (λ p h. h .1) (shown t c) (own-lists t c) in
       all-append (λ p. askedb ask p ≡ true) (shown t c) _ own (related-through (answer t c .ticket .place) cs)
 
-  -- a related pair that stands unaltered in the lists of every accepted call, up to one that is
-  -- done, has been handed out
+  -- A related pair that stands unaltered in the lists of every accepted call, up to one that is
+  -- done, has been handed out.
   pub none-lost : (cs : List Call) (c : Call) → AcceptedCall c → answer (ticketThrough (freshTicket ask) cs) c .done ≡ true
       → (p : Pair) → askedb ask p ≡ true → All (λ k. AcceptedCall k → StandsIn p k) cs → StandsIn p c
       → In p (shownThrough (freshTicket ask) (cs ++ c ∷ []))
@@ -140,7 +140,7 @@ module _ (ask : Asked) where
       (sym (done-through Fresh cs c a) ∙ d) p (all-mapped callOf _ cs (all-map (stood p r) cs s))
       (listed-iff ask _ _ p .1 (m .0, m .1, r)))
 
-  -- no two pairs with the same starts are handed out
+  -- No two pairs with the same starts are handed out.
   pub none-twice : (cs : List Call) → EveryTwo (λ p q. SameStarts p q → ⊥) (shownThrough (freshTicket ask) cs)
   none-twice cs =
       let ps = shownThrough (freshTicket ask) cs in

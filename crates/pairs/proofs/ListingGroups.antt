@@ -27,13 +27,13 @@ use Rattle.tickets.specs.Ticket.{spotOf, asked}
 use Rattle.tickets.proofs.Listed.{group-document}
 use Rattle.tickets.proofs.Groups.{rest-of, rest-next, rest-served}
 
--- nodes of one document that ascend rise in their starts
+-- Nodes of one document that ascend rise in their starts.
 pub rising : (x : Node) (zs : List Node) → EveryTwo Fine zs → All (λ z. x .document ≡ z .document) zs → EveryTwo (λ y z. y .start < z .start) zs
 rising x [] f h = tt
 rising x (z ∷ zs) f h = (all-both (λ n g d. after-starts n z (g .after) (sym (h .0) ∙ d)) zs (f .0) (h .1), rising x zs (f .1) (h .1))
 
 module _ (relation : Relation) (order : Order) (x : Node) where
-  -- keeping the related pairs of a group keeps the followers that match
+  -- Keeping the related pairs of a group keeps the followers that match.
   group-kept : (ys : List Node) → keep (relatedb relation) (group order x ys) ≡ group order x (matches (asked relation order) x ys)
   unfolding group matches keep
   group-kept [] = refl
@@ -41,7 +41,7 @@ module _ (relation : Relation) (order : Order) (x : Node) where
       elim (either (relatedb relation (pairOf order x y)))
       [ inl h ↦ rw h (ap (λ ps. pairOf order x y ∷ ps) (group-kept ys)) | inr h ↦ rw h (group-kept ys) ]
 
-  -- the starts of what matches a leader rise
+  -- The starts of what matches a leader rise.
   pub matches-rise : (ys : List Node) → EveryTwo Fine ys → EveryTwo (λ y z. y .start < z .start) (matches (asked relation order) x ys)
   unfolding matches
   matches-rise ys f =
@@ -49,8 +49,8 @@ module _ (relation : Relation) (order : Order) (x : Node) where
       rising x (keep test ys) (keep-every-two Fine test ys f)
       (all-map (λ y h. sym (group-document relation order x y h)) (keep test ys) (keep-past test ys))
 
-  -- what remains of a leader and those after it: its group with what matches, and what remains of
-  -- the others
+  -- What remains of a leader and those after it: its group with what matches, and what remains of
+  -- the others.
   pub rest-group : (place : Place) (xs ys : List Node)
       → rest-of relation order place (x ∷ xs) ys
       ≡ remains (sortKey order) (spotOf place) (group order x (matches (asked relation order) x ys)) ++ rest-of relation order place xs ys
@@ -58,15 +58,15 @@ module _ (relation : Relation) (order : Order) (x : Node) where
       rest-next relation order place x xs ys
       ∙ ap (λ ps. remains (sortKey order) (spotOf place) ps ++ rest-of relation order place xs ys) (group-kept ys)
 
--- in either order a sweep starts at the first leader that may have pairs past the place, and
--- nothing of the listing is lost
+-- In either order a sweep starts at the first leader that may have pairs past the place, and
+-- nothing of the listing is lost.
 pub sweep-start : (relation : Relation) (order : Order) (place : Place) (as′ ds : List Node) (i : ℕ) → i ≡ servedIn place (leaders order as′ ds)
     → rest-of relation order place (drop i (leaders order as′ ds)) (followers order as′ ds)
     ≡ remains (sortKey order) (spotOf place) (listing (asked relation order) as′ ds)
 unfolding listing
 sweep-start relation order place as′ ds i q = rw q (sym (rest-served relation order place (leaders order as′ ds) (followers order as′ ds)))
 
--- and after the last leader nothing is left
+-- And after the last leader nothing is left.
 pub sweep-end : (relation : Relation) (order : Order) (place : Place) (ws : List ℕ) (ys : List Node) (i : ℕ) → count ws ≤ i
     → rest-of relation order place (drop i (nodes ws)) ys ≡ []
 unfolding remains keep everyPair

@@ -29,7 +29,7 @@ use Rattle.tickets.proofs.Listed.{related-inside}
 use Rattle.tickets.specs.Ticket.{asked}
 use Rattle.pairs.specs.Private.Sweep.{Open}
 
--- the first k nodes, turned round, are the first k in their order
+-- The first k nodes, turned round, are the first k in their order.
 pub firsts-turned : (k : ℕ) (ns : List Node) → k ≤ length ns → reverse (firsts k ns) ≡ take k ns
 unfolding firsts
 firsts-turned zero ns l = refl
@@ -38,13 +38,13 @@ firsts-turned (suc k) ns l =
     ∙ ap (λ xs. xs ++ (getD ns k (node 0 0 0 0) ∷ [])) (firsts-turned k ns (omega arith))
     ∙ sym (take-suc ns k (node 0 0 0 0) (omega arith))
 
--- everything under the innermost of a chain has a lower level
+-- Everything under the innermost of a chain has a lower level.
 less-deep : (e : Node) (s : List Node) → Chain (e ∷ s) → All (λ f. f .level < e .level) s
 less-deep e [] c = tt
 less-deep e (f ∷ s) c = (c .1 .1, chain-levels (e .level) f s (c .2) (c .1 .1))
 
 module _ (d : Node) where
-  -- a test that only nodes which contain d pass keeps of all ancestors what it keeps of the chain
+  -- A test that only nodes which contain d pass keeps of all ancestors what it keeps of the chain.
   kept-open : (as′ : List Node) (i : ℕ) (s : List Node) → Sound d → i ≤ length as′ → All (λ a. afterb d a ≡ false) (drop i as′) → Open d (firsts i as′) s
       → (test : Node → Bool) → ((e : Node) → test e ≡ true → insideb d e ≡ true) → keep test as′ ≡ reverse (keep test s)
   kept-open as′ i s t l none k test only =
@@ -61,14 +61,14 @@ module _ (d : Node) where
   unfolding matches pairOf
   matches-open relation as′ i s t l none k = kept-open as′ i s t l none k _ (λ e h. related-inside relation _ h)
 
-  -- every node of a chain onto which d would fit contains it
+  -- Every node of a chain onto which d would fit contains it.
   pub inside-all : (s : List Node) → Chain s → Upon d s → matches (asked Inside Descendant) d s ≡ s
   unfolding matches relatedb pairOf keep
   inside-all [] c u = refl
   inside-all (e ∷ s) c u = rw (u .0) (ap (λ es. e ∷ es) (keep-all _ s (chain-contains d e s c (u .0))))
 
-  -- of a chain onto which d would fit only the innermost can contain it directly: the others are
-  -- less deep by two or more
+  -- Of a chain onto which d would fit only the innermost can contain it directly: the others are
+  -- less deep by two or more.
   pub directly-top : (e : Node) (s : List Node) → Chain (e ∷ s) → Upon d (e ∷ s)
       → matches (asked Directly Descendant) d (e ∷ s) ≡ cond (deeperb d e) (e ∷ []) []
   unfolding matches relatedb pairOf keep directlyb

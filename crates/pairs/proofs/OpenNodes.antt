@@ -19,20 +19,20 @@ use Rattle.lists.proofs.Keeping.{stands-later, stands-push, stands-left}
 use Rattle.lists.proofs.Taken.{Fine, nested-read, fine-settles}
 use Rattle.pairs.specs.Private.Sweep.{From, Open}
 
--- what holds of all ancestors before holds of the chain
+-- What holds of all ancestors before holds of the chain.
 pub all-among : (P : Node → Type 0) {d : Node} {before s : List Node} → Open d before s → All P before → All P s
 all-among P {before = before} {s = s} k h = all-map (λ e m. all-in P before h m) s (k .among)
 
--- a node that is fine with a chain, all of which is open at it, lies inside the innermost, and
--- deeper
+-- A node that is fine with a chain, all of which is open at it, lies inside the innermost, and
+-- deeper.
 pub upon-open : (n : Node) (s : List Node) → Sound n → All (λ e. Fine e n) s → All (λ e. openb n e ≡ true) s → Upon n s
 upon-open n [] t f o = tt
 upon-open n (e ∷ s) t f o =
     let p = open-read n e (o .0) in
     ⊎-elim (λ q. absurd (omega (arith, p))) (λ q. nested-read n e q) (fine-settles n e (t .span) (f .0) (p .document))
 
--- what lies under an open node contains it and is open too, so all that are left of a chain are
--- open
+-- What lies under an open node contains it and is open too, so all that are left of a chain are
+-- open.
 under-open : (n e : Node) (s : List Node) → Chain (e ∷ s) → openb n e ≡ true → All (λ f. openb n f ≡ true) s
 under-open n e [] c o = tt
 under-open n e (f ∷ s) c o =
@@ -46,23 +46,23 @@ unfolding unended
 left-open n [] c = tt
 left-open n (e ∷ s) c = elim (either (openb n e)) [ inl o ↦ rw o (o, under-open n e s c o) | inr o ↦ rw o (left-open n s (c .2)) ]
 
--- what is left of a chain stood in it before
+-- What is left of a chain stood in it before.
 among-left : (n : Node) (before s : List Node) → All (λ e. In e before) s → All (λ e. In e before) (unended n s)
 unfolding unended
 among-left n before [] h = tt
 among-left n before (e ∷ s) h = elim (either (openb n e)) [ inl o ↦ rw o h | inr o ↦ rw o (among-left n before s (h .1)) ]
 
--- an ancestor before d that isn't open at d is open at no node from d on
+-- An ancestor before d that isn't open at d is open at no node from d on.
 shut-from : (d m e : Node) → From d m → openb d e ≡ false → afterb d e ≡ true → openb m e ≡ false
 shut-from d m e p o b = ⊎-elim (λ q. subst (λ n. openb n e ≡ false) (sym q) o) (λ q. shut-later m d e o b q) p
 
--- before any ancestor the chain is empty
+-- Before any ancestor the chain is empty.
 pub open-none : (d : Node) → Open d [] []
 open-none d = record { stands = record { chain = tt; keeps = λ n p test only. refl }; among = tt; beyond = tt }
 
 module _ (d a : Node) (before s : List Node) (h : afterb d a ≡ true) (k : Open d before s) where
-  -- one more ancestor before d, fine with all before it, comes to lie on a chain all of which is
-  -- open at d: it is open at the ancestor too
+  -- One more ancestor before d, fine with all before it, comes to lie on a chain all of which is
+  -- open at d: it is open at the ancestor too.
   pub open-push : Sound a → All (λ e. Fine e a) before → All (λ e. openb d e ≡ true) s → Open d (a ∷ before) (a ∷ s)
   open-push t f o =
       let g : All (λ e. Fine e a) s = all-among (λ e. Fine e a) k f in
@@ -73,7 +73,7 @@ module _ (d a : Node) (before s : List Node) (h : afterb d a ≡ true) (k : Open
         beyond = (h, k .beyond);
       }
 
-  -- one that isn't open at d is left out
+  -- One that isn't open at d is left out.
   pub open-skip : openb d a ≡ false → Open d (a ∷ before) s
   open-skip o = record {
     stands = record {
@@ -84,7 +84,7 @@ module _ (d a : Node) (before s : List Node) (h : afterb d a ≡ true) (k : Open
     beyond = (h, k .beyond);
   }
 
--- those that ended before d are taken off
+-- Those that ended before d are taken off.
 pub open-left : (d : Node) (before s : List Node) → Open d before s → Open d before (unended d s)
 open-left d before s k = record {
   stands = stands-left d (λ m e p o b. shut-from d m e p o b) s (all-among (λ e. afterb d e ≡ true) k (k .beyond)) (k .stands);
@@ -92,7 +92,7 @@ open-left d before s k = record {
   beyond = k .beyond;
 }
 
--- the chain stands at a later node too
+-- The chain stands at a later node too.
 pub open-later : (d n : Node) (before s : List Node) → afterb n d ≡ true → Open d before s → Open n before s
 open-later d n before s h k = record {
   stands = stands-later (λ m p. inr (⊎-elim (λ q. subst (λ x. afterb x d ≡ true) (sym q) h) (λ q. after-trans m n d q h) p)) (k .stands);

@@ -35,7 +35,7 @@ module _ (ws : List ℕ) (d : Node) (taken : checkWords ws .answer ≡ TAKEN) wh
         let p = k .passed-in in
         rw q (all-at Sound (nodes ws) (i / 4) (node 0 0 0 0) (omega (arith, length-nodes ws)) (words-taken-iff ws .0 taken .2))
 
-    -- the next ancestor, which stands before d, fits onto the stack
+    -- The next ancestor, which stands before d, fits onto the stack.
     pushed : Open d (a ∷ firsts (i / 4) (nodes ws)) (a ∷ opened used stack)
     unfolding nodeAt
     pushed =
@@ -43,13 +43,13 @@ module _ (ws : List ℕ) (d : Node) (taken : checkWords ws .answer ≡ TAKEN) wh
         open-push d a (firsts (i / 4) (nodes ws)) (opened used stack) h (k .held) sound-next
         (rw q (fine-before (nodes ws) (words-taken-iff ws .0 taken .3) (i / 4) (omega (arith, length-nodes ws)))) o
 
-    -- the words in use fit, the next ancestor's level is no higher than it may be, and where it is
-    -- open it makes a chain with the stack
+    -- The words in use fit, the next ancestor's level is no higher than it may be, and where it is
+    -- open it makes a chain with the stack.
     pub next-fits : Fits used × (a .level ≤ MOST-LEVELS) × (openb d a ≡ true → Chain (a ∷ opened used stack))
     next-fits = (k .used-in, sound-next .highest, λ b. pushed .stands .chain)
 
-    -- once it is on top, or left out as it has ended, the sweep has passed one more, and all on the
-    -- stack are open at d
+    -- Once it is on top, or left out as it has ended, the sweep has passed one more, and all on the
+    -- stack are open at d.
     passed-group : Open d (firsts ((i + 4) / 4) (nodes ws)) (cond (openb d a) (a ∷ opened used stack) (opened used stack))
         × All (λ e. openb d e ≡ true) (cond (openb d a) (a ∷ opened used stack) (opened used stack))
     unfolding firsts nodeAt
@@ -68,8 +68,8 @@ module _ (ws : List ℕ) (d : Node) (taken : checkWords ws .answer ≡ TAKEN) wh
         let p = k .passed-in in
         (record { used-in = m; passed-in = (p .0, omega arith, omega arith); held = rw e (passed-group .0) }, rw e (passed-group .1))
 
-  -- an ancestor that doesn't stand before d ends the passing, as none after it does; so does the
-  -- end of the list
+  -- An ancestor that doesn't stand before d ends the passing, as none after it does; so does the
+  -- end of the list.
   pub passing-ends : (i : ℕ) (a : Node) → a ≡ nodeAt ws i → afterb d a ≡ false → All (λ e. afterb d e ≡ false) (drop i (nodes ws))
   unfolding nodeAt
   passing-ends i a q h = none-before d (nodes ws) (words-taken-iff ws .0 taken .3) i (λ l. rw q at h)

@@ -30,7 +30,7 @@ abbrev pub answered : Verdict → ℕ → Bool → Ticket → Page
 answered v count done t = record { verdict = v; count = count; done = done; ticket = t }
 
 module _ (as′ ds : List ℕ) (t : Ticket) (out : List ℕ) where
-  -- a refused call answers nothing but the verdict
+  -- A refused call answers nothing but the verdict.
   pub page-refused : (v : Verdict) → v ≡ checkTwo as′ ds → (v .answer ≡ TAKEN → ⊥)
       → record { answer : answered v 0 false t ≡ pageOf as′ ds t out; output : out ≡ outputAfter as′ ds t out }
   unfolding pageOf outputAfter handedOut saysDone ticketAfter refusedb reached wordsIn written flatMap
@@ -39,7 +39,7 @@ module _ (as′ ds : List ℕ) (t : Ticket) (out : List ℕ) where
       record { answer = ap (λ w. answered w 0 false t) q ∙ rw r refl; output = rw r refl }
 
   module _ (taken : checkTwo as′ ds .answer ≡ TAKEN) where
-    -- an accepted call hands out the first that remain, as many as fit, and is done if that is all
+    -- An accepted call hands out the first that remain, as many as fit, and is done if that is all.
     handed-first : handedOut as′ ds t out ≡ take (room out) (remaining t as′ ds)
     unfolding handedOut refusedb handed
     handed-first = rw (eq-eqb (checkTwo as′ ds .answer) TAKEN taken) refl
@@ -48,7 +48,7 @@ module _ (as′ ds : List ℕ) (t : Ticket) (out : List ℕ) where
     unfolding saysDone refusedb doneb handed
     done-all = rw (eq-eqb (checkTwo as′ ds .answer) TAKEN taken) refl
 
-    -- the place read off the output is the one that the pairs reach
+    -- The place read off the output is the one that the pairs reach.
     place-read : (u : Ticket)
         → u ≡ ticketAt (askedBy t) (placeReached (t .order) (t .place) (nodes (outputAfter as′ ds t out)) (length (handedOut as′ ds t out)))
         → u ≡ ticketAfter as′ ds t out
@@ -56,7 +56,7 @@ module _ (as′ ds : List ℕ) (t : Ticket) (out : List ℕ) where
     place-read u p = p ∙ ap (ticketAt (askedBy t)) (last-place (t .order) (t .place) (handedOut as′ ds t out) _)
 
   module _ (out′ : List ℕ) (count : ℕ) (done : Bool) (s : (out′, count, done) ≡ serve pairWords PAIR-WORDS out 0 (remaining t as′ ds)) where
-    -- no more was written than there is room for
+    -- No more was written than there is room for.
     pub written-in : count ≤ room out′
     written-in =
         let kept : length out′ ≡ length out = ap (λ r. length (r .0)) s ∙ serve-length pairWords PAIR-WORDS out 0 (remaining t as′ ds) in

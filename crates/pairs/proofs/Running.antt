@@ -34,7 +34,7 @@ use Rattle.tickets.proofs.Listed.{related-inside}
 use Rattle.tickets.specs.Ticket.{asked}
 use Rattle.pairs.specs.Private.Sweep.{Running, Further, runningb, runEnd, stretch}
 
--- nodes that ascend after an ancestor, each fine with it
+-- Nodes that ascend after an ancestor, each fine with it.
 pub record Run (a : Node) (zs : List Node) : Type 0 where
   pub sound : All Sound zs
   pub fine : All (Fine a) zs
@@ -44,7 +44,7 @@ module _ (a : Node) where
   run-next : (d : Node) (zs : List Node) → Run a (d ∷ zs) → Run a zs
   run-next d zs r = record { sound = r .sound .1; fine = r .fine .1; pairs = r .pairs .1 }
 
-  -- a later node at which the ancestor is open lies inside it
+  -- A later node at which the ancestor is open lies inside it.
   open-inside : (d : Node) → Sound d → Fine a d → openb d a ≡ true → insideb d a ≡ true
   open-inside d s f o =
       let p = open-read d a o in
@@ -55,16 +55,16 @@ module _ (a : Node) where
   unfolding matches
   match-append relation xs ys = keep-append _ xs ys
 
-  -- nodes of which none lies inside don't match
+  -- Nodes of which none lies inside don't match.
   match-none : (relation : Relation) (zs : List Node) → All (λ z. insideb z a ≡ false) zs → matches (asked relation Ancestor) a zs ≡ []
   unfolding matches pairOf
   match-none relation zs h = keep-none _ zs (all-map (λ z n. not-so (λ m. never (related-inside relation _ m) n)) zs h)
 
-  -- where the ancestor isn't open at a node, it isn't open at a later one
+  -- Where the ancestor isn't open at a node, it isn't open at a later one.
   later-shut : (d : Node) (zs : List Node) → Run a (d ∷ zs) → openb d a ≡ false → All (λ z. openb z a ≡ false) zs
   later-shut d zs r o = all-map (λ z g. shut-later z d a o (r .fine .0 .after) (g .after)) zs (r .pairs .0)
 
-  -- so a search that knows of a node at which it is open has passed all up to that one
+  -- So a search that knows of a node at which it is open has passed all up to that one.
   run-past : (zs : List Node) (i : ℕ) → Run a zs → i < length zs → openb (getD zs i (node 0 0 0 0)) a ≡ true
       → firstAt (λ d. not (openb d a)) (drop (suc i) zs) + suc i ≡ firstAt (λ d. not (openb d a)) zs
   unfolding firstAt
@@ -76,19 +76,19 @@ module _ (a : Node) where
         | inr h ↦ absurd (never o (all-at (λ z. openb z a ≡ false) zs i (node 0 0 0 0) (omega arith) (later-shut d zs r h)))
       ]
 
-  -- at all nodes from the run's end on it isn't open
+  -- At all nodes from the run's end on it isn't open.
   run-rest : (zs : List Node) → Run a zs → All (λ z. openb z a ≡ false) (drop (firstAt (λ d. not (openb d a)) zs) zs)
   unfolding firstAt
   run-rest [] r = tt
   run-rest (d ∷ zs) r =
       elim (either (openb d a)) [ inl o ↦ rw o (run-rest zs (run-next d zs r)) | inr o ↦ rw o (o, later-shut d zs r o) ]
 
-  -- nodes at which it isn't open don't match
+  -- Nodes at which it isn't open don't match.
   shut-none : (relation : Relation) (zs : List Node) → All Sound zs → All (λ z. openb z a ≡ false) zs → matches (asked relation Ancestor) a zs ≡ []
   shut-none relation zs t o =
       match-none relation zs (all-both (λ z s p. not-so (λ h. never (inside-open z a (s .span) h) p)) zs t o)
 
-  -- all nodes of the run lie inside
+  -- All nodes of the run lie inside.
   run-inside : (zs : List Node) → Run a zs → matches (asked Inside Ancestor) a zs ≡ take (firstAt (λ d. not (openb d a)) zs) zs
   unfolding matches relatedb pairOf keep firstAt
   run-inside [] r = refl
@@ -98,7 +98,7 @@ module _ (a : Node) where
         | inr o ↦ shut-none Inside (d ∷ zs) (r .sound) (o, later-shut d zs r o) ∙ rw o refl
       ]
 
-  -- of nodes that ascend, from the first one after the ancestor on all stand after it
+  -- Of nodes that ascend, from the first one after the ancestor on all stand after it.
   pub first-after : (ds : List Node) → EveryTwo Fine ds → All (λ d. afterb d a ≡ true) (drop (firstAt (λ d. afterb d a) ds) ds)
   unfolding firstAt
   first-after [] f = tt
@@ -108,7 +108,7 @@ module _ (a : Node) where
         | inr h ↦ rw h (first-after ds (f .1))
       ]
 
-  -- no node before it matches
+  -- No node before it matches.
   pub match-after : (relation : Relation) (ds : List Node)
       → matches (asked relation Ancestor) a (drop (firstAt (λ d. afterb d a) ds) ds) ≡ matches (asked relation Ancestor) a ds
   match-after relation ds =
@@ -128,7 +128,7 @@ module _ (ws : List ℕ) (a : Node) where
         pairs = every-two-drop Fine k (nodes ws) (t .3);
       }
 
-  -- what holds from an index on holds from a later one on
+  -- What holds from an index on holds from a later one on.
   pub running-from : (k m : ℕ) → k ≤ m → m ≤ count ws → Running ws a k → Running ws a m
   running-from k m l h r =
       let e : k + (m - k) ≡ m = omega arith in
@@ -142,8 +142,8 @@ module _ (ws : List ℕ) (a : Node) where
             (subst (All (λ d. afterb d a ≡ true)) (drop-drop (m - k) k (nodes ws)) (all-drop _ (m - k) (drop k (nodes ws)) (r .after)));
       }
 
-  -- makes and reads the test whether there is a descendant at an index and the ancestor is open at
-  -- it
+  -- Makes and reads the test whether there is a descendant at an index and the ancestor is open at
+  -- it.
   pub running-none : (k : ℕ) → count ws ≤ k → false ≡ runningb ws a k
   unfolding runningb
   running-none k h = rw (le-ltb _ _ h)
@@ -156,7 +156,7 @@ module _ (ws : List ℕ) (a : Node) where
   unfolding runningb
   running-read k h = let p = and-read (ltb k (count ws)) h in (ltb-true _ _ (p .0), p .1)
 
-  -- the run ends at a descendant at which the ancestor isn't open, and with the list
+  -- The run ends at a descendant at which the ancestor isn't open, and with the list.
   pub run-stops : (k : ℕ) → runningb ws a k ≡ false → runEnd ws a k ≡ k
   unfolding runningb firstAt
   run-stops k h = let z : firstAt (λ d. not (openb d a)) (drop k (nodes ws)) ≡ 0 = ends (either (ltb k (count ws))) in omega arith
@@ -165,8 +165,8 @@ module _ (ws : List ℕ) (a : Node) where
       ends (inl t) = rw (nodes-from ws k (ltb-true _ _ t), rw t at h) refl
       ends (inr t) = rw (nodes-beyond ws k (ltb-false _ _ t)) refl
 
-  -- after a descendant at which it is open, from some index on, the search for the run's end finds
-  -- the same
+  -- After a descendant at which it is open, from some index on, the search for the run's end finds
+  -- the same.
   further-to : (k n : ℕ) → k ≤ n → Running ws a k → runningb ws a n ≡ true → Running ws a (n + 1) × (runEnd ws a (n + 1) ≡ runEnd ws a k)
   unfolding nodeAt
   further-to k n h r o =
@@ -182,7 +182,7 @@ module _ (ws : List ℕ) (a : Node) where
       let q = run-past a zs (n - k) (running-run k r) (omega (arith, length-drop k (nodes ws), length-nodes ws)) (ap (λ z. openb z a) there ∙ p .1) in
       (running-from k (n + 1) (omega arith) (omega arith) r, rw rest (omega arith))
 
-  -- the run doesn't end before an index up to which it goes on
+  -- The run doesn't end before an index up to which it goes on.
   pub end-from : (k m : ℕ) → k ≤ m → m ≤ runEnd ws a k → runEnd ws a m ≡ runEnd ws a k
   end-from k m l h =
       let e : k + (m - k) ≡ m = omega arith in
@@ -190,11 +190,11 @@ module _ (ws : List ℕ) (a : Node) where
       let q : drop m (nodes ws) ≡ drop (m - k) (drop k (nodes ws)) = sym (drop-drop (m - k) k (nodes ws) ∙ ap (λ i. drop i (nodes ws)) e) in
       rw q (omega arith)
 
-  -- the run ends in the list or at its end
+  -- The run ends in the list or at its end.
   pub end-in : (k : ℕ) → k ≤ count ws → runEnd ws a k ≤ count ws
   end-in k h = omega (arith, first-in (λ d. not (openb d a)) (drop k (nodes ws)), length-drop k (nodes ws), length-nodes ws)
 
-  -- each descendant before its end lies inside the ancestor
+  -- Each descendant before its end lies inside the ancestor.
   pub inside-run : (k j : ℕ) → Running ws a k → k ≤ j → j < runEnd ws a k → insideb (nodeAt ws j) a ≡ true
   unfolding nodeAt
   inside-run k j r l h =
@@ -209,7 +209,7 @@ module _ (ws : List ℕ) (a : Node) where
       (open-inside a (getD zs (j - k) (node 0 0 0 0)) (all-at Sound zs (j - k) (node 0 0 0 0) (omega arith) (run .sound))
       (all-at (Fine a) zs (j - k) (node 0 0 0 0) (omega arith) (run .fine)) o)
 
-  -- the same with places in words: a place goes on to the next, and from there to one further
+  -- The same with places in words: a place goes on to the next, and from there to one further.
   pub further-none : (k : ℕ) → k % 4 ≡ 0 → Running ws a (k / 4) → Further ws a k k
   further-none k m r = (m, omega arith, r, refl)
 
@@ -225,7 +225,7 @@ module _ (ws : List ℕ) (a : Node) where
   pub further-stops : (k m : ℕ) → Further ws a k m → runningb ws a (m / 4) ≡ false → m / 4 ≡ runEnd ws a (k / 4)
   further-stops k m f o = sym (run-stops (m / 4) o) ∙ f .3
 
-  -- from the run's end on nothing lies inside
+  -- From the run's end on nothing lies inside.
   pub none-match : (relation : Relation) (k m : ℕ) → Running ws a k → runEnd ws a k ≤ m → matches (asked relation Ancestor) a (drop m (nodes ws)) ≡ []
   none-match relation k m r h =
       let zs : List Node = drop k (nodes ws) in
@@ -239,7 +239,7 @@ module _ (ws : List ℕ) (a : Node) where
       (shut-none a relation (drop (m - k - n) (drop n zs)) (all-drop Sound (m - k - n) (drop n zs) (all-drop Sound n zs (run .sound)))
       (all-drop _ (m - k - n) (drop n zs) (run-rest a zs run)))
 
-  -- the descendants inside the ancestor are those from a place to the run's end
+  -- The descendants inside the ancestor are those from a place to the run's end.
   pub run-stretch : (from to : ℕ) → Running ws a (from / 4) → to / 4 ≡ runEnd ws a (from / 4)
       → stretch ws from to ≡ matches (asked Inside Ancestor) a (drop (from / 4) (nodes ws))
   run-stretch from to r q =

@@ -23,25 +23,25 @@ use Rattle.pairs.specs.Calls.{Call, shown}
 use Rattle.pairs.specs.Page.{handedOut, pageOf, outputAfter}
 use Rattle.pairs.specs.Private.Sweep.{keyIn, placeReached}
 
--- words that begin with those of pairs, read two nodes at a time, begin with the pairs
+-- Words that begin with those of pairs, read two nodes at a time, begin with the pairs.
 pairs-first : (ps : List Pair) (rest : List ℕ) → pairsIn (nodes (wordsIn pairWords ps ++ rest)) ≡ ps ++ pairsIn (nodes rest)
 unfolding wordsIn flatMap pairWords wordsOf nodes pairsIn
 pairs-first [] rest = refl
 pairs-first (p ∷ ps) rest = ap (λ qs. p ∷ qs) (pairs-first ps rest)
 
--- the words of some pairs, read back, are the pairs
+-- The words of some pairs, read back, are the pairs.
 pub pairs-read : (ps : List Pair) → pairsIn (nodes (wordsIn pairWords ps)) ≡ ps
 unfolding nodes pairsIn
 pairs-read ps = ap (λ words. pairsIn (nodes words)) (sym (append-nil (wordsIn pairWords ps))) ∙ pairs-first ps [] ∙ append-nil ps
 
--- what the output shows is what the call hands out
+-- What the output shows is what the call hands out.
 pub shown-is : (t : Ticket) (c : Call) → shown t c ≡ handedOut (c .ancestors) (c .descendants) t (c .out)
 unfolding pageOf outputAfter written
 shown-is t c =
     let given = handedOut (c .ancestors) (c .descendants) t (c .out) in
     ap (take (length given)) (pairs-first given _) ∙ take-append-seam given _
 
--- after two nodes, the node at an index is the one two places earlier in the rest
+-- After two nodes, the node at an index is the one two places earlier in the rest.
 beyond : (x y : Node) (ns : List Node) {k m : ℕ} → m ≡ suc (suc k) → getD (x ∷ y ∷ ns) m (node 0 0 0 0) ≡ getD ns k (node 0 0 0 0)
 beyond x y ns q = rw q
 
@@ -53,12 +53,12 @@ key-beyond order x y ns k =
       descendant = beyond x y ns {k = 2 * k + 1} {m = 2 * suc k + 1} (omega arith) i;
     })
 
--- where pairs were handed out, the place is the key of the last
+-- Where pairs were handed out, the place is the key of the last.
 place-last : (order : Order) (place : Place) (ns : List Node) (k : ℕ) → placeReached order place ns (suc k) ≡ After (keyIn order ns k)
 unfolding placeReached
 place-last order place ns k = let e : suc k - 1 ≡ k = omega arith in rw (eqb·suc-zero k, e)
 
--- the key of the last pair, read off the output, is the place that the pairs reach
+-- The key of the last pair, read off the output, is the place that the pairs reach.
 pub last-place : (order : Order) (place : Place) (ps : List Pair) (rest : List ℕ)
     → placeReached order place (nodes (wordsIn pairWords ps ++ rest)) (length ps) ≡ reached (λ p. After (keyOf order p)) place ps
 unfolding placeReached keyIn reached wordsIn flatMap pairWords wordsOf nodes

@@ -24,7 +24,7 @@ use Rattle.pairs.specs.Private.Sweep.{Placed, stretch, startsFrom, fromS
 use Rattle.pairs.proofs.Matching.{firsts-turned, inside-all, directly-top}
 use Rattle.pairs.proofs.Stretches.{stretch-ahead, served-as}
 
--- what matches lies on the stack from r on up to the top
+-- What matches lies on the stack from r on up to the top.
 abbrev Stretch : Relation → Node → List ℕ → ℕ → ℕ → Type 0
 Stretch relation d ws used r = record {
   aligned : r % 4 ≡ 0;
@@ -33,13 +33,13 @@ Stretch relation d ws used r = record {
 }
 
 module _ (relation : Relation) (d : Node) (ws : List ℕ) (used : ℕ) where
-  -- on an empty stack nothing matches
+  -- On an empty stack nothing matches.
   pub match-none : used ≡ 0 → Stretch relation d ws used 0
   unfolding matches keep firsts
   match-none q = record { aligned = refl; within = omega arith; matches = rw q refl }
 
   module _ (l : Placed ws used) (c : Chain (opened used ws)) (u : Upon d (opened used ws)) where
-    -- the descendant lies inside all of them
+    -- The descendant lies inside all of them.
     pub match-all : relation ≡ Inside → Stretch relation d ws used 0
     match-all q = record {
       aligned = refl;
@@ -58,7 +58,7 @@ module _ (relation : Relation) (d : Node) (ws : List ℕ) (used : ℕ) where
       top-matches =
           ap (matches (asked Directly Descendant) d) at-top ∙ directly-top d e (opened (used - 4) ws) (rw at-top at c) (rw at-top at u)
 
-      -- it lies directly inside the innermost
+      -- It lies directly inside the innermost.
       pub match-top : deeperb d e ≡ true → Stretch relation d ws used (used - 4)
       match-top t =
           let one : used / 4 - (used - 4) / 4 ≡ 1 = omega arith in
@@ -68,14 +68,14 @@ module _ (relation : Relation) (d : Node) (ws : List ℕ) (used : ℕ) where
             matches = rw (q, top-matches, t, one, nodes-from ws ((used - 4) / 4) (omega arith), ← h) refl;
           }
 
-      -- it lies directly inside none
+      -- It lies directly inside none.
       pub match-past : deeperb d e ≡ false → Stretch relation d ws used used
       match-past t =
           let none : used / 4 - used / 4 ≡ 0 = omega arith in
           record { aligned = l .1; within = le-refl used; matches = rw (q, top-matches, t, none) refl }
 
--- what is left of what matches lies from the first node on that starts late enough, so serving from
--- there on serves it
+-- What is left of what matches lies from the first node on that starts late enough, so serving from
+-- there on serves it.
 module _ (ws : List ℕ) (from to ahead past : ℕ) (q : ahead / 4 ≡ firstAt (startsFrom past) (stretch ws from to) + from / 4)
     (relation : Relation) (d e : Node) (h : e ≡ d) (m : reverse (matches (asked relation Descendant) e (opened to ws)) ≡ stretch ws from to) where
   match-ahead : stretch ws ahead to ≡ fromStart past (reverse (matches (asked relation Descendant) d (opened to ws)))

@@ -27,7 +27,7 @@ use Rattle.tickets.specs.Private.Group.{group}
 use Rattle.laws.proofs.First.{first-in}
 use Rattle.pairs.specs.Private.Sweep.{Placed, stretch, startsFrom, fromStart, servedGroup}
 
--- a stretch begins with the node at its first place, and is empty where that isn't before its end
+-- A stretch begins with the node at its first place, and is empty where that isn't before its end.
 pub stretch-next : (ws : List ℕ) (from to : ℕ) → Placed ws from → Placed ws to → from < to
     → stretch ws from to ≡ nodeAt ws (from / 4) ∷ stretch ws (from + 4) to
 stretch-next ws from to p q h =
@@ -47,7 +47,7 @@ take-less (suc m) (suc n) [] h = refl
 take-less (suc m) (suc n) (x ∷ xs) h = ap (λ ys. x ∷ ys) (take-less m n xs (omega arith))
 
 module _ (order : Order) (x : Node) where
-  -- where the output is full, none of the nodes finds room
+  -- Where the output is full, none of the nodes finds room.
   none-fit : (out : List ℕ) (n : ℕ) (ys : List Node) → room out ≤ n → 0 < length ys
       → _≡_ {A = List ℕ × ℕ × Bool} (out, n, false) (servedGroup order out n x ys)
   unfolding group
@@ -59,7 +59,7 @@ module _ (order : Order) (x : Node) where
   all-fit out n ys q = rw q refl
 
   module _ (ws : List ℕ) where
-    -- a loop along all followers stores the next one, and ends after the last
+    -- A loop along all followers stores the next one, and ends after the last.
     pub turned : (out us : List ℕ) (written k : ℕ) (y : Node) → k < count ws → y ≡ nodeAt ws k → written + k < room out
         → us ≡ store pairWords PAIR-WORDS out (written + k) (pairOf order x y)
         → servedGroup order us (written + (k + 1)) x (drop (k + 1) (nodes ws)) ≡ servedGroup order out (written + k) x (drop k (nodes ws))
@@ -73,7 +73,7 @@ module _ (order : Order) (x : Node) where
     ended out n k h = all-fit out n (drop k (nodes ws)) (nodes-beyond ws k h)
 
     module _ (from to : ℕ) (p : Placed ws from) (q : Placed ws to) where
-      -- the first pair of a stretch is stored
+      -- The first pair of a stretch is stored.
       pub stored : (out us : List ℕ) (written : ℕ) (x₁ y : Node) → from < to → x₁ ≡ x → y ≡ nodeAt ws (from / 4) → written < room out
           → us ≡ store pairWords PAIR-WORDS out written (pairOf order x₁ y)
           → servedGroup order us (written + 1) x (stretch ws (from + 4) to) ≡ servedGroup order out written x (stretch ws from to)
@@ -82,7 +82,7 @@ module _ (order : Order) (x : Node) where
           rw (stretch-next ws from to p q h, ← e, s, e₁)
           (sym (serve-next pairWords PAIR-WORDS out written (pairOf order x y) (group order x (stretch ws (from + 4) to)) r))
 
-      -- what is served after it is served with it
+      -- What is served after it is served with it.
       pub continued : (t : List ℕ × ℕ × Bool) (out us : List ℕ) (written : ℕ) (x₁ x₂ y : Node)
           → t ≡ servedGroup order us (written + 1) x₂ (stretch ws (from + 4) to) → x₂ ≡ x → from < to → x₁ ≡ x → y ≡ nodeAt ws (from / 4)
           → written < room out → us ≡ store pairWords PAIR-WORDS out written (pairOf order x₁ y)
@@ -90,7 +90,7 @@ module _ (order : Order) (x : Node) where
       continued t out us written x₁ x₂ y v e₂ h e₁ e r s =
           v ∙ ap (λ z. servedGroup order us (written + 1) z (stretch ws (from + 4) to)) e₂ ∙ stored out us written x₁ y h e₁ e r s
 
-      -- the first pair finds no room, or it was the last
+      -- The first pair finds no room, or it was the last.
       pub cut : (out : List ℕ) (written : ℕ) → from < to → room out ≤ written
           → _≡_ {A = List ℕ × ℕ × Bool} (out, written, false) (servedGroup order out written x (stretch ws from to))
       cut out written h r = none-fit out written (stretch ws from to) r (subst (λ ys. 0 < length ys) (sym (stretch-next ws from to p q h)) (omega arith))
@@ -99,7 +99,7 @@ module _ (order : Order) (x : Node) where
           → _≡_ {A = List ℕ × ℕ × Bool} (out, written, true) (servedGroup order out written x (stretch ws from to))
       none out written h = all-fit out written (stretch ws from to) (stretch-none ws from to h)
 
-  -- of a stretch as many are served as fit: all of it, or until the room is full
+  -- Of a stretch as many are served as fit: all of it, or until the room is full.
   module _ (zs : List Node) (out us : List ℕ) (written fit wanted : ℕ) (w : wanted ≤ length zs) (f : fit ≤ wanted)
       (s : _≡_ {A = List ℕ × ℕ × Bool} (us, written + fit, true) (servedGroup order out written x (take fit zs))) where
     same-room : length us ≡ length out
@@ -136,12 +136,12 @@ module _ (order : Order) (x : Node) where
             rw (ne-eqb fit wanted (λ o. omega arith))
             (none-fit us (written + fit) (drop fit (take wanted zs)) (omega (arith, same-room)) (omega (arith, left)))
 
--- the followers of a group that is served may be written in another way
+-- The followers of a group that is served may be written in another way.
 pub served-as : (order : Order) (out : List ℕ) (written : ℕ) (x : Node) {ns ms : List Node} {r : List ℕ × ℕ × Bool}
     → r ≡ servedGroup order out written x ns → ns ≡ ms → r ≡ servedGroup order out written x ms
 served-as order out written x p q = p ∙ ap (servedGroup order out written x) q
 
--- the same for a part of the words, whose length tells how many fit
+-- The same for a part of the words, whose length tells how many fit.
 module _ (order : Order) (x : Node) (ws : List ℕ) (from to m fit : ℕ) (p : Placed ws from) (q : Placed ws to) (h : from ≤ to) (e : m ≡ 4 * fit)
     (f : fit ≤ (to - from) / 4) where
   part-nodes : nodes (take m (drop from ws)) ≡ take fit (drop (from / 4) (nodes ws))
@@ -167,14 +167,14 @@ module _ (order : Order) (x : Node) (ws : List ℕ) (from to m fit : ℕ) (p : P
       (omega (arith, length-drop (from / 4) (nodes ws), length-nodes ws)) f t g)
       (ap (λ k. take k (drop (from / 4) (nodes ws))) w)
 
--- every node starts at 0 or later, so the search finds the first
+-- Every node starts at 0 or later, so the search finds the first.
 pub first-zero : (ns : List Node) → firstAt (startsFrom 0) ns ≡ 0
 unfolding firstAt
 first-zero [] = refl
 first-zero (n ∷ ns) = rw (le-leb 0 (n .start) zero-le) refl
 
--- a search along a stretch for a start ends at a node that has it, goes on after one that hasn't,
--- and ends with the stretch
+-- A search along a stretch for a start ends at a node that has it, goes on after one that hasn't,
+-- and ends with the stretch.
 module _ (ws : List ℕ) (k to start answer : ℕ) (p : Placed ws k) (q : Placed ws to) (s : firstAt (startsFrom start) (stretch ws k to) + k / 4 ≡ answer) where
   pub start-found : (n : Node) → k < to → n ≡ nodeAt ws (k / 4) → start ≤ n .start → k / 4 ≡ answer
   unfolding firstAt
@@ -196,7 +196,7 @@ module _ (ws : List ℕ) (k to start answer : ℕ) (p : Placed ws k) (q : Placed
       let z : firstAt (startsFrom start) (stretch ws k to) ≡ 0 = rw (stretch-none ws k to h) refl in
       omega arith
 
--- the first nodes without the first k of them are the first of those after k
+-- The first nodes without the first k of them are the first of those after k.
 drop-take : (k m : ℕ) (ns : List Node) → drop k (take m ns) ≡ take (m - k) (drop k ns)
 drop-take zero m ns = rw (sub-zero m) refl
 drop-take (suc k) zero ns = rw (zero-sub (suc k)) refl
@@ -211,7 +211,7 @@ later ns from to k ahead q =
     let turned : k + from ≡ from + k = omega arith in
     rw (q, less, turned, drop-take k (to - from) (drop from ns), drop-drop k from ns) refl
 
--- from the first node that starts late enough on, a stretch is a stretch to the same end
+-- From the first node that starts late enough on, a stretch is a stretch to the same end.
 module _ (ws : List ℕ) (from to ahead past : ℕ) (q : ahead / 4 ≡ firstAt (startsFrom past) (stretch ws from to) + from / 4) where
   pub stretch-ahead : stretch ws ahead to ≡ fromStart past (stretch ws from to)
   unfolding fromStart

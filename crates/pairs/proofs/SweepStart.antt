@@ -26,20 +26,20 @@ first-unserved : (place : Place) (ns : List Node) (n : Node) → servedIn place 
 unfolding servedIn
 first-unserved place ns n l = not-read _ (first-passes _ ns n l)
 
--- there are no more leaders before the place's own than there are leaders
+-- There are no more leaders before the place's own than there are leaders.
 pub served-in : (place : Place) (ws : List ℕ) (first : ℕ) → first ≡ servedIn place (nodes ws) → first ≤ count ws
 unfolding servedIn
 served-in place ws first q = let h = first-in (λ x. not (servedb place x)) (nodes ws) in omega (arith, length-nodes ws)
 
--- a sweep for the place starts at the leader `first`, with the number `past`
+-- A sweep for the place starts at the leader `first`, with the number `past`.
 abbrev pub Started : Place → List ℕ → ℕ → ℕ → Type 0
 Started place ws first past = (first ≡ servedIn place (nodes ws)) × (past ≡ pastFrom place (nodeAt ws first))
 
--- at the leader at the word j, the number `past` tells which followers lie past the place
+-- At the leader at the word j, the number `past` tells which followers lie past the place.
 abbrev pub Tells : Place → List ℕ → ℕ → ℕ → Type 0
 Tells place ws past j = j < length ws → Past place past (nodeAt ws (j / 4))
 
--- of an accepted list the next node stands after this one
+-- Of an accepted list the next node stands after this one.
 pub after-next : (ws : List ℕ) → checkWords ws .answer ≡ TAKEN → (j : ℕ) → j + 4 < length ws
     → afterb (nodeAt ws ((j + 4) / 4)) (nodeAt ws (j / 4)) ≡ true
 unfolding nodeAt
@@ -54,7 +54,7 @@ module _ (place : Place) (ws : List ℕ) where
   started first past x q n p = (q, p ∙ ap (pastFrom place) n)
 
   module _ (taken : checkWords ws .answer ≡ TAKEN) where
-    -- the number that a sweep starts with tells it, and 0 does at the next leader
+    -- The number that a sweep starts with tells it, and 0 does at the next leader.
     pub tells-first : (first past : ℕ) → Started place ws first past → Tells place ws past (4 * first)
     unfolding nodeAt
     tells-first first past s m =

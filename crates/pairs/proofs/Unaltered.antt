@@ -37,7 +37,7 @@ module _ (ask : Asked) (c : Call) (a : AcceptedCall c) where
   ascends : Ascends (sortKey (ask .order)) whole
   ascends = let l = lists-ascend c a in listing-ascends ask (nodes (c .ancestors)) (nodes (c .descendants)) (l .0) (l .1)
 
-  -- two accepted lists have so few nodes that their listing has at most 16,777,216 pairs
+  -- Two accepted lists have so few nodes that their listing has at most 16,777,216 pairs.
   pub whole-few : length whole ≤ MOST-NODES * MOST-NODES
   whole-few =
       let t = two-taken-iff (c .ancestors) (c .descendants) .0 a in
@@ -45,7 +45,7 @@ module _ (ask : Asked) (c : Call) (a : AcceptedCall c) where
       (omega (arith, length-nodes (c .ancestors), words-taken-iff (c .ancestors) .0 (t .0) .1))
       (omega (arith, length-nodes (c .descendants), words-taken-iff (c .descendants) .0 (t .1) .1))
 
-  -- a call on the same lists is one with the same listing and its own room
+  -- A call on the same lists is one with the same listing and its own room.
   same-call : (k : Call) → SameLists k c → callOf ask k ≡ accepted whole (room (k .out))
   same-call k s =
       called ask k (ap (λ xs. checkTwo xs (k .descendants) .answer) (s .0) ∙ ap (λ ys. checkTwo (c .ancestors) ys .answer) (s .1) ∙ a)
@@ -56,8 +56,8 @@ module _ (ask : Asked) (c : Call) (a : AcceptedCall c) where
   same-calls [] s = refl
   same-calls (k ∷ cs) s = λ i. same-call k (s .0) i ∷ same-calls cs (s .1) i
 
-  -- from a fresh ticket until a call is done, calls on lists that nobody alters hand out the full
-  -- listing, in its order
+  -- From a fresh ticket until a call is done, calls on lists that nobody alters hand out the full
+  -- listing, in its order.
   pub whole-through : (cs : List Call) → All (λ k. SameLists k c) cs → answer (ticketThrough (freshTicket ask) cs) c .done ≡ true
       → shownThrough (freshTicket ask) (cs ++ c ∷ []) ≡ whole
   whole-through cs s d =
@@ -70,7 +70,7 @@ module _ (ask : Asked) (c : Call) (a : AcceptedCall c) where
       ∙ λ i. same-calls cs s i ++ called ask c a i ∷ [])
       ∙ pages-whole (sortKey (ask .order)) whole ascends rooms (room (c .out)) full
 
-  -- and where the rooms together are enough for it, the last call is done
+  -- And where the rooms together are enough for it, the last call is done.
   pub ends-through : (cs : List Call) → All (λ k. SameLists k c) cs → length whole ≤ total (map (λ k. room (k .out)) cs) + room (c .out)
       → answer (ticketThrough (freshTicket ask) cs) c .done ≡ true
   ends-through cs s enough =
@@ -78,13 +78,13 @@ module _ (ask : Asked) (c : Call) (a : AcceptedCall c) where
       ∙ ap (λ ks. doneb (sortKey (ask .order)) (placeAfter (sortKey (ask .order)) fresh ks) (room (c .out)) whole) (same-calls cs s)
       ∙ pages-end (sortKey (ask .order)) whole ascends (map (λ k. room (k .out)) cs) (room (c .out)) enough
 
--- one accepted call, with any ticket
+-- One accepted call, with any ticket.
 module _ (t : Ticket) (c : Call) (a : AcceptedCall c) where
-  -- what remains for a ticket of the call's lists
+  -- What remains for a ticket of the call's lists.
   abbrev left : Ticket → List Pair
   left u = remaining u (c .ancestors) (c .descendants)
 
-  -- the ticket that comes back leaves what the call had no room for
+  -- The ticket that comes back leaves what the call had no room for.
   page-leaves : left (answer t c .ticket) ≡ drop (room (c .out)) (left t)
   unfolding pageOf ticketAfter
   page-leaves =
@@ -98,13 +98,13 @@ module _ (t : Ticket) (c : Call) (a : AcceptedCall c) where
   unfolding pageOf handedOut handed
   handed-first = rw (not-refused c a)
 
-  -- so that each pair which remained was handed out or remains
+  -- So that each pair which remained was handed out or remains.
   pub left-after : length (left t) ≡ answer t c .count + length (left (answer t c .ticket))
   left-after =
       let n = room (c .out) in
       omega (arith, handed-first, ap length page-leaves, length-take n (left t), length-drop n (left t))
 
-  -- and a call that is done leaves nothing
+  -- And a call that is done leaves nothing.
   pub none-left : answer t c .done ≡ true → length (left (answer t c .ticket)) ≡ 0
   unfolding pageOf saysDone doneb handed
   none-left d =

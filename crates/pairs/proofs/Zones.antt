@@ -50,13 +50,13 @@ every-two-take R zero xs h = tt
 every-two-take R (suc n) [] h = tt
 every-two-take R (suc n) (x ∷ xs) h = (take-all-of (R x) n xs (h .0), every-two-take R n xs (h .1))
 
--- nodes that all start late enough are left as they are
+-- Nodes that all start late enough are left as they are.
 from-all : (past : ℕ) (zs : List Node) → All (λ z. leb past (z .start) ≡ true) zs → fromStart past zs ≡ zs
 unfolding fromStart firstAt
 from-all past [] h = refl
 from-all past (z ∷ zs) h = rw (h .0) refl
 
--- where the starts of nodes rise, a test and a cut at a start can be applied in either order
+-- Where the starts of nodes rise, a test and a cut at a start can be applied in either order.
 keep-from : (test : Node → Bool) (past : ℕ) (zs : List Node) → EveryTwo (λ y z. y .start < z .start) zs
     → keep test (fromStart past zs) ≡ fromStart past (keep test zs)
 unfolding fromStart firstAt keep
@@ -69,7 +69,7 @@ keep-from test past (z ∷ zs) h =
     ]
 
 module _ (ws : List ℕ) (a : Node) where
-  -- what matches lies in the run
+  -- What matches lies in the run.
   run-matches : (relation : Relation) (from to : ℕ) → Running ws a (from / 4) → to / 4 ≡ runEnd ws a (from / 4)
       → matches (asked relation Ancestor) a (drop (from / 4) (nodes ws)) ≡ matches (asked relation Ancestor) a (stretch ws from to)
   run-matches relation from to r q =
@@ -90,8 +90,8 @@ module _ (ws : List ℕ) (a : Node) where
       (rising a (take (firstAt (λ d. not (openb d a)) zs) zs) (every-two-take Fine (firstAt (λ d. not (openb d a)) zs) zs (running-run ws a (from / 4) r .pairs))
       (all-map (λ z o. open-read z a (not-none _ o) .document) (take (firstAt (λ d. not (openb d a)) zs) zs) (first-failed (λ d. not (openb d a)) zs)))
 
-  -- from the first descendant of the run that starts late enough on lies what is left of what
-  -- matches
+  -- From the first descendant of the run that starts late enough on lies what is left of what
+  -- matches.
   run-ahead : (relation : Relation) (from to ahead past : ℕ) → Running ws a (from / 4) → to / 4 ≡ runEnd ws a (from / 4)
       → Running ws a (ahead / 4) → to / 4 ≡ runEnd ws a (ahead / 4) → ahead / 4 ≡ firstAt (startsFrom past) (stretch ws from to) + from / 4
       → matches (asked relation Ancestor) a (drop (ahead / 4) (nodes ws)) ≡ fromStart past (matches (asked relation Ancestor) a (drop (from / 4) (nodes ws)))
@@ -101,7 +101,7 @@ module _ (ws : List ℕ) (a : Node) where
       ∙ keep-from (λ n. relatedb relation (pairOf Ancestor a n)) past (stretch ws from to) (run-rises from to r q)
       ∙ ap (fromStart past) (sym (run-matches relation from to r q))
 
-  -- an ancestor that isn't open at the first descendant after it has no group
+  -- An ancestor that isn't open at the first descendant after it has no group.
   pub run-none : (relation : Relation) (past from : ℕ) (x : Node) (b : Bool) → Running ws a (from / 4) → x ≡ a → b ≡ runningb ws x (from / 4) → b ≡ false
       → fromStart past (matches (asked relation Ancestor) a (drop (from / 4) (nodes ws))) ≡ []
   unfolding fromStart
@@ -109,8 +109,8 @@ module _ (ws : List ℕ) (a : Node) where
       let e = run-stops ws a (from / 4) (ap (λ z. runningb ws z (from / 4)) (sym q) ∙ sym o ∙ n) in
       rw (none-match ws a relation (from / 4) (from / 4) r (omega (arith, e))) (drop-nil {A = Node} (firstAt (startsFrom past) []))
 
-  -- the run of an ancestor that is open there, and what is left of it from the first that starts
-  -- late enough on
+  -- The run of an ancestor that is open there, and what is left of it from the first that starts
+  -- late enough on.
   module _ (from to ahead past : ℕ) (x : Node) (p : Placed ws from) (r : Running ws a (from / 4)) (q : x ≡ a) (m : to % 4 ≡ 0)
       (e : to / 4 ≡ runEnd ws x (from / 4)) where
     end-at : to / 4 ≡ runEnd ws a (from / 4)
@@ -131,7 +131,7 @@ module _ (ws : List ℕ) (a : Node) where
           end-at ∙ sym (end-from ws a (from / 4) (ahead / 4) l (omega (arith, end-at))),
         )
 
-    -- so serving what matches from there on serves what is left of what matches
+    -- So serving what matches from there on serves what is left of what matches.
     pub serve-run : (relation : Relation) (n : ahead % 4 ≡ 0) → ahead / 4 ≡ firstAt (startsFrom past) (stretch ws from to) + from / 4
         → (out : List ℕ) (written : ℕ) {r : List ℕ × ℕ × Bool}
         → r ≡ servedGroup Ancestor out written a (matches (asked relation Ancestor) a (drop (ahead / 4) (nodes ws)))
@@ -140,12 +140,12 @@ module _ (ws : List ℕ) (a : Node) where
         let t = ahead-placed n s in
         served-as Ancestor out written a h (run-ahead relation from to ahead past r end-at (t .1) (t .2) s)
 
--- a sweep along the ancestors stands at one: no descendant before an index stands after it
+-- A sweep along the ancestors stands at one: no descendant before an index stands after it.
 abbrev pub Reached : List ℕ → List ℕ → ℕ → ℕ → Type 0
 Reached as′ ws i from = i < count as′ → from ≤ firstAt (λ d. afterb d (nodeAt as′ i)) (nodes ws)
 
 module _ (as′ ws : List ℕ) (taken : checkTwo as′ ws .answer ≡ TAKEN) where
-  -- the ancestors alone are accepted, and both lists are of whole nodes
+  -- The ancestors alone are accepted, and both lists are of whole nodes.
   pub first-taken : (checkWords as′ .answer ≡ TAKEN) × (length as′ % 4 ≡ 0) × (length ws % 4 ≡ 0)
   first-taken =
       let t = two-taken-iff as′ ws .0 taken in
@@ -153,7 +153,7 @@ module _ (as′ ws : List ℕ) (taken : checkTwo as′ ws .answer ≡ TAKEN) whe
 
   module _ (i from to : ℕ) (a : Node) (l : i < count as′) (q : a ≡ nodeAt as′ i) (p : Reached as′ ws i from)
       (e : to ≡ firstAt (λ d. afterb d a) (drop from (nodes ws)) + from) where
-    -- the search from the index on finds the first descendant after the ancestor
+    -- The search from the index on finds the first descendant after the ancestor.
     found : to ≡ firstAt (λ d. afterb d (nodeAt as′ i)) (nodes ws)
     found =
         e ∙ ap (λ n. firstAt (λ d. afterb d n) (drop from (nodes ws)) + from) q ∙ first-from (λ d. afterb d (nodeAt as′ i)) from (nodes ws) (p l)
@@ -170,14 +170,14 @@ module _ (as′ ws : List ℕ) (taken : checkTwo as′ ws .answer ≡ TAKEN) whe
           after = rw found (first-after (nodeAt as′ i) (nodes ws) (w .3));
         }
 
-    -- the next ancestor stands after this one
+    -- The next ancestor stands after this one.
     pub sweep-next : (j : ℕ) → j ≡ i + 1 → Reached as′ ws j to
     sweep-next j s m =
         let fine : Fine (nodeAt as′ i) (nodeAt as′ j) = node-pair as′ Fine i j (omega arith) m (accepted as′ ws taken .fine-as) in
         rw found
         (first-earlier (λ d. afterb d (nodeAt as′ i)) (λ d. afterb d (nodeAt as′ j)) (λ d h. after-trans d (nodeAt as′ j) (nodeAt as′ i) h (fine .after)) (nodes ws))
 
-    -- what remains of this ancestor's group comes next
+    -- What remains of this ancestor's group comes next.
     sweep-group : (relation : Relation) (place : Place) (past j : ℕ) → Past place past (nodeAt as′ i) → j ≡ i + 1
         → rest-of relation Ancestor place (drop i (nodes as′)) (nodes ws)
         ≡ group Ancestor (nodeAt as′ i) (fromStart past (matches (asked relation Ancestor) (nodeAt as′ i) (drop to (nodes ws))))
@@ -192,7 +192,7 @@ module _ (as′ ws : List ℕ) (taken : checkTwo as′ ws .answer ≡ TAKEN) whe
         rw (s, found, match-after x relation (nodes ws), nodes-from as′ i l)
         (rest-group relation Ancestor x place later (nodes ws) ∙ ap (λ ps. ps ++ rest-of relation Ancestor place later (nodes ws)) mine)
 
-    -- so a group that found room leaves those after it to serve, and one that didn't ends the page
+    -- So a group that found room leaves those after it to serve, and one that didn't ends the page.
     pub sweep-on : (relation : Relation) (place : Place) (past j : ℕ) → Past place past (nodeAt as′ i) → j ≡ i + 1 → (out : List ℕ) (n : ℕ) {o : List ℕ} {d : ℕ} {b : Bool} {whole : List ℕ × ℕ × Bool}
         → (o, d, b) ≡ servedGroup Ancestor out n (nodeAt as′ i) (fromStart past (matches (asked relation Ancestor) (nodeAt as′ i) (drop to (nodes ws)))) → b ≡ true
         → serve pairWords PAIR-WORDS out n (rest-of relation Ancestor place (drop i (nodes as′)) (nodes ws)) ≡ whole → serve pairWords PAIR-WORDS o d (rest-of relation Ancestor place (drop j (nodes as′)) (nodes ws)) ≡ whole

@@ -19,7 +19,7 @@ use Rattle.pieces.specs.Pieces.{whole, WholeNodes}
 use Rattle.pieces.proofs.Checking.{fit-whole, whole-checked}
 use Rattle.pieces.proofs.Cutting.{pieceNodes, nodes-whole, all-pieces, to-later, from-later}
 
--- two nodes are not at odds
+-- Two nodes are not at odds.
 abbrev Agree : Node → Node → Type 0
 Agree x y = oddsb x y ≡ false
 
@@ -28,7 +28,7 @@ even-pieces as′ ds =
     let split = all-pieces (λ x. All (Agree x) (pieceNodes ds)) as′ in
     (λ h. all-map (λ a k. to-later Agree a ds k) as′ (split .0 h), λ h. split .1 (all-map (λ a k. from-later Agree a ds k) as′ h))
 
--- the wholes agree exactly when each piece agrees with each piece
+-- The wholes agree exactly when each piece agrees with each piece.
 pub whole-agrees : (as′ ds : List (List ℕ)) → All WholeNodes as′ → All WholeNodes ds
     → (jointb (nodes (whole as′)) (nodes (whole ds)) ≡ false) ↔ All (λ a. All (λ d. jointb (nodes a) (nodes d) ≡ false) ds) as′
 whole-agrees as′ ds h k =
@@ -39,8 +39,8 @@ whole-agrees as′ ds h k =
       λ j. wholes .1 (cut .1 (all-map (λ a e. all-map (λ d f. joint-iff (nodes a) (nodes d) .0 f) ds e) as′ j)),
     )
 
--- both wholes draw no answer of 3 to 8 exactly when the pieces of each pass, and each piece of one
--- is taken together with each piece of the other
+-- Both wholes draw no answer of 3 to 8 exactly when the pieces of each pass, and each piece of one
+-- is taken together with each piece of the other.
 pub both-checked : (as′ ds : List (List ℕ)) → All Fits as′ → All Fits ds
     → (DrawsNone (whole as′) × DrawsNone (whole ds) × (jointb (nodes (whole as′)) (nodes (whole ds)) ≡ false))
     ↔ (PiecesPass as′ × PiecesPass ds × All (λ a. All (λ d. TakenTogether a d) ds) as′)

@@ -22,7 +22,7 @@ use Rattle.tickets.proofs.Listed.{listed-iff, related-document}
 use Rattle.pieces.specs.Checks.{Taken, TakenTogether, Across, StandsAfter, LowerDocuments, OtherDocuments}
 use Rattle.pieces.proofs.Cutting.{all-turned}
 
--- nodes of different documents are not at odds
+-- Nodes of different documents are not at odds.
 other-even : (x y : Node) → (x .document ≡ y .document → ⊥) → oddsb x y ≡ false
 unfolding oddsb
 other-even x y h = rw (ne-eqb (x .document) (y .document) h) refl
@@ -30,12 +30,12 @@ other-even x y h = rw (ne-eqb (x .document) (y .document) h) refl
 others-even : (v w : List ℕ) → OtherDocuments v w → Across (λ x y. oddsb x y ≡ false) v w
 others-even v w h = all-map (λ x k. all-map (λ y d. other-even x y d) (nodes w) k) (nodes v) h
 
--- a list that has no member is empty
+-- A list that has no member is empty.
 none-in : {A : Type 0} (xs : List A) → ((x : A) → In x xs → ⊥) → xs ≡ []
 none-in [] f = refl
 none-in (x ∷ xs) f = absurd (f x (List·Memᴰ·head refl))
 
--- two pieces that share no document have no pairs, and are taken together where each is taken
+-- Two pieces that share no document have no pairs, and are taken together where each is taken.
 module _ (v w : List ℕ) (apart : OtherDocuments v w) where
   pub nothing-listed : (ask : Asked) → listing ask (nodes v) (nodes w) ≡ []
   nothing-listed ask = none-in (listing ask (nodes v) (nodes w)) (λ p m.
@@ -49,7 +49,7 @@ module _ (v w : List ℕ) (apart : OtherDocuments v w) where
   pub others-taken : Taken v → Taken w → TakenTogether v w
   others-taken s t = two-taken-iff v w .1 (s, t, others-even v w apart)
 
--- two pieces of which one has the lower documents share none, and stand one after the other
+-- Two pieces of which one has the lower documents share none, and stand one after the other.
 module _ (v w : List ℕ) (lower : LowerDocuments v w) where
   pub lower-others : OtherDocuments v w
   lower-others = all-map (λ x k. all-map (λ y l e. omega (arith, l, e)) (nodes w) k) (nodes v) lower
@@ -60,7 +60,7 @@ module _ (v w : List ℕ) (lower : LowerDocuments v w) where
   pub lower-after : StandsAfter w v
   lower-after = all-map (λ x k. all-map (λ y l. after-document y x l) (nodes w) k) (nodes v) lower
 
--- two pieces share no document either where the second has the lower documents
+-- Two pieces share no document either where the second has the lower documents.
 pub higher-others : (v w : List ℕ) → LowerDocuments w v → OtherDocuments v w
 higher-others v w h =
     all-turned (λ y x. x .document ≡ y .document → ⊥) (nodes w) (nodes v)

@@ -27,7 +27,7 @@ use Rattle.pieces.proofs.Apart.{lower-taken, lower-others, higher-other
 use Rattle.pieces.proofs.Checking.{whole-checked}
 use Rattle.pieces.proofs.Cutting.{every-two-both}
 
--- the node n is e, or stands after it
+-- The node n is e, or stands after it.
 abbrev From : Node → Node → Type 0
 From e n = (n ≡ e) ⊎ (afterb n e ≡ true)
 
@@ -60,20 +60,20 @@ to-last w t =
           subst (λ k. getD (nodes w) (count w - 1) none ≡ getD (nodes w) k none) (sym e) refl)
     ])
 
--- v and w are two taken pieces that have a node each
+-- v and w are two taken pieces that have a node each.
 module _ (v w : List ℕ) (s : Taken v) (t : Taken w) (v-has : HasNode v) (w-has : HasNode w) where
-  -- a node from the first of w on stands after a node up to the last of v
+  -- A node from the first of w on stands after a node up to the last of v.
   between : (e n : Node) → From e (lastNode v) → From (firstNode w) n → StartsAfter w v → afterb n e ≡ true
   between e n p q a =
       let after-end : afterb n (lastNode v) ≡ true =
       ⊎-elim (λ r. subst (λ x. afterb x (lastNode v) ≡ true) (sym r) a) (λ r. after-trans n (firstNode w) (lastNode v) r a) q in
       ⊎-elim (λ r. subst (λ x. afterb n x ≡ true) r after-end) (λ r. after-trans n (lastNode v) e after-end r) p
 
-  -- where the first node of w comes after the last node of v, all nodes of w come after those of v
+  -- Where the first node of w comes after the last node of v, all nodes of w come after those of v.
   pub stands : StartsAfter w v → StandsAfter w v
   stands a = all-map (λ e p. all-map (λ n q. between e n p q a) (nodes w) (from-first w t)) (nodes v) (to-last v s)
 
-  -- and where w starts in a higher document than v ends in, all its documents are higher
+  -- And where w starts in a higher document than v ends in, all its documents are higher.
   pub documents-part : lastNode v .document < firstNode w .document → LowerDocuments v w
   documents-part l =
       all-map (λ e p. all-map (λ n q.
@@ -81,14 +81,14 @@ module _ (v w : List ℕ) (s : Taken v) (t : Taken w) (v-has : HasNode v) (w-has
       let y = from-document (firstNode w) n q in
       omega arith) (nodes w) (from-first w t)) (nodes v) (to-last v s)
 
--- two pieces share no document where one ends in a lower document than the other starts in
+-- Two pieces share no document where one ends in a lower document than the other starts in.
 pub ranges-part : (v w : List ℕ) → Taken v → Taken w → HasNode v → HasNode w
     → (lastNode v .document < firstNode w .document) ⊎ (lastNode w .document < firstNode v .document) → OtherDocuments v w
 ranges-part v w s t p q h =
     ⊎-elim (λ l. lower-others v w (documents-part v w s t p q l)) (λ l. higher-others v w (documents-part w v t s q p l)) h
 
--- where each has a node and all nodes of w come after those of v, the first of w comes after the
--- last of v
+-- Where each has a node and all nodes of w come after those of v, the first of w comes after the
+-- last of v.
 starts : (v w : List ℕ) → HasNode v → HasNode w → StandsAfter w v → StartsAfter w v
 unfolding nodeAt
 starts v w p q a =
@@ -96,7 +96,7 @@ starts v w p q a =
     all-at (λ n. afterb n (lastNode v) ≡ true) (nodes w) 0 none (let m = length-nodes w in omega arith)
     (all-at (λ e. All (λ n. afterb n e ≡ true) (nodes w)) (nodes v) (count v - 1) none (let m = length-nodes v in omega arith) a)
 
--- what stands after a piece that has a node stands after all that this piece stands after
+-- What stands after a piece that has a node stands after all that this piece stands after.
 stands-trans : (u v w : List ℕ) → HasNode v → StandsAfter v u → StandsAfter w v → StandsAfter w u
 unfolding nodeAt
 stands-trans u v w p a b =
@@ -107,8 +107,8 @@ stands-trans u v w p a b =
     let before = all-at (λ m. afterb m e ≡ true) (nodes v) 0 none l k in
     all-map (λ n c. after-trans n (getD (nodes v) 0 none) e c before) (nodes w) later) (nodes u) a
 
--- each piece stands after all earlier ones exactly when the first node of each comes after the last
--- node of the one before it
+-- Each piece stands after all earlier ones exactly when the first node of each comes after the last
+-- node of the one before it.
 pub borders-enough : (ws : List (List ℕ)) → All Taken ws → All HasNode ws
     → EveryTwo (λ v w. StandsAfter w v) ws ↔ EachNext (λ v w. StartsAfter w v) ws
 borders-enough [] t c = (λ h. tt, λ h. tt)
@@ -121,15 +121,15 @@ borders-enough (v ∷ w ∷ ws) t c =
           ((a, all-map (λ x b. stands-trans v w x (c .1 .0) a b) ws (r .0)), r),
     )
 
--- any two pieces are taken together, as their borders or the check of the two show
+-- Any two pieces are taken together, as their borders or the check of the two show.
 together : (ws : List (List ℕ)) → All Taken ws → All HasNode ws
     → EveryTwo (λ v w. (lastNode v .document < firstNode w .document) ⊎ TakenTogether v w) ws → EveryTwo TakenTogether ws
 together ws t c h =
     pairs-passed (λ w. Taken w × HasNode w) TakenTogether ws (all-both (λ w a b. (a, b)) ws t c)
     (every-two-map (λ v w k a b. ⊎-elim (λ l. lower-taken v w (documents-part v w (a .0) (b .0) (a .1) (b .1) l) (a .0) (b .0)) (λ x. x) k) ws h)
 
--- so the whole draws none of the answers 3 to 7 exactly when each piece, the borders, and any two
--- pieces whose documents may meet pass their checks
+-- So the whole draws none of the answers 3 to 7 exactly when each piece, the borders, and any two
+-- pieces whose documents may meet pass their checks.
 pub borders-checked : (ws : List (List ℕ)) → All Fits ws → All HasNode ws → DrawsNone (whole ws) ↔ (All Taken ws
     × EachNext (λ v w. StartsAfter w v) ws
     × EveryTwo (λ v w. (lastNode v .document < firstNode w .document) ⊎ TakenTogether v w) ws)

@@ -17,11 +17,11 @@ use Rattle.pieces.specs.Checks.{DrawsNone, Fits, Taken, TakenTogether, A
 use Rattle.pieces.specs.Pieces.{whole, WholeNodes}
 use Rattle.pieces.proofs.Cutting.{pieceNodes, nodes-whole, all-pieces, pairs-pieces}
 
--- pieces that a call takes are whole nodes
+-- Pieces that a call takes are whole nodes.
 pub fit-whole : (ws : List (List ℕ)) → All Fits ws → All WholeNodes ws
 fit-whole ws h = all-map (λ w f. whole-words w .0 f .0) ws h
 
--- two lists whose nodes are fine across are taken together, and stand one after the other
+-- Two lists whose nodes are fine across are taken together, and stand one after the other.
 module _ (v w : List ℕ) where
   across-two : Taken v → Taken w → Across Fine v w → TakenTogether v w × StandsAfter w v
   across-two s t h = (
@@ -33,7 +33,7 @@ module _ (v w : List ℕ) where
   two-across h =
       all-both (λ e o a. all-both (λ n p b. even-fine e n b p) (nodes w) o a) (nodes v) (two-taken-iff v w .0 (h .0) .2) (h .1)
 
--- the whole draws none of the answers 3 to 7 exactly when the pieces pass
+-- The whole draws none of the answers 3 to 7 exactly when the pieces pass.
 pub whole-checked : (ws : List (List ℕ)) → All Fits ws → DrawsNone (whole ws) ↔ PiecesPass ws
 whole-checked ws h = rw (nodes-whole ws (fit-whole ws h)) (
   λ t.

@@ -17,19 +17,19 @@ use Rattle.paging.proofs.Demand.{Ascends}
 use Rattle.paging.proofs.KeyLaws.{above-self, above-trans}
 
 module _ {A : Type 0} (key : A → List ℕ) where
-  -- the key of y stands above that of x
+  -- The key of y stands above that of x.
   abbrev Above : A → A → Type 0
   Above x y = aboveb (key y) (key x) ≡ true
 
   never-above : (x y : A) → y ≡ x → Above x y → ⊥
   never-above x y e a = never a (subst (λ z. aboveb (key z) (key x) ≡ false) (sym e) (above-self (key x)))
 
-  -- a member above the head stands after it
+  -- A member above the head stands after it.
   past-head : (x : A) (xs : List A) (y : A) → In y (x ∷ xs) → Above x y → In y xs
   past-head x xs y m a = elim (List·Memᴰ·cases-cons m) [ inl e ↦ absurd (never-above x y e a) | inr k ↦ k ]
 
   module _ (x : A) (xs : List A) (h : Ascends key (x ∷ xs)) (y : A) (m : In y (x ∷ xs)) where
-    -- what stands above a member stands above the head
+    -- What stands above a member stands above the head.
     above-head : (z : A) → Above y z → Above x z
     above-head z a =
         elim (List·Memᴰ·cases-cons m) [
@@ -37,11 +37,11 @@ module _ {A : Type 0} (key : A → List ℕ) where
           | inr k ↦ above-trans (key z) (key y) (key x) a (all-in (Above x) xs (h .0) k)
         ]
 
-    -- so all that an ascending list of members has after its head stands after the other's head
+    -- So all that an ascending list of members has after its head stands after the other's head.
     fewer : (ys : List A) → All (Above y) ys → All (λ z. In z (x ∷ xs)) ys → All (λ z. In z xs) ys
     fewer ys b s = all-both (λ z a l. past-head x xs z l (above-head z a)) ys b s
 
-  -- an ascending list that holds no others is no longer
+  -- An ascending list that holds no others is no longer.
   pub no-longer : (xs ys : List A) → Ascends key xs → Ascends key ys → All (λ y. In y xs) ys → length ys ≤ length xs
   no-longer xs [] h k s = omega arith
   no-longer [] (y ∷ ys) h k s = absurd (List·Memᴰ·not-nil (s .0))
@@ -49,7 +49,7 @@ module _ {A : Type 0} (key : A → List ℕ) where
       let r = no-longer xs ys (h .1) (k .1) (fewer x xs h y (s .0) ys (k .0) (s .1)) in
       omega arith
 
-  -- an item among the first n is among the first n of a list that holds no others
+  -- An item among the first n is among the first n of a list that holds no others.
   pub still-first : (n : ℕ) (xs ys : List A) → Ascends key xs → Ascends key ys → All (λ y. In y xs) ys → (p : A) → In p (take n xs) → In p ys
       → In p (take n ys)
   still-first zero xs ys h k s p m i = absurd (List·Memᴰ·not-nil m)
@@ -62,7 +62,7 @@ module _ {A : Type 0} (key : A → List ℕ) where
             List·Memᴰ·tail (still-first n xs ys (h .1) (k .1) (fewer x xs h y (s .0) ys (k .0) (s .1)) p (past-head x (take n xs) p m a) j)
       ]
 
-  -- a list that holds the first n and no others has the same first n
+  -- A list that holds the first n and no others has the same first n.
   pub same-first : (n : ℕ) (xs ys : List A) → Ascends key xs → Ascends key ys → All (λ y. In y xs) ys → All (λ x. In x ys) (take n xs)
       → take n ys ≡ take n xs
   same-first zero xs ys h k s t = refl

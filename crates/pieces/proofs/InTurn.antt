@@ -16,7 +16,7 @@ use Rattle.tickets.specs.Ticket.{Asked, asked}
 use Rattle.pieces.specs.Pieces.{whole, WholeNodes, withEach, eachWithEach, pairsOf, piecePairs}
 use Rattle.pieces.proofs.Cutting.{pieceNodes, nodes-whole}
 
--- the pairs of two lists of leaders in a row are those of the one and then those of the other
+-- The pairs of two lists of leaders in a row are those of the one and then those of the other.
 every-append : (order : Order) (xs zs ys : List Node) → everyPair order (xs ++ zs) ys ≡ everyPair order xs ys ++ everyPair order zs ys
 unfolding everyPair
 every-append order [] zs ys = refl
@@ -67,7 +67,7 @@ module _ (relation : Relation) where
       ∙ ap (λ ps. listing by-ancestors (nodes a) (nodes d) ++ ps) (ancestors-turn as′ d)
       ∙ ap (λ ps. ps ++ piecePairs by-ancestors as′ (d ∷ [])) (sym (append-nil (listing by-ancestors (nodes a) (nodes d))))
 
-  -- where the descendants are cut, their listing in descendant order is that of the pieces in turn
+  -- Where the descendants are cut, their listing in descendant order is that of the pieces in turn.
   pub in-descendant-order : (a : List ℕ) (ds : List (List ℕ)) → All WholeNodes ds
       → listing by-descendants (nodes a) (nodes (whole ds)) ≡ piecePairs by-descendants (a ∷ []) ds
   unfolding eachWithEach
@@ -76,7 +76,7 @@ module _ (relation : Relation) where
       ∙ descendants-turn a ds
       ∙ sym (append-nil (withEach (pairsOf by-descendants) a ds))
 
-  -- where the ancestors are cut, their listing in ancestor order is that of the pieces in turn
+  -- Where the ancestors are cut, their listing in ancestor order is that of the pieces in turn.
   pub in-ancestor-order : (as′ : List (List ℕ)) (d : List ℕ) → All WholeNodes as′
       → listing by-ancestors (nodes (whole as′)) (nodes d) ≡ piecePairs by-ancestors as′ (d ∷ [])
   in-ancestor-order as′ d h = ap (λ xs. listing by-ancestors xs (nodes d)) (nodes-whole as′ h) ∙ ancestors-turn as′ d

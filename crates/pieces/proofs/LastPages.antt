@@ -30,7 +30,7 @@ use Rattle.pieces.proofs.Made.{each-again}
 use Rattle.pieces.proofs.PageParts.{wholePairs, pairs-met, pairs-ascend, parts, left, left-iff, left-ascends, part-left}
 use Rattle.pieces.proofs.Pages.{pages-left}
 
--- an accepted call says done exactly where the page of its two lists is the last
+-- An accepted call says done exactly where the page of its two lists is the last.
 pub call-last : (t : Ticket) (c : Call) → AcceptedCall c
     → answer t c .done ≡ isLast (askedBy t) (spotOf (t .place)) (room (c .out)) (c .ancestors) (c .descendants)
 unfolding pageOf saysDone
@@ -49,7 +49,7 @@ module _ (ask : Asked) (place : Spot) (n : ℕ) where
         λ h. eq-eqb (length (take n rest)) (length rest) (omega (arith, length-take n rest)),
       )
 
-  -- the last page holds all that is left
+  -- The last page holds all that is left.
   last-holds : (ps : List Pair) → doneb key place n ps ≡ true → handed key place n ps ≡ left ask place ps
   unfolding handed
   last-holds ps h = take-all n (left ask place ps) (last-iff ps .0 h)
@@ -58,11 +58,11 @@ module _ (ask : Asked) (place : Spot) (n : ℕ) where
     abbrev listed : List Pair
     listed = wholePairs ask as′ ds
 
-    -- what is left of the whole's listing ascends
+    -- What is left of the whole's listing ascends.
     rest-ascends : Ascends key (left ask place listed)
     rest-ascends = left-ascends ask place listed (pairs-ascend ask as′ ds h k t u)
 
-    -- where the whole's page is the last, so is that of any two pieces
+    -- Where the whole's page is the last, so is that of any two pieces.
     each-last : doneb key place n listed ≡ true → All (λ a. All (λ d. isLast ask place n a d ≡ true) ds) as′
     each-last l =
         let few = last-iff listed .0 l in
@@ -72,7 +72,7 @@ module _ (ask : Asked) (place : Spot) (n : ℕ) where
         let fewer = no-longer key (left ask place listed) (left ask place qs) rest-ascends own-ascends (part-left ask place listed a d part) in
         last-iff qs .1 (omega arith)) ds x) as′ (parts ask as′ ds h k t u)
 
-    -- where the page of any two pieces is their last, the pages hold all that is left of the whole
+    -- Where the page of any two pieces is their last, the pages hold all that is left of the whole.
     all-held : All (λ a. All (λ d. isLast ask place n a d ≡ true) ds) as′ → (p : Pair) → In p (left ask place listed)
         → In p (piecePages ask place n as′ ds)
     all-held l p m =
@@ -84,8 +84,8 @@ module _ (ask : Asked) (place : Spot) (n : ℕ) where
         (pairs-met ask as′ ds p (lies .0))
 
     module _ (merged : List Pair) (m : Ascends key merged) (same : (p : Pair) → In p merged ↔ In p (piecePages ask place n as′ ds)) where
-      -- the merged pages are no more than what is left of the whole's listing, and where they hold
-      -- all of it, no less
+      -- The merged pages are no more than what is left of the whole's listing, and where they hold
+      -- all of it, no less.
       no-more : length merged ≤ length (left ask place listed)
       no-more =
           let pages = piecePages ask place n as′ ds in
@@ -97,8 +97,8 @@ module _ (ask : Asked) (place : Spot) (n : ℕ) where
       no-less held = no-longer key merged (left ask place listed) m rest-ascends
           (each (λ p. In p merged) (left ask place listed) (λ p i. same p .1 (held p i)))
 
-      -- the whole's page is the last exactly when the page of any two pieces is their last, and
-      -- all of these together have no more than n pairs
+      -- The whole's page is the last exactly when the page of any two pieces is their last, and
+      -- all of these together have no more than n pairs.
       pub pages-last : (isLast ask place n (whole as′) (whole ds) ≡ true)
           ↔ (All (λ a. All (λ d. isLast ask place n a d ≡ true) ds) as′ × (length merged ≤ n))
       pages-last = rw (nodes-whole as′ h, nodes-whole ds k) (

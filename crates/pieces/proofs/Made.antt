@@ -9,7 +9,7 @@ use Rattle.laws.proofs.Choices.{all-append}
 use Rattle.tickets.specs.Listing.{Pair}
 use Rattle.pieces.specs.Pieces.{withEach, eachWithEach}
 
--- what holds of all that any two pieces make holds of all that they make together
+-- What holds of all that any two pieces make holds of all that they make together.
 module _ (P : Pair → Type 0) (make : List ℕ → List ℕ → List Pair) where
   with-all : (a : List ℕ) (ds : List (List ℕ)) → All (λ d. All P (make a d)) ds → All P (withEach make a ds)
   unfolding withEach
@@ -21,7 +21,7 @@ module _ (P : Pair → Type 0) (make : List ℕ → List ℕ → List Pair) wher
   each-all [] ds h = tt
   each-all (a ∷ as′) ds h = all-append P (withEach make a ds) (eachWithEach make as′ ds) (with-all a ds (h .0)) (each-all as′ ds (h .1))
 
--- if any two pieces that make a pair by f make it by g too, then so do all pieces together
+-- If any two pieces that make a pair by f make it by g too, then so do all pieces together.
 module _ (p : Pair) (f g : List ℕ → List ℕ → List Pair) where
   with-again : (a : List ℕ) (ds : List (List ℕ)) → All (λ d. In p (f a d) → In p (g a d)) ds → In p (withEach f a ds) → In p (withEach g a ds)
   unfolding withEach

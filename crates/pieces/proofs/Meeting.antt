@@ -18,7 +18,7 @@ use Rattle.pieces.specs.Pieces.{whole, WholeNodes, withEach, eachWithEac
 use Rattle.pieces.proofs.Cutting.{pieceNodes, nodes-whole}
 
 module _ (ask : Asked) (p : Pair) where
-  -- the pair's nodes stand in the two lists, and it is asked for
+  -- The pair's nodes stand in the two lists, and it is asked for.
   abbrev Meets : List Node → List Node → Type 0
   Meets xs ys = In (p .ancestor) xs × In (p .descendant) ys × (askedb ask p ≡ true)
 
@@ -54,7 +54,7 @@ module _ (ask : Asked) (p : Pair) where
         ],
       )
 
--- a pair is in the listing of the wholes exactly when it is in that of two pieces
+-- A pair is in the listing of the wholes exactly when it is in that of two pieces.
 pub whole-pairs : (ask : Asked) (as′ ds : List (List ℕ)) → All WholeNodes as′ → All WholeNodes ds → (p : Pair)
     → In p (listing ask (nodes (whole as′)) (nodes (whole ds))) ↔ In p (piecePairs ask as′ ds)
 whole-pairs ask as′ ds a d p =

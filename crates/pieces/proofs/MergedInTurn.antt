@@ -22,11 +22,11 @@ use Rattle.pieces.proofs.Cutting.{pieceNodes, nodes-whole, all-pieces, 
 use Rattle.pieces.proofs.Pages.{pages-merged}
 use Rattle.pieces.proofs.PagesInTurn.{descendants-in-turn, ancestors-in-turn}
 
--- a piece has whole nodes, which draw none of the answers 3 to 7
+-- A piece has whole nodes, which draw none of the answers 3 to 7.
 abbrev Good : List ℕ → Type 0
 Good w = WholeNodes w × DrawsNone w
 
--- where the whole draws none of these answers, no piece does
+-- Where the whole draws none of these answers, no piece does.
 none-drawn : (ws : List (List ℕ)) → All WholeNodes ws → DrawsNone (whole ws) → All Good ws
 none-drawn ws h t =
     let r = taken-iff (pieceNodes ws) .0 (rw (nodes-whole ws h) at t) in
@@ -34,12 +34,12 @@ none-drawn ws h t =
     all-both (λ w s f. taken-iff (nodes w) .1 (s, f)) ws (all-pieces Sound ws .0 (r .0)) (pairs-pieces Fine ws .0 (r .1) .0) in
     all-both (λ w x y. (x, y)) ws h drawn
 
--- a single piece is its own whole
+-- A single piece is its own whole.
 one : (w : List ℕ) → whole (w ∷ []) ≡ w
 unfolding whole
 one w = append-nil w
 
--- where two ways to make a page agree on every piece, they make the same in turn
+-- Where two ways to make a page agree on every piece, they make the same in turn.
 same-in-turn : (f g : ℕ → List ℕ → List Pair) (n : ℕ) (ws : List (List ℕ)) → All (λ w. (k : ℕ) → f k w ≡ g k w) ws → inTurn f n ws ≡ inTurn g n ws
 unfolding inTurn
 same-in-turn f g n [] h = refl
@@ -49,7 +49,7 @@ same-in-turn f g n (w ∷ ws) h =
 
 module _ (relation : Relation) (place : Spot) (n : ℕ) (as′ ds : List (List ℕ)) (h : All WholeNodes as′) (k : All WholeNodes ds)
     (t : DrawsNone (whole as′)) (u : DrawsNone (whole ds)) (merged : ℕ → List ℕ → List Pair) where
-  -- the descendants lead, each piece with all pieces of the ancestors
+  -- The descendants lead, each piece with all pieces of the ancestors.
   pub descendants-merged : let ask = asked relation Descendant in
       All (λ d. (j : ℕ) → MergedFrom ask (merged j d) (piecePages ask place j as′ (d ∷ []))) ds
       → inTurn (λ j d. take j (merged j d)) n ds ≡ pageFor ask place n (whole as′) (whole ds)
@@ -60,7 +60,7 @@ module _ (relation : Relation) (place : Spot) (n : ℕ) (as′ ds : List (List �
       ∙ ap (pageFor ask place j (whole as′)) (one d)) ds (none-drawn ds k u) m)
       ∙ sym (descendants-in-turn relation place n (whole as′) ds k)
 
-  -- the ancestors lead, each piece with all pieces of the descendants
+  -- The ancestors lead, each piece with all pieces of the descendants.
   pub ancestors-merged : let ask = asked relation Ancestor in
       All (λ a. (j : ℕ) → MergedFrom ask (merged j a) (piecePages ask place j (a ∷ []) ds)) as′
       → inTurn (λ j a. take j (merged j a)) n as′ ≡ pageFor ask place n (whole as′) (whole ds)

@@ -27,25 +27,26 @@ use Rattle.pieces.specs.Pieces.{whole, WholeNodes, withEach, eachWithEac
 use Rattle.pieces.proofs.Cutting.{each, pieceNodes, nodes-whole, pairs-pieces, from-later}
 use Rattle.pieces.proofs.Meeting.{with-iff, pieces-iff}
 
--- the later of two nodes stands after the earlier one
+-- The later of two nodes stands after the earlier one.
 abbrev pub After : Node → Node → Type 0
 After e n = afterb n e ≡ true
 
--- two pairs differ in their document or in a start
+-- Two pairs differ in their document or in a start.
 abbrev Differ : Pair → Pair → Type 0
 Differ p q = SameStarts p q → ⊥
 
--- the nodes of a whole that draws no answer ascend,
+-- The nodes of a whole that draws no answer ascend,
 pub whole-ascends : (ws : List (List ℕ)) → All WholeNodes ws → DrawsNone (whole ws) → EveryTwo After (pieceNodes ws)
 whole-ascends ws h t = every-two-map (λ e n f. f .after) (pieceNodes ws) (taken-iff (pieceNodes ws) .0 (rw (nodes-whole ws h) at t) .1)
 
--- within each piece and across every two
+-- Within each piece and across every two.
 pub pieces-ascend : (ws : List (List ℕ)) → All WholeNodes ws → DrawsNone (whole ws)
     → All (λ w. EveryTwo After (nodes w)) ws × EveryTwo (Across After) ws
 pieces-ascend ws h t = pairs-pieces After ws .0 (whole-ascends ws h t)
 
 module _ (ask : Asked) where
-  -- two related pairs differ where their ancestors, or their descendants, stand one after the other
+  -- Two related pairs differ where their ancestors, or their descendants, stand one after the
+  -- other.
   ancestors-differ : (p q : Pair) → After (p .ancestor) (q .ancestor) → Differ p q
   ancestors-differ p q h e = let s = after-starts (q .ancestor) (p .ancestor) h (e .0) in omega (arith, s, e .1)
 
@@ -55,7 +56,7 @@ module _ (ask : Asked) where
       let l = after-starts (q .descendant) (p .descendant) h d in
       omega (arith, l, e .2)
 
-  -- no two pairs of one listing have the same starts
+  -- No two pairs of one listing have the same starts.
   listing-once : (xs ys : List Node) → EveryTwo After xs → EveryTwo After ys → EveryTwo Differ (listing ask xs ys)
   listing-once xs ys h k =
       let ps = listing ask xs ys in
@@ -96,7 +97,7 @@ module _ (ask : Asked) where
       (all-in (After (p .ancestor)) (pieceNodes as′)
       (all-in (λ e. All (After e) (pieceNodes as′)) (nodes a) later (with-iff ask p a ds .0 i .0)) (pieces-iff ask q as′ ds .0 j .0)))))
 
-  -- no pair of the pieces comes twice, nor do two with the same document and starts
+  -- No pair of the pieces comes twice, nor do two with the same document and starts.
   pub none-twice : (as′ ds : List (List ℕ)) → All WholeNodes as′ → All WholeNodes ds → DrawsNone (whole as′) → DrawsNone (whole ds)
       → EveryTwo (λ p q. SameStarts p q → ⊥) (piecePairs ask as′ ds)
   none-twice as′ ds h k t u =

@@ -22,22 +22,22 @@ use Rattle.pieces.proofs.Cutting.{each, pieceNodes, all-pieces}
 use Rattle.pieces.proofs.Meeting.{pieces-iff}
 use Rattle.pieces.proofs.Once.{After, whole-ascends, pieces-ascend}
 
--- a piece ascends, and its nodes are nodes of the whole
+-- A piece ascends, and its nodes are nodes of the whole.
 own : (ws : List (List ℕ)) → All WholeNodes ws → DrawsNone (whole ws)
     → All (λ w. EveryTwo After (nodes w) × All (λ x. In x (pieceNodes ws)) (nodes w)) ws
 own ws h d = all-both (λ w a i. (a, i)) ws (pieces-ascend ws h d .0) (all-pieces (λ x. In x (pieceNodes ws)) ws .0 (each-in (pieceNodes ws)))
 
 module _ (ask : Asked) where
-  -- the listing of two pieces ascends, and holds only pairs of a given listing
+  -- The listing of two pieces ascends, and holds only pairs of a given listing.
   abbrev pub Part : List Pair → List ℕ → List ℕ → Type 0
   Part ps a d = Ascends (sortKey (ask .order)) (pairsOf ask a d) × All (λ p. In p ps) (pairsOf ask a d)
 
   module _ (as′ ds : List (List ℕ)) where
-    -- the listing of the wholes
+    -- The listing of the wholes.
     abbrev pub wholePairs : List Pair
     wholePairs = listing ask (pieceNodes as′) (pieceNodes ds)
 
-    -- each of its pairs is a pair of two pieces
+    -- Each of its pairs is a pair of two pieces.
     pub pairs-met : (p : Pair) → In p wholePairs → In p (piecePairs ask as′ ds)
     pairs-met p m = pieces-iff ask p as′ ds .1 (listed-iff ask (pieceNodes as′) (pieceNodes ds) p .0 m)
 
@@ -65,7 +65,7 @@ module _ (ask : Asked) where
     abbrev past : Pair → Bool
     past p = pastb place (sortKey (ask .order) p)
 
-    -- what is left of a listing past the place
+    -- What is left of a listing past the place.
     abbrev pub left : List Pair → List Pair
     left ps = remains (sortKey (ask .order)) place ps
 
@@ -83,12 +83,12 @@ module _ (ask : Asked) where
     unfolding remains
     left-ascends ps h = keep-every-two (λ p q. aboveb (sortKey (ask .order) q) (sortKey (ask .order) p) ≡ true) past ps h
 
-    -- a page holds nothing but what is left
+    -- A page holds nothing but what is left.
     pub page-left : (n : ℕ) (ps : List Pair) → All (λ p. In p (left ps)) (handed (sortKey (ask .order)) place n ps)
     unfolding handed
     page-left n ps = take-all-of (λ p. In p (left ps)) n (left ps) (each-in (left ps))
 
-    -- what is left of two pieces' listing is left of the whole's
+    -- What is left of two pieces' listing is left of the whole's.
     pub part-left : (ps : List Pair) (a d : List ℕ) → Part ps a d → All (λ p. In p (left ps)) (left (pairsOf ask a d))
     part-left ps a d h =
         let qs = pairsOf ask a d in

@@ -26,7 +26,7 @@ use Rattle.pieces.proofs.Firsts.{still-first, same-first}
 use Rattle.pieces.proofs.Made.{each-all, each-again}
 use Rattle.pieces.proofs.PageParts.{Part, wholePairs, pairs-met, pairs-ascend, parts, left, left-iff, left-ascends, page-left, part-left}
 
--- what an accepted call shows is the page of its two lists
+-- What an accepted call shows is the page of its two lists.
 pub call-page : (t : Ticket) (c : Call) → AcceptedCall c
     → shown t c ≡ pageFor (askedBy t) (spotOf (t .place)) (room (c .out)) (c .ancestors) (c .descendants)
 unfolding handedOut
@@ -39,7 +39,7 @@ module _ (ask : Asked) (place : Spot) (n : ℕ) where
   on-page : (ps : List Pair) (p : Pair) → In p (handed key place n ps) → In p (left ask place ps)
   on-page ps p m = all-in (λ q. In q (left ask place ps)) (handed key place n ps) (page-left ask place n ps) m
 
-  -- each pair of two pieces that is on the whole's page is on their page too
+  -- Each pair of two pieces that is on the whole's page is on their page too.
   own-page : (ps : List Pair) (a d : List ℕ) → Ascends key ps → Part ask ps a d → (p : Pair) → In p (handed key place n ps) → In p (pairsOf ask a d)
       → In p (pageFor ask place n a d)
   unfolding handed
@@ -65,7 +65,7 @@ module _ (ask : Asked) (place : Spot) (n : ℕ) where
         (all-map (λ a x. all-map (λ d part. own-page listed a d ascending part p m) ds x) as′ (parts ask as′ ds h k t u))
         (pairs-met ask as′ ds p (left-iff ask place listed p .0 (on-page listed p m) .0)))
 
-    -- the pieces' pages hold only pairs that are left of the whole's listing
+    -- The pieces' pages hold only pairs that are left of the whole's listing.
     pub pages-left : All (λ p. In p (left ask place listed)) pages
     pages-left =
         each-all (λ p. In p (left ask place listed)) (pageFor ask place n) as′ ds
@@ -73,11 +73,11 @@ module _ (ask : Asked) (place : Spot) (n : ℕ) where
         (λ p i. all-in (λ q. In q (left ask place listed)) (left ask place (pairsOf ask a d)) (part-left ask place listed a d part) i)
         (pageFor ask place n a d) (page-left ask place n (pairsOf ask a d))) ds x) as′ (parts ask as′ ds h k t u))
 
-    -- each pair of the whole's page is on a page of the pieces
+    -- Each pair of the whole's page is on a page of the pieces.
     pub page-found : All (λ p. In p pages) (pageFor ask place n (whole as′) (whole ds))
     page-found = rw (nodes-whole as′ h, nodes-whole ds k) found
 
-    -- and the pieces' pages, merged by key, begin with the whole's page
+    -- And the pieces' pages, merged by key, begin with the whole's page.
     pub pages-merged : (merged : List Pair) → Ascends key merged → ((p : Pair) → In p merged ↔ In p pages)
         → take n merged ≡ pageFor ask place n (whole as′) (whole ds)
     unfolding handed

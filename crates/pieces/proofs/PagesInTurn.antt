@@ -19,8 +19,8 @@ use Rattle.tickets.specs.Ticket.{Asked, asked}
 use Rattle.pieces.specs.Pieces.{whole, WholeNodes, withEach, eachWithEach, pairsOf, piecePairs, pageFor, inTurn}
 use Rattle.pieces.proofs.InTurn.{in-descendant-order, in-ancestor-order}
 
--- the first n of two lists in a row are the first n of the one, then as many of the other as these
--- leave room for
+-- The first n of two lists in a row are the first n of the one, then as many of the other as these
+-- leave room for.
 take-append : {A : Type 0} (n : ℕ) (xs ys : List A) → take n (xs ++ ys) ≡ take n xs ++ take (n - length (take n xs)) ys
 take-append zero xs ys = refl
 take-append (suc n) [] ys =
@@ -31,7 +31,7 @@ take-append (suc n) (x ∷ xs) ys =
     let left : n - length rest ≡ suc n - suc (length rest) = omega arith in
     ap (λ zs. x ∷ zs) (take-append n xs ys ∙ ap (λ k. rest ++ take k ys) left)
 
--- the same for a page of two listings in a row
+-- The same for a page of two listings in a row.
 module _ {A : Type 0} (key : A → List ℕ) (place : Spot) where
   handed-append : (n : ℕ) (xs ys : List A)
       → handed key place n (xs ++ ys) ≡ handed key place n xs ++ handed key place (n - length (handed key place n xs)) ys
@@ -66,7 +66,7 @@ module _ (ask : Asked) (place : Spot) where
       ∙ ap (λ ps. page ++ ps) (ancestors-paged (n - length page) as′ d)
 
 module _ (relation : Relation) (place : Spot) (n : ℕ) where
-  -- where the descendants are cut, their page in descendant order is that of the pieces in turn
+  -- Where the descendants are cut, their page in descendant order is that of the pieces in turn.
   pub descendants-in-turn : (a : List ℕ) (ds : List (List ℕ)) → All WholeNodes ds
       → pageFor (asked relation Descendant) place n a (whole ds) ≡ inTurn (λ k d. pageFor (asked relation Descendant) place k a d) n ds
   unfolding eachWithEach
@@ -76,7 +76,7 @@ module _ (relation : Relation) (place : Spot) (n : ℕ) where
       ap (handed (sortKey Descendant) place n) (in-descendant-order relation a ds h ∙ append-nil listed)
       ∙ descendants-paged ask place n a ds
 
-  -- where the ancestors are cut, their page in ancestor order is that of the pieces in turn
+  -- Where the ancestors are cut, their page in ancestor order is that of the pieces in turn.
   pub ancestors-in-turn : (as′ : List (List ℕ)) (d : List ℕ) → All WholeNodes as′
       → pageFor (asked relation Ancestor) place n (whole as′) d ≡ inTurn (λ k a. pageFor (asked relation Ancestor) place k a d) n as′
   ancestors-in-turn as′ d h =

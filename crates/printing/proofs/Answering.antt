@@ -23,7 +23,7 @@ use Rattle.joins.proofs.Joined.{few-words, lists-copied, words-copied}
 use Rattle.printing.specs.Print.{MOST-BYTES, printedAnswer}
 
 module _ (book : List ℕ) where
-  -- the answers of the program, in their order
+  -- The answers of the program, in their order.
   pub too-long : MOST-BYTES < length book → LONG ≡ printedAnswer book
   unfolding printedAnswer
   too-long h = rw (lt-ltb MOST-BYTES (length book) h) refl
@@ -62,7 +62,7 @@ module _ (book : List ℕ) where
           let l = its-lists in
           rw (le-ltb MOST-BYTES (length book) short, accepts (bookVerdict book) book-good, lt-ltb 1 (listsIn book) (omega arith), accepts taken refl) q
 
--- what is copied of the lists under the tags of the first entry and the second
+-- What is copied of the lists under the tags of the first entry and the second.
 module _ (book : List ℕ) (lists : ℕ) (ok : (bookVerdict book .answer ≡ TAKEN) × (lists ≡ listsIn book) × (1 < lists))
     (a d : Entry) (p : a ≡ entryAt book 0) (q : d ≡ entryAt book 1) (first second : List ℕ)
     (room : NODE-WORDS * MOST-NODES ≤ length first) (more : NODE-WORDS * MOST-NODES ≤ length second) (l : Lengths)

@@ -27,15 +27,15 @@ use Rattle.pairs.proofs.Following.{fills-room}
 use Rattle.pairs.proofs.Unaltered.{whole-few, left-after, none-left}
 
 module _ (ancestors descendants : List ℕ) where
-  -- the pairs that are to be printed
+  -- The pairs that are to be printed.
   abbrev pub whole : List Pair
   whole = listing (asked Inside Descendant) (nodes ancestors) (nodes descendants)
 
-  -- how many pairs remain for a ticket
+  -- How many pairs remain for a ticket.
   abbrev pub left : Ticket → ℕ
   left t = length (remaining t ancestors descendants)
 
-  -- a ticket of this listing, where `count` pairs were counted before
+  -- A ticket of this listing, where `count` pairs were counted before.
   pub record Counted (t : Ticket) (count : ℕ) : Type 0 where
     pub relation : t .relation ≡ Inside
     pub order : t .order ≡ Descendant
@@ -48,13 +48,13 @@ module _ (ancestors descendants : List ℕ) where
       ap length (keep-all (λ p. pastb fresh (sortKey Descendant p)) whole (all-of (λ p. refl) whole)) in
       rw e (record { relation = refl; order = refl; together = omega (arith, none) })
 
-  -- a page of accepted lists
+  -- A page of accepted lists.
   module _ (t : Ticket) (count : ℕ) (h : Counted t count) (out : List ℕ) (r : Page) (e : r ≡ pageOf ancestors descendants t out)
       (a : checkTwo ancestors descendants .answer ≡ TAKEN) where
     abbrev c : Call
     c = record { ancestors = ancestors; descendants = descendants; out = out }
 
-    -- what remained is what the page counts and what remains for the ticket that it returns;
+    -- What remained is what the page counts and what remains for the ticket that it returns;
     pub counted-page : left t ≡ r .count + left (r .ticket)
     counted-page = left-after t c a ∙ ap (λ p. p .count + left (p .ticket)) (sym e)
 
@@ -66,13 +66,13 @@ module _ (ancestors descendants : List ℕ) where
       together = omega (arith, counted-page, h .together);
     }
 
-    -- nothing remains once the page is done,
+    -- Nothing remains once the page is done,
     pub counted-all : r .done ≡ true → count + r .count ≡ length whole
     counted-all d =
         let none : left (r .ticket) ≡ 0 = ap (λ p. left (p .ticket)) e ∙ none-left t c a (sym (ap (λ p. p .done) e) ∙ d) in
         omega (arith, none, counted-more .together)
 
-    -- and less than before remains if it isn't
+    -- And less than before remains if it isn't.
     pub counted-less : r .done ≡ false → 0 < room out → left (r .ticket) < left t
     counted-less d l =
         let full : r .count ≡ room out = ap (λ p. p .count) e ∙ fills-room t c a (sym (ap (λ p. p .done) e) ∙ d) in

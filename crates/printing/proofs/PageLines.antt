@@ -28,7 +28,7 @@ module _ (ancestors descendants : List ℕ) (t : Ticket) (out : List ℕ) where
   abbrev given : List Pair
   given = handedOut ancestors descendants t out
 
-  -- the lines made of the words of the pairs handed out are those of the pairs
+  -- The lines made of the words of the pairs handed out are those of the pairs.
   given-lines : (text : List ℕ) → LINE-BYTES * room out ≤ length text
       → linesFor (take (PAIR-WORDS * length given) (outputAfter ancestors descendants t out)) text ≡ wordsIn pairLine given
   unfolding linesFor
@@ -39,14 +39,14 @@ module _ (ancestors descendants : List ℕ) (t : Ticket) (out : List ℕ) where
       ∙ ap (λ ps. wordsIn pairLine (take most ps)) (pairs-read given)
       ∙ ap (wordsIn pairLine) (take-all most given (omega arith))
 
-  -- a page counts the pairs that it hands out
+  -- A page counts the pairs that it hands out.
   page-count : (r : Page) → r ≡ pageOf ancestors descendants t out → r .count ≡ length given
   page-count r e = ap (λ p. p .count) e ∙ count-given t c
 
   pub page-few : (r : Page) → r ≡ pageOf ancestors descendants t out → PAIR-WORDS * r .count ≤ length out
   page-few r e = let n = page-count r e in let few = given-fits t c in omega arith
 
-  -- the text with the lines put into it begins with those of the pairs handed out
+  -- The text with the lines put into it begins with those of the pairs handed out.
   pub lines-made : (r : Page) → r ≡ pageOf ancestors descendants t out → (out′ : List ℕ) → out′ ≡ outputAfter ancestors descendants t out
       → (n : ℕ) → n ≡ PAIR-WORDS * r .count → (text after : List ℕ) (size : ℕ) → LINE-BYTES * room out ≤ length text
       → size ≡ length (linesFor (take n out′) text) → after ≡ written (linesFor (take n out′) text) text
@@ -62,7 +62,7 @@ module _ (ancestors descendants : List ℕ) (t : Ticket) (out : List ℕ) where
         lines = rw (b, l) (take-append-seam us (drop (length us) text) ∙ made);
       }
 
-  -- a page's verdict is that on the two lists
+  -- A page's verdict is that on the two lists.
   pub page-answer : (r : Page) → r ≡ pageOf ancestors descendants t out → r .verdict .answer ≡ checkTwo ancestors descendants .answer
   unfolding pageOf
   page-answer r e = ap (λ p. p .verdict .answer) e

@@ -30,12 +30,12 @@ use Rattle.lines.specs.Line.{pairLine, totalLine}
 use Rattle.printing.specs.Print.{MOST-BYTES, printedAnswer, listingIn, printed}
 use Rattle.books.specs.Book.{listAt}
 
--- the ticket that the program starts with
+-- The ticket that the program starts with.
 abbrev first : Ticket
 first = freshTicket (asked Inside Descendant)
 
 module _ (book : List ℕ) (good : printedAnswer book ≡ TAKEN) where
-  -- if the program's answer is TAKEN, the two lists are accepted together
+  -- If the program's answer is TAKEN, the two lists are accepted together.
   lists-taken : checkTwo (listAt book 0) (listAt book 1) .answer ≡ TAKEN
   unfolding printedAnswer refusedb
   lists-taken =
@@ -47,13 +47,13 @@ module _ (book : List ℕ) (good : printedAnswer book ≡ TAKEN) where
         ]
       ]
 
-  -- pages of the book's two lists, from a fresh ticket up to one that is done
+  -- Pages of the book's two lists, from a fresh ticket up to one that is done.
   module _ (cs : List Call) (c : Call) (one : c .ancestors ≡ listAt book 0) (two : c .descendants ≡ listAt book 1)
       (same : All (λ k. SameLists k c) cs) (done : answer (ticketThrough first cs) c .done ≡ true) where
     abbrev shown : List Pair
     shown = shownThrough first (cs ++ c ∷ [])
 
-    -- what they hand out, line by line, and its number are what is printed
+    -- What they hand out, line by line, and its number are what is printed.
     pub pages-printed : wordsIn pairLine shown ++ totalLine (length shown) ≡ printed book
     unfolding printed listingIn
     pages-printed =

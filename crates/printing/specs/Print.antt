@@ -1,4 +1,4 @@
--- docs/SCOPE.md, "The printing program": its checks, in their order, and what it prints.
+-- Docs/SCOPE.md, "The printing program": its checks, in their order, and what it prints.
 use Prim.Native.Nat.{ℕ}
 use mathlib.Core.Bool.{cond}
 use mathlib.Core.List.{List, _++_}
@@ -17,27 +17,27 @@ use Rattle.books.specs.Book.{listAt}
 use Rattle.books.specs.Find.{verdictAt}
 use Rattle.lines.specs.Line.{pairLine, totalLine, refusalLine}
 
--- the most bytes of the program's input
+-- The most bytes of the program's input.
 abbrev pub MOST-BYTES : ℕ
 MOST-BYTES = 61440
 
--- how many pairs are printed at a time
+-- How many pairs are printed at a time.
 abbrev pub PAGE-PAIRS : ℕ
 PAGE-PAIRS = 4096
 
--- the program's answer: LONG, the book's own answer, ABSENT for fewer than two lists, then the
--- answer on both lists, which may be JOINT
+-- The program's answer: LONG, the book's own answer, ABSENT for fewer than two lists, then the
+-- answer on both lists, which may be JOINT.
 unfoldable pub printedAnswer : List ℕ → ℕ
 printedAnswer book =
     cond (ltb MOST-BYTES (length book)) LONG
     (cond (refusedb (verdictAt book 1)) (verdictAt book 1 .answer)
     (checkTwo (listAt book 0) (listAt book 1) .answer))
 
--- the full listing of the first list and the second: relation inside, descendant order
+-- The full listing of the first list and the second: relation inside, descendant order.
 unfoldable pub listingIn : List ℕ → List Pair
 listingIn book = listing (asked Inside Descendant) (nodes (listAt book 0)) (nodes (listAt book 1))
 
--- all that the program prints: a line for each pair and then their number, or a refusal's one line
+-- All that the program prints: a line for each pair and then their number, or a refusal's one line.
 unfoldable pub printed : List ℕ → List ℕ
 printed book =
     cond (eqb (printedAnswer book) TAKEN) (wordsIn pairLine (listingIn book) ++ totalLine (length (listingIn book)))

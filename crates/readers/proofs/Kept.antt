@@ -46,8 +46,8 @@ module _ (book : List ℕ) (ok : bookVerdict book .answer ≡ TAKEN) where
   unfolding keptLists
   all-lists = ap listsIn kept-whole
 
-  -- the body at a position among the book's own entries is the part that the search by position
-  -- finds, empty where the book has fewer lists
+  -- The body at a position among the book's own entries is the part that the search by position
+  -- finds, empty where the book has fewer lists.
   module _ (position : ℕ) where
     abbrev Answered : Type 0
     Answered = bodyOf book (getD (contentsOf book) position (entry 0 0 0)) ≡ partOf book (foundAt book position .from) (foundAt book position .bytes)
@@ -70,11 +70,11 @@ module _ (book : List ℕ) (ok : bookVerdict book .answer ≡ TAKEN) where
   unfolding keptBody keptLists tagBody tagEntry foundTag contentsOf
   body-found tag = rw kept-whole (answered (tagAt tag (contentsOf book)))
 
-  -- a tag's body is the one in the whole book, with all its lists
+  -- A tag's body is the one in the whole book, with all its lists.
   pub kept-tag : (tag : ℕ) → keptBody book tag ≡ tagBody book (listsIn book) tag
   unfolding keptBody
   kept-tag tag = rw (kept-whole, all-lists) refl
 
-  -- so each list's body comes back under its own tag
+  -- So each list's body comes back under its own tag.
   pub body-at : (position : ℕ) → position < listsIn book → keptBody book (entryAt book position .tag) ≡ bodyOf book (entryAt book position)
   body-at position h = kept-tag (entryAt book position .tag) ∙ tag-body-at book ok position h

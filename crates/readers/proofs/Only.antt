@@ -22,7 +22,7 @@ use Rattle.readers.proofs.reader.open as opening
 use Rattle.readers.proofs.reader.over as over
 
 module _ {M : Type 1} (𝓤 : URA M) (H : Heap 𝓤) (A : Atoms 𝓤) (mem : Memory → SProp 𝓤) (run : Routine → Fun 𝓤) (κs : Lfts 1) where
-  -- what follows from two facts holds where both hold
+  -- What follows from two facts holds where both hold.
   follows : {P Q R : Type 0} → (P → Q → R) → ent 𝓤 (sep 𝓤 (fact 𝓤 P) (fact 𝓤 Q)) (fact 𝓤 R)
   follows {P} {Q} {R} f =
       fact-use 𝓤 P (fst∗ 𝓤 (fact 𝓤 P) (fact 𝓤 Q)) (λ p.

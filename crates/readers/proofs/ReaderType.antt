@@ -10,14 +10,14 @@ use contract.Lifetimes.{Lfts}
 use Rattle.readers.proofs.reader.Reader as T
 use Rattle.readers.proofs.reader.Reader.Laws as T′
 
--- a reader's type
+-- A reader's type.
 abbrev pub B : Lfts 1 → RattleType
 B κs = T.the-row (namedLft 1 0 tt κs)
 
--- the description of its fields
+-- The description of its fields.
 abbrev pub D : Lfts 1 → Declared
 D κs = T.the-type (namedLft 1 0 tt κs)
 
--- the laws of these fields
+-- The laws of these fields.
 abbrev pub L : (κs : Lfts 1) → LL.Laws (D κs)
 L κs = T′.the-laws (namedLft 1 0 tt κs)

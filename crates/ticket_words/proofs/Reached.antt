@@ -16,20 +16,20 @@ use Rattle.tickets.specs.Ticket.{asked, ticketAt}
 use Rattle.ticket_words.specs.declared.words.TicketWords.{TicketWords}
 use Rattle.ticket_words.specs.Words.{relationOf, orderOf, placeOf, ticketOf, movedTo, ticketBack}
 
--- the relation and the order stay
+-- The relation and the order stay.
 pub kept : (w : TicketWords) (place : Place) → (movedTo w place .relation ≡ w .relation) × (movedTo w place .order ≡ w .order)
 kept w Fresh = (refl, refl)
 kept w (After k) = (refl, refl)
 
 module _ {A : Type 0} (key : A → Key) (w : TicketWords) where
-  -- the place after some items is after the last of them
+  -- The place after some items is after the last of them.
   moved : (k : Key) (xs : List A)
       → placeOf (movedTo w (reached (λ x. After (key x)) (After k) xs)) ≡ reached (λ x. After (key x)) (After k) xs
   unfolding reached placeOf
   moved k [] = refl
   moved k (x ∷ xs) = moved (key x) xs
 
-  -- the words that come back stand for the place reached
+  -- The words that come back stand for the place reached.
   pub back : (xs : List A)
       → ticketOf (ticketBack w (length xs) (reached (λ x. After (key x)) (placeOf w) xs))
       ≡ ticketAt (asked (relationOf (w .relation)) (orderOf (w .order))) (reached (λ x. After (key x)) (placeOf w) xs)

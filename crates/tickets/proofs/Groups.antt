@@ -27,17 +27,17 @@ use Rattle.tickets.specs.Leaders.{servedb, servedIn}
 use Rattle.tickets.specs.Ticket.{spotOf}
 use Rattle.tickets.proofs.Places.{aheadb, Past, served-none}
 
--- in either order the key is the leader's document and start and the follower's start
+-- In either order the key is the leader's document and start and the follower's start.
 pub key-of : (order : Order) (x y : Node) → sortKey order (pairOf order x y) ≡ x .document ∷ x .start ∷ y .start ∷ []
 unfolding keyOf pairOf
 key-of Descendant x y = refl
 key-of Ancestor x y = refl
 
--- what remains of the pairs of some leaders
+-- What remains of the pairs of some leaders.
 abbrev pub rest-of : Relation → Order → Place → List Node → List Node → List Pair
 rest-of relation order place xs ys = remains (sortKey order) (spotOf place) (keep (relatedb relation) (everyPair order xs ys))
 
--- the first leader's group comes first
+-- The first leader's group comes first.
 pub rest-next : (relation : Relation) (order : Order) (place : Place) (x : Node) (xs ys : List Node)
     → rest-of relation order place (x ∷ xs) ys
     ≡ remains (sortKey order) (spotOf place) (keep (relatedb relation) (group order x ys)) ++ rest-of relation order place xs ys
@@ -47,7 +47,7 @@ rest-next relation order place x xs ys =
     ∙ remains-append (sortKey order) (spotOf place) (keep (relatedb relation) (group order x ys)) (keep (relatedb relation) (everyPair order xs ys))
 
 module _ (order : Order) (place : Place) (x : Node) where
-  -- a pair of a group lies past the place or not, as its follower tells
+  -- A pair of a group lies past the place or not, as its follower tells.
   group-told : (y : Node) → pastb (spotOf place) (sortKey order (pairOf order x y)) ≡ aheadb place x y
   unfolding aheadb
   group-told y = ap (pastb (spotOf place)) (key-of order x y)
@@ -57,14 +57,14 @@ module _ (order : Order) (place : Place) (x : Node) where
   group-all b [] h = tt
   group-all b (y ∷ ys) h = (group-told y ∙ h .0, group-all b ys (h .1))
 
-  -- nothing remains of the group of a leader that stands before the place's
+  -- Nothing remains of the group of a leader that stands before the place's.
   group-served : (test : Pair → Bool) (ys : List Node) → servedb place x ≡ true → remains (sortKey order) (spotOf place) (keep test (group order x ys)) ≡ []
   unfolding remains
   group-served test ys s =
       keep-none _ (keep test (group order x ys))
       (keep-all-of _ test (group order x ys) (group-all false ys (all-of (λ y. served-none place x y s) ys)))
 
--- leaders that stand before the leader of the place have no pair past it, whatever the follower
+-- Leaders that stand before the leader of the place have no pair past it, whatever the follower.
 pub rest-served : (relation : Relation) (order : Order) (place : Place) (xs ys : List Node)
     → rest-of relation order place xs ys ≡ rest-of relation order place (drop (servedIn place xs) xs) ys
 unfolding servedIn firstAt
@@ -78,7 +78,7 @@ rest-served relation order place (x ∷ xs) ys =
       | inr s ↦ rw s refl
     ]
 
--- the followers' starts rise, so from the first that lies past the place on all do
+-- The followers' starts rise, so from the first that lies past the place on all do.
 pub group-past : (order : Order) (place : Place) (past : ℕ) (x : Node) (zs : List Node) → Past place past x → EveryTwo (λ y z. y .start < z .start) zs
     → remains (sortKey order) (spotOf place) (group order x zs) ≡ group order x (drop (firstAt (λ n. leb past (n .start)) zs) zs)
 unfolding firstAt remains keep group

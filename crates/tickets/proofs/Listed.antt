@@ -30,7 +30,7 @@ use Rattle.tickets.proofs.Places.{above-last}
 use Rattle.tickets.proofs.Groups.{key-of}
 use Rattle.tickets.specs.Ticket.{Asked, asked}
 
--- the node of a pair that comes first in the order, and the other one
+-- The node of a pair that comes first in the order, and the other one.
 abbrev leader : Order → Pair → Node
 leader order p = leaders order (p .ancestor) (p .descendant)
 
@@ -52,7 +52,7 @@ unfolding leaders followers pairOf
 pair-of Descendant p = refl
 pair-of Ancestor p = refl
 
--- a pair of a group consists of its leader and one of the followers
+-- A pair of a group consists of its leader and one of the followers.
 group-in : (order : Order) (x : Node) (ys : List Node) (p : Pair) → In p (map (pairOf order x) ys) → (leader order p ≡ x) × In (follower order p) ys
 group-in order x [] p m = absurd (List·Memᴰ·not-nil m)
 group-in order x (y ∷ ys) p m =
@@ -84,15 +84,15 @@ in-every order x y (z ∷ xs) ys m n =
       | inr k ↦ Memᴰ·append-right (map (pairOf order z) ys) (in-every order x y xs ys k n)
     ]
 
--- the order alone decides which of the two lists is the ancestors'
+-- The order alone decides which of the two lists is the ancestors'.
 sides : (order : Order) (as′ ds : List Node) (p : Pair)
     → (In (leader order p) (leaders order as′ ds) × In (follower order p) (followers order as′ ds)) ↔ (In (p .ancestor) as′ × In (p .descendant) ds)
 unfolding leaders followers
 sides Descendant as′ ds p = (λ h. (h .1, h .0), λ h. (h .1, h .0))
 sides Ancestor as′ ds p = (λ h. h, λ h. h)
 
--- the listing holds the pairs of an ancestor and a descendant with the relation asked for, and no
--- others
+-- The listing holds the pairs of an ancestor and a descendant with the relation asked for, and no
+-- others.
 pub listed-iff : (ask : Asked) (as′ ds : List Node) (p : Pair)
     → In p (listing ask as′ ds) ↔ (In (p .ancestor) as′ × In (p .descendant) ds × (askedb ask p ≡ true))
 unfolding listing
@@ -112,7 +112,7 @@ listed-iff ask as′ ds p =
           (h .2),
     )
 
--- either relation is inside, and more; so related nodes are of one document
+-- Either relation is inside, and more; so related nodes are of one document.
 pub related-inside : (relation : Relation) (p : Pair) → relatedb relation p ≡ true → insideb (p .descendant) (p .ancestor) ≡ true
 unfolding relatedb
 related-inside Inside p h = h
@@ -126,7 +126,7 @@ unfolding pairOf
 group-document relation Descendant x y h = sym (related-document relation (record { ancestor = y; descendant = x }) h)
 group-document relation Ancestor x y h = related-document relation (record { ancestor = x; descendant = y }) h
 
--- the key of a later leader stands above, whatever follows
+-- The key of a later leader stands above, whatever follows.
 leader-above : (y x : Node) (j k : List ℕ) → afterb y x ≡ true → aboveb (y .document ∷ y .start ∷ j) (x .document ∷ x .start ∷ k) ≡ true
 unfolding aboveb
 leader-above y x j k h =
@@ -137,19 +137,19 @@ leader-above y x j k h =
     ]
 
 module _ (relation : Relation) (order : Order) where
-  -- the key of the later of two pairs stands above that of the earlier
+  -- The key of the later of two pairs stands above that of the earlier.
   abbrev Above : Pair → Pair → Type 0
   Above p q = aboveb (sortKey order q) (sortKey order p) ≡ true
 
-  -- the later key stands above if both pairs are related
+  -- The later key stands above if both pairs are related.
   abbrev Rises : Pair → Pair → Type 0
   Rises p q = relatedb relation p ≡ true → relatedb relation q ≡ true → Above p q
 
-  -- this holds for pairs of a leader and of a later one
+  -- This holds for pairs of a leader and of a later one.
   groups-rise : (x y v w : Node) → afterb v x ≡ true → Rises (pairOf order x y) (pairOf order v w)
   groups-rise x y v w h p q = rw (key-of order x y, key-of order v w) (leader-above v x (w .start ∷ []) (y .start ∷ []) h)
 
-  -- and for two pairs of one leader
+  -- And for two pairs of one leader.
   group-rise : (x y z : Node) → afterb z y ≡ true → Rises (pairOf order x y) (pairOf order x z)
   group-rise x y z h p q =
       rw (key-of order x y, key-of order x z)
@@ -164,7 +164,7 @@ module _ (relation : Relation) (order : Order) where
       later [] k = tt
       later (z ∷ zs) k = (group-rise x y z (k .0), later zs (k .1))
 
-  -- what holds of a leader's pairs holds of its group
+  -- What holds of a leader's pairs holds of its group.
   group-of : (P : Pair → Type 0) (x : Node) → ((y : Node) → P (pairOf order x y)) → (ys : List Node) → All P (map (pairOf order x) ys)
   group-of P x f [] = tt
   group-of P x f (y ∷ ys) = (f y, group-of P x f ys)
@@ -190,7 +190,7 @@ module _ (relation : Relation) (order : Order) where
       pairs-passed (λ p. relatedb relation p ≡ true) Above (keep (relatedb relation) every) (keep-past (relatedb relation) every)
       (keep-every-two Rises (relatedb relation) every (every-rises xs ys h k))
 
--- the listing of two ascending lists ascends strictly
+-- The listing of two ascending lists ascends strictly.
 ascends-in : (relation : Relation) (order : Order) (as′ ds : List Node)
     → EveryTwo (λ e n. afterb n e ≡ true) as′ → EveryTwo (λ e n. afterb n e ≡ true) ds
     → EveryTwo (λ p q. aboveb (sortKey order q) (sortKey order p) ≡ true) (listing (asked relation order) as′ ds)
@@ -203,14 +203,14 @@ pub listing-ascends : (ask : Asked) (as′ ds : List Node)
     → EveryTwo (λ p q. aboveb (sortKey (ask .order) q) (sortKey (ask .order) p) ≡ true) (listing ask as′ ds)
 listing-ascends ask as′ ds a d = ascends-in (ask .relation) (ask .order) as′ ds a d
 
--- so no pair is listed twice
+-- So no pair is listed twice.
 pub listed-once : (ask : Asked) (as′ ds : List Node)
     → EveryTwo (λ e n. afterb n e ≡ true) as′ → EveryTwo (λ e n. afterb n e ≡ true) ds → EveryTwo (λ p q. p ≡ q → ⊥) (listing ask as′ ds)
 listed-once ask as′ ds a d =
     every-two-map (λ p q h e. never h (subst (λ r. aboveb (sortKey (ask .order) r) (sortKey (ask .order) p) ≡ false) e (above-self (sortKey (ask .order) p))))
     (listing ask as′ ds) (listing-ascends ask as′ ds a d)
 
--- with at most `MOST-NODES` followers, each leader makes at most `MOST-NODES` pairs
+-- With at most `MOST-NODES` followers, each leader makes at most `MOST-NODES` pairs.
 few-made : (order : Order) (xs ys : List Node) → length ys ≤ MOST-NODES → length (everyPair order xs ys) ≤ MOST-NODES * length xs
 unfolding everyPair
 few-made order [] ys l = omega arith

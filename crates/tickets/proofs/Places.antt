@@ -25,12 +25,12 @@ use Rattle.tickets.specs.declared.ticket.Place.the-variants.{Fresh, Afte
 use Rattle.tickets.specs.Leaders.{pastFrom, servedb}
 use Rattle.tickets.specs.Ticket.{spotOf}
 
--- the pair of a leader and a follower lies past a place: its document and two starts, the leader's
--- first, stand above the place's key
+-- The pair of a leader and a follower lies past a place: its document and two starts, the leader's
+-- first, stand above the place's key.
 unfoldable pub aheadb : Place → Node → Node → Bool
 aheadb place leader follower = pastb (spotOf place) (leader .document ∷ leader .start ∷ follower .start ∷ [])
 
--- a key above another stays so, whatever follows the two
+-- A key above another stays so, whatever follows the two.
 above-longer : (i j k l : List ℕ) → length i ≡ length j → aboveb i j ≡ true → aboveb (i ++ k) (j ++ l) ≡ true
 unfolding aboveb
 above-longer [] j k l n h = absurd (never h refl)
@@ -41,7 +41,7 @@ above-longer (a ∷ i) (b ∷ j) k l n h =
       | inr p ↦ let q = and-read (eqb a b) p in or-right (ltb b a) (and-make (q .0) (above-longer i j k l (omega arith) (q .1)))
     ]
 
--- no pair of a leader that stands before the leader of a place lies past it
+-- No pair of a leader that stands before the leader of a place lies past it.
 pub served-none : (place : Place) (x y : Node) → servedb place x ≡ true → aheadb place x y ≡ false
 unfolding servedb aheadb pastb
 served-none Fresh x y h = absurd (never h refl)
@@ -52,21 +52,21 @@ served-none (After k) x y h =
     above-longer (k .document ∷ k .leader ∷ []) (x .document ∷ x .start ∷ []) (k .follower ∷ []) (y .start ∷ []) refl h in
     not-so (λ a. never (above-trans own key own a over) (above-self own))
 
--- where two keys differ in their last number alone, that number decides
+-- Where two keys differ in their last number alone, that number decides.
 pub above-last : (d s m n : ℕ) → n < m → aboveb (d ∷ s ∷ m ∷ []) (d ∷ s ∷ n ∷ []) ≡ true
 unfolding aboveb
 above-last d s m n h = rw (le-ltb d d (omega arith), eq-eqb d d refl, le-ltb s s (omega arith), eq-eqb s s refl, lt-ltb n m h) refl
 
--- a number tells from which start on a leader's followers lie past a place
+-- A number tells from which start on a leader's followers lie past a place.
 abbrev pub Past : Place → ℕ → Node → Type 0
 Past place past x = (y : Node) → aheadb place x y ≡ leb past (y .start)
 
--- a leader stands after the place's own
+-- A leader stands after the place's own.
 abbrev Beyond : Key → Node → Type 0
 Beyond k x = (k .document < x .document) ⊎ ((k .document ≡ x .document) × (k .leader < x .start))
 
--- all followers of a leader that stands after the place's own lie past the place; of the place's
--- own those do that start after the place's follower
+-- All followers of a leader that stands after the place's own lie past the place; of the place's
+-- own those do that start after the place's follower.
 module _ (k : Key) (x y : Node) where
   ahead-all : Beyond k x → aheadb (After k) x y ≡ true
   unfolding aheadb pastb aboveb
@@ -89,7 +89,7 @@ module _ (k : Key) (x y : Node) where
         | inr h ↦ rw h (let l : y .start ≤ k .follower = ltb-false _ _ h in sym (lt-leb (k .follower + 1) (y .start) (omega arith)))
       ])
 
--- a leader that doesn't stand before the place's own stands after it, or is that one
+-- A leader that doesn't stand before the place's own stands after it, or is that one.
 unserved : (k : Key) (x : Node) → servedb (After k) x ≡ false → Beyond k x ⊎ ((k .document ≡ x .document) × (k .leader ≡ x .start))
 unfolding servedb aboveb
 unserved k x h =
@@ -104,8 +104,8 @@ unserved k x h =
           [ inl s ↦ inr (d, eqb-true _ _ s) | inr s ↦ let n : k .leader ≡ x .start → ⊥ = eqb-false _ _ s in inl (inr (d, omega arith)) ]
     ]
 
--- the number that a place and a leader give: 0 where the place is fresh or the leader stands after
--- its own
+-- The number that a place and a leader give: 0 where the place is fresh or the leader stands after
+-- its own.
 past-fresh : (x : Node) → pastFrom Fresh x ≡ 0
 unfolding pastFrom
 past-fresh x = refl
@@ -119,7 +119,7 @@ past-own : (k : Key) (x : Node) → k .document ≡ x .document → k .leader �
 unfolding pastFrom
 past-own k x d s = rw (eq-eqb (k .document) (x .document) d, eq-eqb (k .leader) (x .start) s) refl
 
--- past a fresh place lies every pair
+-- Past a fresh place lies every pair.
 ahead-fresh : (x y : Node) → aheadb Fresh x y ≡ true
 unfolding aheadb pastb
 ahead-fresh x y = refl
@@ -127,7 +127,7 @@ ahead-fresh x y = refl
 from-start : (y : Node) → leb 0 (y .start) ≡ true
 from-start y = le-leb 0 (y .start) zero-le
 
--- the start from which on the followers of a leader that isn't served lie past the place
+-- The start from which on the followers of a leader that isn't served lie past the place.
 pub past-first : (place : Place) (x : Node) (past : ℕ) → servedb place x ≡ false → past ≡ pastFrom place x → Past place past x
 past-first Fresh x past h q y = ahead-fresh x y ∙ sym (rw (q, past-fresh x) (from-start y))
 past-first (After k) x past h q y =
@@ -136,7 +136,7 @@ past-first (After k) x past h q y =
       | inr (d, s) ↦ rw (q, past-own k x d s) (ahead-own k x y d s)
     ]
 
--- a pair's key stands above those of an earlier leader
+-- A pair's key stands above those of an earlier leader.
 above-earlier : (x z : Node) (m n : ℕ) → (x .document < z .document) ⊎ ((z .document ≡ x .document) × (x .start < z .start))
     → aboveb (z .document ∷ z .start ∷ m ∷ []) (x .document ∷ x .start ∷ n ∷ []) ≡ true
 unfolding aboveb
@@ -150,7 +150,7 @@ ahead-above k x z past y h a =
     above-trans (z .document ∷ z .start ∷ y .start ∷ []) (x .document ∷ x .start ∷ past ∷ []) (k .document ∷ k .leader ∷ k .follower ∷ [])
     (above-earlier x z (y .start) past (after-read z x a)) h
 
--- so all followers of a leader after one that has some past the place lie past it
+-- So all followers of a leader after one that has some past the place lie past it.
 pub past-next : (place : Place) (x z : Node) (past : ℕ) → Past place past x → afterb z x ≡ true → Past place 0 z
 past-next Fresh x z past p a y = ahead-fresh z y ∙ sym (from-start y)
 past-next (After k) x z past p a y = over ∙ sym (from-start y)

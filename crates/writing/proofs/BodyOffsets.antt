@@ -26,7 +26,7 @@ use Rattle.books.specs.Book.{bodyOf, nodesOf}
 use Rattle.writing.specs.declared.wanted.Wanted.{Wanted}
 use Rattle.writing.specs.Wanted.{want, laidOut, contentsFor, bodiesFor}
 
--- the tags and counts of entries
+-- The tags and counts of entries.
 abbrev pub wants : List Entry → List Wanted
 wants es = map (λ e. want (e .tag) (e .count)) es
 
@@ -40,23 +40,23 @@ unfolding laidOut
 length-laid at [] = refl
 length-laid at (w ∷ ws) = let h = length-laid (at + NODE-BYTES * w .count) ws in omega arith
 
--- each entry of the contents has three numbers
+-- Each entry of the contents has three numbers.
 pub length-contents : (ws : List Wanted) → length (wordsIn entryNumbers (contentsFor ws)) ≡ 3 * length ws
 unfolding contentsFor entryNumbers
 length-contents ws = length-items entryNumbers 3 (λ e. refl) (contentsFor ws) ∙ ap (λ k. 3 * k) (length-laid (contentsEnd (length ws)) ws)
 
--- where bodies lie one after the other, the first starts at the place `at` and the others after it
+-- Where bodies lie one after the other, the first starts at the place `at` and the others after it.
 pub laid-first : (at : ℕ) (e : Entry) (es : List Entry) (size : ℕ) → laidb at (e ∷ es) size ≡ true
     → (e .offset ≡ at) × (laidb (at + NODE-BYTES * e .count) es size ≡ true)
 unfolding laidb
 laid-first at e es size h = let p = and-read (eqb (e .offset) at) h in (eqb-true _ _ (p .0), p .1)
 
--- how many nodes the entries count
+-- How many nodes the entries count.
 pub total : List Entry → ℕ
 total [] = 0
 total (e ∷ es) = e .count + total es
 
--- the last body ends where the book does
+-- The last body ends where the book does.
 pub laid-end : (at : ℕ) (es : List Entry) (size : ℕ) → laidb at es size ≡ true → size ≡ at + NODE-BYTES * total es
 unfolding laidb total
 laid-end at [] size h = let e : at ≡ size = eqb-true _ _ h in omega arith
@@ -64,7 +64,7 @@ laid-end at (e ∷ es) size h =
     let l = laid-end (at + NODE-BYTES * e .count) es size (laid-first at e es size h .1) in
     omega arith
 
--- bodies that lie one after the other are laid out as their tags and counts say
+-- Bodies that lie one after the other are laid out as their tags and counts say.
 pub laid-wants : (at : ℕ) (es : List Entry) (size : ℕ) → laidb at es size ≡ true → laidOut at (wants es) ≡ es
 unfolding laidOut
 laid-wants at [] size h = refl
@@ -73,12 +73,12 @@ laid-wants at (e ∷ es) size h =
     let later = laid-wants (at + NODE-BYTES * e .count) es size (p .1) in
     λ k. entry (e .tag) (sym (p .0) k) (e .count) ∷ later k
 
--- the nodes after the contents of a book of `lists` lists
+-- The nodes after the contents of a book of `lists` lists.
 abbrev pub beyond : ℕ → List ℕ → List Node
 beyond lists book = nodes (drop (1 + 3 * lists) (numbers book))
 
 module _ (book : List ℕ) (lists : ℕ) where
-  -- the body that starts `k` nodes after the contents
+  -- The body that starts `k` nodes after the contents.
   body-there : (k : ℕ) (e : Entry) → e .offset ≡ contentsEnd lists + NODE-BYTES * k → nodesOf book e ≡ take (e .count) (drop k (beyond lists book))
   unfolding nodesOf bodyOf partOf contentsEnd
   body-there k e h =
@@ -92,7 +92,8 @@ module _ (book : List ℕ) (lists : ℕ) where
       ∙ nodes-take (drop (4 * k) (drop (1 + 3 * lists) ns)) (e .count)
       ∙ ap (take (e .count)) (nodes-drop (drop (1 + 3 * lists) ns) k)
 
-  -- the bodies that start `k` nodes after the contents and later are those of their tags and counts
+  -- The bodies that start `k` nodes after the contents and later are those of their tags and
+  -- counts.
   pub bodies-laid : (k at : ℕ) (es : List Entry) (size : ℕ) → at ≡ contentsEnd lists + NODE-BYTES * k → laidb at es size ≡ true
       → map (nodesOf book) es ≡ bodiesFor (wants es) (drop k (beyond lists book))
   unfolding bodiesFor
@@ -103,7 +104,7 @@ module _ (book : List ℕ) (lists : ℕ) where
       let rest = later ∙ ap (bodiesFor (wants es)) (sym (drop-drop (e .count) k (beyond lists book))) in
       λ t. body-there k e (p .0 ∙ q) t ∷ rest t
 
-  -- and put one after the other they are all those nodes
+  -- And put one after the other they are all those nodes.
   pub nodes-laid : (k at : ℕ) (es : List Entry) (size : ℕ) → at ≡ contentsEnd lists + NODE-BYTES * k → laidb at es size ≡ true
       → size ≡ contentsEnd lists + NODE-BYTES * length (beyond lists book) → flatMap (nodesOf book) es ≡ drop k (beyond lists book)
   unfolding flatMap laidb

@@ -25,7 +25,7 @@ use Rattle.writing.specs.Wanted.{WANTED-WORDS, wanted, raggedEntries, co
 use Rattle.writing.specs.WriteCall.{checkWanted}
 
 module _ (entries list : List ℕ) where
-  -- words that don't make whole entries, or whole nodes
+  -- Words that don't make whole entries, or whole nodes.
   pub entries-ragged : (length entries % WANTED-WORDS ≡ 0 → ⊥) → verdict RAGGED ANCESTORS 0 ≡ checkWanted entries list
   unfolding checkWanted raggedEntries
   entries-ragged h = rw (ne-eqb (length entries % WANTED-WORDS) 0 h)
@@ -34,7 +34,7 @@ module _ (entries list : List ℕ) where
   unfolding checkWanted raggedEntries raggedb
   nodes-ragged e h = rw (eq-eqb (length entries % WANTED-WORDS) 0 e, ne-eqb (length list % NODE-WORDS) 0 h)
 
-  -- the verdict on whole entries and nodes
+  -- The verdict on whole entries and nodes.
   abbrev pub parts : Verdict
   parts = checkParts (wantedFault (wanted entries) (nodes list)) (bodiesFor (wanted entries) (nodes list))
 
@@ -42,7 +42,7 @@ module _ (entries list : List ℕ) where
   unfolding checkWanted raggedEntries raggedb
   whole-checked e l = rw (eq-eqb (length entries % WANTED-WORDS) 0 e, eq-eqb (length list % NODE-WORDS) 0 l)
 
-  -- LONG is never given: a list that is too long breaks a rule of the contents
+  -- LONG is never given: a list that is too long breaks a rule of the contents.
   pub wanted-never-long : checkWanted entries list .answer ≡ LONG → ⊥
   unfolding checkWanted wantedFault
   wanted-never-long h =
@@ -53,7 +53,7 @@ module _ (entries list : List ℕ) where
         | inr r ↦ (let e = rw r at h in let m = l (omega arith) in omega arith)
       ]
 
-  -- what is taken is whole, has no fault in its contents, and names no list
+  -- What is taken is whole, has no fault in its contents, and names no list.
   module _ (t : checkWanted entries list .answer ≡ TAKEN) where
     pub taken-whole : (length entries % WANTED-WORDS ≡ 0) × (length list % NODE-WORDS ≡ 0)
     unfolding checkWanted raggedEntries raggedb

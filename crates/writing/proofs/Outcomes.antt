@@ -15,12 +15,12 @@ use Rattle.answers.specs.Verdict.{ANCESTORS, verdict, taken}
 use Rattle.writing.specs.WriteCall.{checkWanted, bytesFor, writtenOf, writtenOutput}
 use Rattle.writing.proofs.Checking.{taken-all}
 
--- a call that writes a book
+-- A call that writes a book.
 abbrev pub WritesBook : List ℕ → List ℕ → List ℕ → List ℕ → Type 0
 WritesBook entries list out book =
     (writtenOf entries list out ≡ record { verdict = taken; count = length book }) × (writtenOutput entries list out ≡ written book out)
 
--- a call that is refused with a verdict
+-- A call that is refused with a verdict.
 abbrev pub Refuses : List ℕ → List ℕ → List ℕ → Verdict → Type 0
 Refuses entries list out v = (writtenOf entries list out ≡ record { verdict = v; count = 0 }) × (writtenOutput entries list out ≡ out)
 

@@ -18,7 +18,7 @@ use Rattle.writing.specs.declared.wanted.Wanted.{Wanted}
 use Rattle.writing.specs.Wanted.{laidOut, contentsFor}
 use Rattle.writing.proofs.BodyOffsets.{length-contents}
 
--- a number stored, and then the bytes after it
+-- A number stored, and then the bytes after it.
 pub put-on : (bs : List ℕ) (i n next : ℕ) (rest : List ℕ) → i < numberCount bs → next ≡ 4 * i + 4
     → sets (putNumber bs i n) next rest ≡ sets bs (4 * i) (bytesOf n ++ rest)
 unfolding putNumber bytesOf
@@ -28,7 +28,7 @@ pub length-put : (bs : List ℕ) (i n : ℕ) → i < numberCount bs → length (
 unfolding putNumber
 length-put bs i n h = rw (lt-ltb i (numberCount bs) h) (length-sets bs (4 * i) (bytesOf n))
 
--- the three numbers of an entry, stored one by one
+-- The three numbers of an entry, stored one by one.
 pub put-three : (bs : List ℕ) (at : ℕ) (e : Entry) → at + 3 ≤ numberCount bs
     → putNumber (putNumber (putNumber bs at (e .tag)) (at + 1) (e .offset)) (at + 2) (e .count) ≡ sets bs (4 * at) (wordsIn bytesOf (entryNumbers e))
 unfolding wordsIn flatMap entryNumbers
@@ -43,11 +43,11 @@ put-three bs at e h =
     ∙ put-on one (at + 1) (e .offset) (4 * (at + 2)) (bytesOf (e .count) ++ []) (omega arith) second
     ∙ put-on bs at (e .tag) (4 * (at + 1)) (bytesOf (e .offset) ++ (bytesOf (e .count) ++ [])) (omega arith) first
 
--- the bytes of contents whose first body starts at a place
+-- The bytes of contents whose first body starts at a place.
 abbrev pub laidBytes : ℕ → List Wanted → List ℕ
 laidBytes at ws = wordsIn bytesOf (wordsIn entryNumbers (laidOut at ws))
 
--- the entry of a list stored, and then those after it
+-- The entry of a list stored, and then those after it.
 pub laid-on : (bs : List ℕ) (at next end : ℕ) (w : Wanted) (ws : List Wanted) → next ≡ at + 12
     → sets (sets bs at (wordsIn bytesOf (entryNumbers (entry (w .tag) end (w .count))))) next (laidBytes (end + NODE-BYTES * w .count) ws)
     ≡ sets bs at (laidBytes end (w ∷ ws))
@@ -55,7 +55,7 @@ unfolding wordsIn flatMap entryNumbers laidOut bytesOf
 laid-on bs at next end w ws q =
     sets-more (wordsIn bytesOf (entryNumbers (entry (w .tag) end (w .count)))) (laidBytes (end + NODE-BYTES * w .count) ws) bs at next q
 
--- the number of lists and their contents are as many bytes as the contents have
+-- The number of lists and their contents are as many bytes as the contents have.
 pub length-front : (ws : List Wanted) → length (wordsIn bytesOf (length ws ∷ wordsIn entryNumbers (contentsFor ws))) ≡ contentsEnd (length ws)
 unfolding contentsEnd
 length-front ws = length-bytes (length ws ∷ wordsIn entryNumbers (contentsFor ws)) ∙ (let l = length-contents ws in omega arith)

@@ -32,7 +32,7 @@ pub record Reads (book : List ℕ) (ws : List Wanted) (ns : List Node) : Type 0 
   pub size : length book ≡ sizeFor ws ns
   pub nodes-beyond : beyond (length ws) book ≡ ns
 
--- what is read of such a book
+-- What is read of such a book.
 module _ (book : List ℕ) (ws : List Wanted) (ns : List Node) (r : Reads book ws ns) where
   pub same-wanted : wantedIn book ≡ ws
   unfolding wantedIn contentsFor
@@ -62,7 +62,7 @@ module _ (book : List ℕ) (ws : List Wanted) (ns : List Node) (r : Reads book w
     unfolding bookVerdict bodiesIn
     same-check = λ t. checkParts (same-fault t) (same-bodies t)
 
--- a written book has as many bytes as its lists and nodes take
+-- A written book has as many bytes as its lists and nodes take.
 pub size-written : (ws : List Wanted) (ns : List Node) → length (bookBytes ws ns) ≡ sizeFor ws ns
 unfolding bookBytes bookNumbers sizeFor contentsEnd
 size-written ws ns =
@@ -71,7 +71,7 @@ size-written ws ns =
     let n = length-words ns in
     length-bytes (bookNumbers ws ns) ∙ omega arith
 
--- a book that was written reads as what it was written from
+-- A book that was written reads as what it was written from.
 module _ (ws : List Wanted) (ns : List Node) (small : All Small (bookNumbers ws ns)) where
   numbers-written : numbers (bookBytes ws ns) ≡ bookNumbers ws ns
   unfolding bookBytes

@@ -25,7 +25,7 @@ use Rattle.writing.proofs.BodyOffsets.{laid-end, laid-wants, beyond}
 use Rattle.writing.proofs.Reading.{Reads}
 use Rattle.writing.proofs.Rules.{Rules, rules-read}
 
--- a book whose contents keep the rules reads as its own tags, counts and nodes
+-- A book whose contents keep the rules reads as its own tags, counts and nodes.
 module _ (book : List ℕ) (good : contentsFault book ≡ TAKEN) where
   kept : Rules (listsIn book) (contentsOf book) (length book)
   kept = rules-read book good
@@ -59,7 +59,7 @@ module _ (book : List ℕ) (good : contentsFault book ≡ TAKEN) where
     nodes-beyond = ap (λ n. beyond n book) lists-read;
   }
 
--- the numbers of entries are written as they were read
+-- The numbers of entries are written as they were read.
 numbers-of-entries : (n : ℕ) (ns : List ℕ) → 3 * n ≤ length ns → wordsIn entryNumbers (take n (entries ns)) ≡ take (3 * n) ns
 unfolding entries wordsIn flatMap entryNumbers
 numbers-of-entries zero ns h = refl
@@ -70,7 +70,7 @@ numbers-of-entries (suc n) (t ∷ o ∷ c ∷ ns) h =
     let e : 3 * suc n ≡ suc (suc (suc (3 * n))) = omega arith in
     ap (λ xs. t ∷ o ∷ c ∷ xs) (numbers-of-entries n ns (omega arith)) ∙ ap (λ m. take m (t ∷ o ∷ c ∷ ns)) (sym e)
 
--- so the numbers and the bytes of a book are those of what it reads as
+-- So the numbers and the bytes of a book are those of what it reads as.
 module _ (book : List ℕ) (ws : List Wanted) (ns : List Node) (r : Reads book ws ns) where
   entries-again : wordsIn entryNumbers (contentsFor ws) ≡ take (3 * length ws) (drop 1 (numbers book))
   unfolding contentsOf entriesIn sizeFor contentsEnd

@@ -27,7 +27,7 @@ use Rattle.writing.proofs.Rereading.{reads-read, same-bytes}
 use Rattle.writing.proofs.Rules.{Rules, Small, rules-written, wanted-short, small-laid}
 use Rattle.writing.proofs.WantedLaws.{wanted-of-words, words-of-wanted, length-wanted-words, tags-of}
 
--- what is written is read back
+-- What is written is read back.
 module _ (entries list : List ℕ) (t : checkWanted entries list .answer ≡ TAKEN) where
   kept : Rules (length (wanted entries)) (contentsFor (wanted entries)) (sizeFor (wanted entries) (nodes list))
   kept = rules-written (wanted entries) (nodes list) (taken-fault entries list t)
@@ -71,7 +71,7 @@ module _ (entries list : List ℕ) (t : checkWanted entries list .answer ≡ TAK
         ap (wordsIn wordsOf) (same-nodes (bytesFor entries list) (wanted entries) (nodes list) reads kept)
         ∙ words-of-nodes list (taken-whole entries list t .1)
 
--- what is read as a book is written back
+-- What is read as a book is written back.
 module _ (book : List ℕ) (t : bookVerdict book .answer ≡ TAKEN) where
   faultless : contentsFault book ≡ TAKEN
   unfolding bookVerdict
@@ -116,7 +116,7 @@ module _ (book : List ℕ) (t : bookVerdict book .answer ≡ TAKEN) where
   bytes-back small =
       (λ k. bookBytes (entries-read k) (nodes-read k)) ∙ same-bytes book (wantedIn book) (beyond (listsIn book) book) reads-book small
 
--- with room for it, the call writes a book that is read back as the words that the call was given
+-- With room for it, the call writes a book that is read back as the words that the call was given.
 pub words-return : (entries list out : List ℕ) → All Small entries → All Small list → checkWanted entries list .answer ≡ TAKEN
     → length (bytesFor entries list) ≤ length out
     → WritesBook entries list out (bytesFor entries list)
@@ -130,7 +130,7 @@ words-return entries list out small words t room = (
   nodes-back entries list t small words,
 )
 
--- and what was read as a book is written as that book
+-- And what was read as a book is written as that book.
 pub book-returns : (book out : List ℕ) → All (λ b. b < 256) book → bookVerdict book .answer ≡ TAKEN → length book ≤ length out
     → WritesBook (entriesFrom book) (nodesFrom book) out book
 book-returns book out small t room =

@@ -25,7 +25,7 @@ use Rattle.writing.specs.declared.wanted.Wanted.{Wanted}
 use Rattle.writing.specs.Wanted.{WANTED-WORDS, wanted, laidOut, contentsFor, sizeFor, wantedFault}
 use Rattle.writing.proofs.WantedLaws.{length-wanted}
 
--- the rules that bound the numbers of a book
+-- The rules that bound the numbers of a book.
 pub record Rules (lists : ℕ) (es : List Entry) (size : ℕ) : Type 0 where
   pub few : lists ≤ MOST-LISTS
   pub short : All (λ e. e .count ≤ MOST-NODES) es
@@ -43,11 +43,11 @@ rules lists es size h =
       laid = not-none _ (r .1);
     }
 
--- if there is no fault, nothing is broken; CONTENTS is 15, the number after 14
+-- If there is no fault, nothing is broken; CONTENTS is 15, the number after 14.
 unbroken : (broken : Bool) → cond broken CONTENTS TAKEN ≡ TAKEN → broken ≡ false
 unbroken broken h = skip broken 14 TAKEN .0 h .0
 
--- the rules of a book that is read, and of one that is to be written
+-- The rules of a book that is read, and of one that is to be written.
 pub rules-read : (book : List ℕ) → contentsFault book ≡ TAKEN → Rules (listsIn book) (contentsOf book) (length book)
 unfolding contentsFault
 rules-read book good = rules (listsIn book) (contentsOf book) (length book) (unbroken _ good)
@@ -56,7 +56,7 @@ pub rules-written : (ws : List Wanted) (ns : List Node) → wantedFault ws ns �
 unfolding wantedFault
 rules-written ws ns good = rules (length ws) (contentsFor ws) (sizeFor ws ns) (unbroken _ good)
 
--- so there are few lists, and their counts, which are those of the contents, are small
+-- So there are few lists, and their counts, which are those of the contents, are small.
 counts-laid : (at : ℕ) (ws : List Wanted) → All (λ e. e .count ≤ MOST-NODES) (laidOut at ws) → All (λ w. w .count ≤ MOST-NODES) ws
 unfolding laidOut
 counts-laid at [] h = tt
@@ -69,11 +69,11 @@ wanted-short ws ns good = counts-laid (contentsEnd (length ws)) ws (rules-writte
 pub wanted-few : (entries : List ℕ) (ns : List Node) → wantedFault (wanted entries) ns ≡ TAKEN → length entries / WANTED-WORDS ≤ MOST-LISTS
 wanted-few entries ns good = omega (arith, length-wanted entries, rules-written (wanted entries) ns good .few)
 
--- a number that four bytes hold
+-- A number that four bytes hold.
 abbrev pub Small : ℕ → Type 0
 Small n = n < 4294967296
 
--- the numbers of contents, and those after them, are small
+-- The numbers of contents, and those after them, are small.
 pub small-laid : (at : ℕ) (ws : List Wanted) (rest : List ℕ) → at + 65536 * length ws < 4294967296 → All (λ w. Small (w .tag)) ws
     → All (λ w. w .count ≤ MOST-NODES) ws → All Small rest → All Small (wordsIn entryNumbers (laidOut at ws) ++ rest)
 unfolding wordsIn flatMap entryNumbers laidOut

@@ -25,7 +25,7 @@ length-wanted (t ∷ c ∷ ws) = let h = length-wanted ws in omega arith
 beyond : (t c : ℕ) (ws : List ℕ) {k m : ℕ} → m ≡ suc (suc k) → getD (t ∷ c ∷ ws) m 0 ≡ getD ws k 0
 beyond t c ws q = rw q
 
--- an entry's words are those at twice its index
+-- An entry's words are those at twice its index.
 pub wanted-words : (ws : List ℕ) (i : ℕ) → i < length ws / WANTED-WORDS
     → getD (wanted ws) i (want 0 0) ≡ want (getD ws (2 * i) 0) (getD ws (2 * i + 1) 0)
 unfolding wanted
@@ -38,7 +38,8 @@ wanted-words (t ∷ c ∷ ws) (suc i) h =
     (sym (beyond t c ws {k = 2 * i} {m = 2 * suc i} (omega arith)) k)
     (sym (beyond t c ws {k = 2 * i + 1} {m = 2 * suc i + 1} (omega arith)) k)
 
--- the entry at an index: the entries from there on begin with it, and what holds of all holds of it
+-- The entry at an index: the entries from there on begin with it, and what holds of all holds of
+-- it.
 module _ (ws : List ℕ) (i : ℕ) (h : i < length ws / WANTED-WORDS) (w : Wanted) (q : w ≡ getD (wanted ws) i (want 0 0)) where
   pub wanted-from : drop i (wanted ws) ≡ w ∷ drop (i + 1) (wanted ws)
   wanted-from = rw (add-one i, q) (drop-cons (wanted ws) i (want 0 0) (omega (arith, length-wanted ws)))
@@ -46,8 +47,8 @@ module _ (ws : List ℕ) (i : ℕ) (h : i < length ws / WANTED-WORDS) (w : Wante
   pub wanted-at : (P : Wanted → Type 0) → All P (wanted ws) → P w
   wanted-at P s = subst P (sym q) (all-at P (wanted ws) i (want 0 0) (omega (arith, length-wanted ws)) s)
 
--- entries written as words are read as the same entries, and the words of whole entries are written
--- as they were
+-- Entries written as words are read as the same entries, and the words of whole entries are written
+-- as they were.
 pub wanted-of-words : (xs : List Wanted) → wanted (wordsIn wantedWords xs) ≡ xs
 unfolding wanted wordsIn flatMap wantedWords
 wanted-of-words [] = refl
@@ -63,7 +64,7 @@ pub length-wanted-words : (xs : List Wanted) → length (wordsIn wantedWords xs)
 unfolding wantedWords
 length-wanted-words xs = length-items wantedWords WANTED-WORDS (λ x. refl) xs
 
--- what holds of all words holds of all tags
+-- What holds of all words holds of all tags.
 pub tags-of : (P : ℕ → Type 0) (ws : List ℕ) → All P ws → All (λ w. P (w .tag)) (wanted ws)
 unfolding wanted
 tags-of P [] h = tt

@@ -10,18 +10,18 @@ use Rattle.books.specs.Book.{nodesOf}
 use Rattle.writing.specs.declared.wanted.Wanted.{Wanted}
 use Rattle.writing.specs.Wanted.{want, wantedWords}
 
--- the tag and the count of each list
+-- The tag and the count of each list.
 unfoldable pub wantedIn : List ℕ → List Wanted
 wantedIn book = map (λ e. want (e .tag) (e .count)) (contentsOf book)
 
--- the nodes of each list, list by list
+-- The nodes of each list, list by list.
 unfoldable pub bodiesIn : List ℕ → List (List Node)
 bodiesIn book = map (nodesOf book) (contentsOf book)
 
--- the tags and counts as words
+-- The tags and counts as words.
 unfoldable pub entriesFrom : List ℕ → List ℕ
 entriesFrom book = wordsIn wantedWords (wantedIn book)
 
--- the nodes of all lists as words, one list after the other
+-- The nodes of all lists as words, one list after the other.
 unfoldable pub nodesFrom : List ℕ → List ℕ
 nodesFrom book = wordsIn wordsOf (flatMap (nodesOf book) (contentsOf book))

@@ -1,4 +1,4 @@
--- docs/SCOPE.md, "The field book": what a book is written from, which is entries of tag and count
+-- Docs/SCOPE.md, "The field book": what a book is written from, which is entries of tag and count
 -- and the nodes of all lists in sequence.
 use Prim.Native.Nat.{ℕ, _+_, _*_, _%_}
 use mathlib.Core.Bool.{Bool, cond, not}
@@ -14,44 +14,44 @@ use Rattle.contents.specs.declared.entry.Entry.{Entry}
 use Rattle.contents.specs.Contents.{entry, entryNumbers, contentsEnd, brokenb}
 use Rattle.writing.specs.declared.wanted.Wanted.{Wanted}
 
--- a list that is wanted in the book: its tag and its node count
+-- A list that is wanted in the book: its tag and its node count.
 abbrev pub want : ℕ → ℕ → Wanted
 want tag count = record { tag = tag; count = count }
 
--- how many words an entry takes
+-- How many words an entry takes.
 abbrev pub WANTED-WORDS : ℕ
 WANTED-WORDS = 2
 
--- the entries of the words, one after the other; a word left over makes none
+-- The entries of the words, one after the other; a word left over makes none.
 unfoldable pub wanted : List ℕ → List Wanted
 wanted [] = []
 wanted (t ∷ []) = []
 wanted (t ∷ c ∷ words) = want t c ∷ wanted words
 
--- the words of an entry
+-- The words of an entry.
 unfoldable pub wantedWords : Wanted → List ℕ
 wantedWords w = w .tag ∷ w .count ∷ []
 
--- RAGGED: the words don't make whole entries
+-- RAGGED: the words don't make whole entries.
 unfoldable pub raggedEntries : List ℕ → Bool
 raggedEntries words = not (eqb (length words % WANTED-WORDS) 0)
 
--- the contents of lists whose first body starts at the byte `at`, each next one where the last
--- ended
+-- The contents of lists whose first body starts at the byte `at`, each next one where the last
+-- ended.
 unfoldable pub laidOut : ℕ → List Wanted → List Entry
 laidOut at [] = []
 laidOut at (w ∷ ws) = entry (w .tag) at (w .count) ∷ laidOut (at + NODE-BYTES * w .count) ws
 
--- the contents of a book: its first body starts right after them
+-- The contents of a book: its first body starts right after them.
 unfoldable pub contentsFor : List Wanted → List Entry
 contentsFor ws = laidOut (contentsEnd (length ws)) ws
 
--- the bodies of a book: each list takes its count of nodes from those that the earlier lists left
+-- The bodies of a book: each list takes its count of nodes from those that the earlier lists left.
 unfoldable pub bodiesFor : List Wanted → List Node → List (List Node)
 bodiesFor [] ns = []
 bodiesFor (w ∷ ws) ns = take (w .count) ns ∷ bodiesFor ws (drop (w .count) ns)
 
--- how many bytes the book has: its contents and all nodes
+-- How many bytes the book has: its contents and all nodes.
 unfoldable pub sizeFor : List Wanted → List Node → ℕ
 sizeFor ws ns = contentsEnd (length ws) + NODE-BYTES * length ns
 
@@ -60,10 +60,10 @@ sizeFor ws ns = contentsEnd (length ws) + NODE-BYTES * length ns
 unfoldable pub wantedFault : List Wanted → List Node → ℕ
 wantedFault ws ns = cond (brokenb (length ws) (contentsFor ws) (sizeFor ws ns)) CONTENTS TAKEN
 
--- the numbers of the book: how many lists, the contents, and the nodes
+-- The numbers of the book: how many lists, the contents, and the nodes.
 unfoldable pub bookNumbers : List Wanted → List Node → List ℕ
 bookNumbers ws ns = length ws ∷ wordsIn entryNumbers (contentsFor ws) ++ wordsIn wordsOf ns
 
--- the bytes of the book
+-- The bytes of the book.
 unfoldable pub bookBytes : List Wanted → List Node → List ℕ
 bookBytes ws ns = wordsIn bytesOf (bookNumbers ws ns)

@@ -1,4 +1,4 @@
--- docs/SCOPE.md, "The field book": what writing answers and writes. Its checks are RAGGED,
+-- Docs/SCOPE.md, "The field book": what writing answers and writes. Its checks are RAGGED,
 -- CONTENTS, the bodies and ROOM, in that order.
 use Prim.Native.Nat.{ℕ}
 use mathlib.Core.Bool.{cond, _||_}
@@ -14,22 +14,22 @@ use Rattle.books.specs.Book.{checkParts}
 use Rattle.answers.specs.declared.verdict.Counted.{Counted}
 use Rattle.writing.specs.Wanted.{wanted, raggedEntries, bodiesFor, wantedFault, bookBytes}
 
--- a book to be written from entries and nodes, given as words
+-- A book to be written from entries and nodes, given as words.
 module _ (entries list : List ℕ) where
-  -- the verdict of the checks before ROOM: whole entries, whole nodes, CONTENTS, and the bodies in
-  -- order
+  -- The verdict of the checks before ROOM: whole entries, whole nodes, CONTENTS, and the bodies in
+  -- order.
   unfoldable pub checkWanted : Verdict
   checkWanted =
       cond (raggedEntries entries || raggedb list) (verdict RAGGED ANCESTORS 0)
       (checkParts (wantedFault (wanted entries) (nodes list)) (bodiesFor (wanted entries) (nodes list)))
 
-  -- the bytes of the book
+  -- The bytes of the book.
   unfoldable pub bytesFor : List ℕ
   bytesFor = bookBytes (wanted entries) (nodes list)
 
--- a call with these entries, these nodes and an output
+-- A call with these entries, these nodes and an output.
 module _ (entries list out : List ℕ) where
-  -- the call's answer, and how many bytes it wrote, none on refusal
+  -- The call's answer, and how many bytes it wrote, none on refusal.
   unfoldable pub writtenOf : Counted
   writtenOf =
       let v = checkWanted entries list in
@@ -39,6 +39,6 @@ module _ (entries list out : List ℕ) where
         count = ifTaken (v .answer) book out (length book) 0;
       }
 
-  -- the output on return: it begins with the book; on refusal it is as it was
+  -- The output on return: it begins with the book; on refusal it is as it was.
   unfoldable pub writtenOutput : List ℕ
   writtenOutput = outputOf (checkWanted entries list .answer) (bytesFor entries list) out

@@ -11,43 +11,43 @@ use Rattle.answers.specs.Output.{wordsIn}
 use Rattle.forest.specs.declared.link.Link.{Link}
 use Rattle.forest.specs.Links.{LINK-WORDS, upTo, firstOf, nodeIn, parentOf, siblingb, linkWords}
 
--- the links of a node, with its three indices
+-- The links of a node, with its three indices.
 abbrev pub link : ℕ → ℕ → ℕ → Link
 link parent child next = record { parent = parent; child = child; next = next }
 
 module _ (ns : List Node) (count : ℕ) where
-  -- a node's first child, where only the first `count` nodes are looked at
+  -- A node's first child, where only the first `count` nodes are looked at.
   unfoldable pub childTo : ℕ → ℕ
   childTo i = firstOf (λ j. eqb (parentOf ns j) i) (upTo count)
 
-  -- its next sibling among them
+  -- Its next sibling among them.
   unfoldable pub nextTo : ℕ → ℕ
   nextTo i = firstOf (λ j. ltb i j && siblingb ns i j) (upTo count)
 
-  -- its links among them
+  -- Its links among them.
   unfoldable pub linkTo : ℕ → Link
   linkTo i = link (parentOf ns i) (childTo i) (nextTo i)
 
-  -- the words of the links of the first `count` nodes
+  -- The words of the links of the first `count` nodes.
   unfoldable pub linksTo : List ℕ
   linksTo = wordsIn linkWords (map linkTo (upTo count))
 
-  -- the words begin with these
+  -- The words begin with these.
   abbrev pub Linking : List ℕ → Type 0
   Linking words = take (LINK-WORDS * count) words ≡ linksTo
 
--- node i is the first one of its document: no node stands before it, or the one before is of
--- another
+-- Node i is the first one of its document: no node stands before it, or the one before is of
+-- another.
 unfoldable pub firstb : List Node → ℕ → Bool
 firstb ns i = cond (eqb i 0) true (not (eqb (nodeIn ns (i - 1) .document) (nodeIn ns i .document)))
 
--- the node before node i is of its document and ended before it starts
+-- The node before node i is of its document and ended before it starts.
 pub record Ended (ns : List Node) (i : ℕ) : Type 0 where
   pub later : 0 < i
   pub document : nodeIn ns (i - 1) .document ≡ nodeIn ns i .document
   pub ended : nodeIn ns (i - 1) .end < nodeIn ns i .start
 
--- e is node i's elder: the last node before it, in its document, that has the same parent
+-- e is node i's elder: the last node before it, in its document, that has the same parent.
 pub record Elder (ns : List Node) (i e : ℕ) : Type 0 where
   pub before : e < i
   pub sibling : siblingb ns i e ≡ true

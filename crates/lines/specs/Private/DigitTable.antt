@@ -4,10 +4,10 @@ use mathlib.Core.Path.{_≡_}
 use mathlib.Core.List.{List, [], _∷_}
 use lib.ListN.{getD}
 
--- the two digits of a number below a hundred
+-- The two digits of a number below a hundred.
 unfoldable pub twoDigits : ℕ → List ℕ
 twoDigits n = (48 + n / 10) ∷ (48 + n % 10) ∷ []
 
--- a table has the two digits of each number below a hundred, one number after the other
+-- A table has the two digits of each number below a hundred, one number after the other.
 unfoldable pub Tabled : List ℕ → Type 0
 Tabled table = (n : ℕ) → n < 100 → (getD table (2 * n) 0 ≡ 48 + n / 10) × (getD table (2 * n + 1) 0 ≡ 48 + n % 10)

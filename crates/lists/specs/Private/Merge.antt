@@ -8,7 +8,7 @@ use Rattle.nodes.specs.declared.node.Node.{Node}
 use Rattle.nodes.specs.Node.{afterb, sameb}
 use Rattle.nodes.specs.Words.{NODE-WORDS, MOST-NODES, nodes, count}
 
--- x followed by xs, merged with a list; `later` merges xs with any list
+-- x followed by xs, merged with a list; `later` merges xs with any list.
 unfoldable pub mergeInto : Node → List Node → (List Node → List Node) → List Node → List Node
 mergeInto x xs later [] = x ∷ xs
 mergeInto x xs later (y ∷ ys) =
@@ -16,16 +16,16 @@ mergeInto x xs later (y ∷ ys) =
     (cond (sameb x y) (x ∷ later ys)
     (y ∷ mergeInto x xs later ys))
 
--- two lists merged in node order; a node of both comes once
+-- Two lists merged in node order; a node of both comes once.
 unfoldable pub merge : List Node → List Node → List Node
 merge [] ys = ys
 merge (x ∷ xs) ys = mergeInto x xs (merge xs) ys
 
--- the words make whole nodes, at most 4,096
+-- The words make whole nodes, at most 4,096.
 abbrev pub Whole : List ℕ → Type 0
 Whole words = (length words % NODE-WORDS ≡ 0) × (count words ≤ MOST-NODES)
 
--- from word i on, the words make whole nodes
+-- From word i on, the words make whole nodes.
 abbrev pub Cut : ℕ → List ℕ → Type 0
 Cut i words = (i ≤ length words) × ((length words - i) % NODE-WORDS ≡ 0)
 

@@ -14,7 +14,7 @@ use Rattle.answers.specs.Answer.{names, letterAt, padded, nameOf}
 use Rattle.answers.proofs.answer.name_of.Statement.{statement}
 use Rattle.answers.proofs.answer.name_of.Tie as tie
 
--- a number above 16 has the blank name
+-- A number above 16 has the blank name.
 blank : (n : ℕ) → 16 < n → padded "" ≡ nameOf n
 unfolding names nameOf
 blank n h = sym (List·getD-eq-default (map padded names) (padded "") h)

@@ -20,13 +20,13 @@ use Rattle.belfrychest.specs.Shown.{shownPart}
 use Rattle.belfrychest.proofs.list.belfry_faulty.Statement.{statement}
 use Rattle.belfrychest.proofs.list.belfry_faulty.Tie as tie
 
--- a verdict with a place and a length
+-- A verdict with a place and a length.
 abbrev part : Verdict → ℕ → ℕ → BelfryPart
 part v from words = record { verdict = v; from = from; words = words }
 
 module _ (ancestors descendants : List ℕ) (v : Verdict) (q : v ≡ checkTwo ancestors descendants) (words : List ℕ)
     (e : words ≡ faultyPart ancestors descendants) where
-  -- where the verdict and the words are those of the library, the answer is the definition's
+  -- Where the verdict and the words are those of the library, the answer is the definition's.
   answered : part v (cond (eqb (length words) 0) 0 (NODE-WORDS * v .index)) (length words) ≡ shownPart ancestors descendants
   unfolding shownPart
   answered = λ k. part (q k) (cond (eqb (length (e k)) 0) 0 (NODE-WORDS * q k .index)) (length (e k))

@@ -18,7 +18,7 @@ use Rattle.belfrychest.specs.Shown.{shownPage}
 use Rattle.belfrychest.proofs.page.belfry_list.Statement.{statement}
 use Rattle.belfrychest.proofs.page.belfry_list.Tie as tie
 
--- the call for the ticket asked for is the call for the one that the words stand for
+-- The call for the ticket asked for is the call for the one that the words stand for.
 module _ (ancestors descendants out : List ℕ) (w : TicketWords) (asked : Ticket) (q : asked ≡ ticketOf w) where
   answered : (p : Page) (r : BelfryPage) → r ≡ shownPage w p → p ≡ pageOf ancestors descendants asked out
       → (last : List ℕ) → last ≡ outputAfter ancestors descendants asked out

@@ -21,11 +21,11 @@ use Rattle.books.proofs.find.tag_body.Statement.{statement}
 use Rattle.books.proofs.find.tag_body.Tie as tie
 
 module _ (start : ℕ × ℕ) (book : List ℕ) (lists tag position : ℕ) (q : position ≡ tagAt tag (take lists (entriesIn book))) where
-  -- the body of an entry, at its place
+  -- The body of an entry, at its place.
   abbrev Body : Entry → List ℕ → ℕ × ℕ → Type 0
   Body e r at = record { contents : r ≡ bodyOf book e; place : at ≡ bodyPlace start book e }
 
-  -- the body of the tag, at its place
+  -- The body of the tag, at its place.
   abbrev Wanted : List ℕ → ℕ × ℕ → Type 0
   Wanted r at = record { contents : r ≡ tagBody book lists tag; place : at ≡ tagPlace start book lists tag }
 

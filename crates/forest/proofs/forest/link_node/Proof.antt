@@ -37,7 +37,7 @@ module _ (ws : List ℕ) (h : checkWords ws .answer ≡ TAKEN) (i : ℕ) (l : i 
   small : i < NONE
   small = omega (arith, here, ok .short)
 
-  -- the node before is of the same document unless this one is the first
+  -- The node before is of the same document unless this one is the first.
   module _ (b : Bool) (q : b ≡ firstb (nodes ws) i) (t : b ≡ false) where
     later : 0 < i
     later = not-first (nodes ws) i (sym q ∙ t) .0
@@ -48,7 +48,7 @@ module _ (ws : List ℕ) (h : checkWords ws .answer ≡ TAKEN) (i : ℕ) (l : i 
         record { later = f .0; document = f .1; ended = rw (← node-in ws i n r, ← node-in ws (i - 1) x s) e }
 
   module _ (out : List ℕ) (m : count ws ≤ length out / 3) (k : Linking (nodes ws) i out) where
-    -- the words with the node's own links written
+    -- The words with the node's own links written.
     abbrev under : ℕ → List ℕ
     under p = sets out (3 * i) (linkWords (link p NONE NONE))
 

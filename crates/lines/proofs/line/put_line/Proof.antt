@@ -15,7 +15,7 @@ use Rattle.lines.proofs.Fields.{field-32, put-field}
 use Rattle.lines.proofs.line.put_line.Statement.{statement}
 use Rattle.lines.proofs.line.put_line.Tie as tie
 
--- the three fields make the line
+-- The three fields make the line.
 whole : (before : List ℕ) (at : ℕ) (x y : Node) (one two three : List ℕ) (to next last : ℕ)
     → Told before at (decimal (x .document) ++ BLANK ∷ []) one to
     → Told one to (decimal (x .start) ++ BLANK ∷ []) two next

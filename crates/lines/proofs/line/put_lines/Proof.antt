@@ -23,7 +23,7 @@ use Rattle.lines.proofs.TwoDigits.{tabled}
 use Rattle.lines.proofs.line.put_lines.Statement.{statement}
 use Rattle.lines.proofs.line.put_lines.Tie as tie
 
--- the lines of the first `index` pairs are put at the beginning
+-- The lines of the first `index` pairs are put at the beginning.
 pub record Lined (pairs before : List ℕ) (index : ℕ) (after : List ℕ) (to : ℕ) : Type 0 where
   pub some : index ≤ count pairs / 2
   pub room : index ≤ length before / LINE-BYTES

@@ -20,7 +20,7 @@ use Rattle.lines.proofs.TwoDigits.{tabled}
 use Rattle.lines.proofs.line.put_refusal.Statement.{statement}
 use Rattle.lines.proofs.line.put_refusal.Tie as tie
 
--- the word's bytes, the field, the name and the line feed make the line
+-- The word's bytes, the field, the name and the line feed make the line.
 whole : (before : List ℕ) (n : ℕ) (name one two three four : List ℕ) (to next then last : ℕ) → n < 4294967296 → length before ≡ 32
     → length name ≡ 8 → name ≡ nameOf n
     → Told before 0 (114 ∷ 101 ∷ 102 ∷ 117 ∷ 115 ∷ 101 ∷ 100 ∷ 32 ∷ []) one to

@@ -20,7 +20,7 @@ use Rattle.lines.proofs.TwoDigits.{tabled}
 use Rattle.lines.proofs.line.put_total.Statement.{statement}
 use Rattle.lines.proofs.line.put_total.Tie as tie
 
--- the word's bytes and the field make the line
+-- The word's bytes and the field make the line.
 whole : (before : List ℕ) (n : ℕ) (one two : List ℕ) (to last : ℕ) → n < 18446744073709551616 → length before ≡ 32
     → Told before 0 (112 ∷ 97 ∷ 105 ∷ 114 ∷ 115 ∷ 32 ∷ []) one to
     → Told one to (decimal n ++ LINE-FEED ∷ []) two last

@@ -19,7 +19,7 @@ use Rattle.lines.proofs.Putting.{sets-last-first}
 use Rattle.lines.proofs.text.put_decimal.Statement.{statement}
 use Rattle.lines.proofs.text.put_decimal.Tie as tie
 
--- the digits from the place `to` on are put, and those of `rest` are left
+-- The digits from the place `to` on are put, and those of `rest` are left.
 pub record Left (before : List ℕ) (at number : ℕ) (text : List ℕ) (rest to : ℕ) : Type 0 where
   pub less : rest ≤ number
   pub place : to ≡ at + length (decimal rest)

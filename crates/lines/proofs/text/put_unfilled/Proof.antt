@@ -18,7 +18,7 @@ use Rattle.lines.proofs.Putting.{Put, Told, put-next}
 use Rattle.lines.proofs.text.put_unfilled.Statement.{statement}
 use Rattle.lines.proofs.text.put_unfilled.Tie as tie
 
--- the letters passed are put without their blanks
+-- The letters passed are put without their blanks.
 pub record Passed (before : List ℕ) (at : ℕ) (letters : List ℕ) (index : ℕ) (after : List ℕ) (to : ℕ) : Type 0 where
   pub some : index ≤ length letters
   pub few : to ≤ at + index

@@ -13,7 +13,7 @@ use Rattle.lists.proofs.MergeNext.{drawn-as, starts-first, starts-secon
 use Rattle.lists.proofs.merge.next_within.Statement.{statement}
 use Rattle.lists.proofs.merge.next_within.Tie as tie
 
--- what the last test says of the heads
+-- What the last test says of the heads.
 alike : (c : tie.After-is-same) → let a = c .before .before .before .before .before .before .before .before .before .args in
     c .is-same .result ≡ sameb (nodeFrom (now (a .xs)) (a .i)) (nodeFrom (now (a .ys)) (a .j))
 alike c = c .is-same .ensures ∙ ap₂ sameb (c .before .before .node-from3 .ensures) (c .before .node-from4 .ensures)

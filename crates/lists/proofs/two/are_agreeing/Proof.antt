@@ -38,7 +38,7 @@ module _ (xs ys : List ℕ) where
   no-second : (f : ℕ) → f ≡ wordFault ys → (f ≡ TAKEN → ⊥) → false ≡ not (refusedb (checkTwo xs ys))
   no-second f q h = no (λ t. h (q ∙ words-check ys .0 (two-taken-iff xs ys .0 t .1) .0))
 
-  -- the merge is taken exactly when the two lists are
+  -- The merge is taken exactly when the two lists are.
   merged : wordFault xs ≡ TAKEN → wordFault ys ≡ TAKEN
       → eqb (checkNodes (merge (nodes xs) (nodes ys)) .answer) TAKEN ≡ not (refusedb (checkTwo xs ys))
   merged f g = same-test there back ∙ answers

@@ -18,7 +18,7 @@ use Rattle.lists.proofs.Steps.{passed-low, passed-high, passed-span, pa
 use Rattle.lists.proofs.walk.pass_node.Statement.{statement}
 use Rattle.lists.proofs.walk.pass_node.Tie as tie
 
--- what `is_next` answers, turned into the test of ORDER
+-- What `is_next` answers, turned into the test of ORDER.
 strays : {t o : Bool} → t ≡ not o → not t ≡ true → o ≡ true
 strays {t} {o} e h = not-false o (sym e ∙ not-true t h)
 

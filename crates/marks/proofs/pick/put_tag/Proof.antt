@@ -21,7 +21,7 @@ use Rattle.marks.proofs.Picking.{firstsWith, firsts-none, firsts-few, f
 use Rattle.marks.proofs.pick.put_tag.Statement.{statement}
 use Rattle.marks.proofs.pick.put_tag.Tie as tie
 
--- the first rows' nodes with the tag are written, and no more
+-- The first rows' nodes with the tag are written, and no more.
 pub record Puts (tag : ℕ) (table out₀ : List ℕ) (index found : ℕ) (out : List ℕ) : Type 0 where
   pub few : found ≡ length (firstsWith tag table index)
   pub same : length out ≡ length out₀

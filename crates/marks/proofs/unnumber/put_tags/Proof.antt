@@ -19,12 +19,12 @@ use Rattle.marks.proofs.Tagging.{Within, within-at}
 use Rattle.marks.proofs.unnumber.put_tags.Statement.{statement}
 use Rattle.marks.proofs.unnumber.put_tags.Tie as tie
 
--- a row read at an index starts within the output
+-- A row read at an index starts within the output.
 starts-in : (count : ℕ) (ws : List ℕ) (i : ℕ) (r : Row) → r ≡ rowIn (rows ws) i → All (Within count) (rows ws)
     → i < length ws / ROW-WORDS → Within count r
 starts-in count ws i r e a h = rw e (within-at count (rows ws) i a (omega (arith, length-rows ws)))
 
--- one tag more is put
+-- One tag more is put.
 put-on : (ws out : List ℕ) (i : ℕ) (r : Row) → r ≡ rowIn (rows ws) i → i < length ws / ROW-WORDS
     → tagged (drop (i + 1) (rows ws)) (set out (r .node .start - 1) (r .tag)) ≡ tagged (drop i (rows ws)) out
 unfolding tagged

@@ -31,7 +31,7 @@ use Rattle.marks.proofs.RowLaws.{length-rows}
 use Rattle.marks.proofs.unnumber.reads_back.Statement.{statement}
 use Rattle.marks.proofs.unnumber.reads_back.Tie as tie
 
--- the place before a mark that fits
+-- The place before a mark that fits.
 module _ (rs : List Row) (document position : ℕ) (kept : List ℕ) (q : MarkPlace) (mark : ℕ) where
   still-low : fitsb rs document position kept q mark ≡ true → q .depth ≤ MOST-LEVELS → beforeMark q mark .depth ≤ MOST-LEVELS
   unfolding beforeMark
@@ -46,7 +46,7 @@ module _ (rs : List Row) (document position : ℕ) (kept : List ℕ) (q : MarkPl
   unfolding beforeMark
   fewer-rows = elim (either (closeb mark)) [ inl c ↦ rw c (omega arith) | inr c ↦ rw c (omega arith) ]
 
--- what is left to read, step by step
+-- What is left to read, step by step.
 module _ (rs : List Row) (document : ℕ) (kept : List ℕ) (q : MarkPlace) where
   read-on : (position : ℕ) → 0 < position → (p : MarkPlace) (after : List ℕ) → SteppedBack rs document position kept q (Reached p) after
       → readsBack rs document (position - 1) after p ≡ readsBack rs document position kept q
@@ -70,7 +70,7 @@ module _ (rs : List Row) (document : ℕ) (kept : List ℕ) (q : MarkPlace) wher
   read-all zero h d = rw (eq-eqb (q .depth) 0 d) refl
   read-all (suc before) h d = absurd (not-suc-le-zero h)
 
--- a walk back that has reached a place, where the table is that of `rs`
+-- A walk back that has reached a place, where the table is that of `rs`.
 record Reads (rs : List Row) (document last : ℕ) (kept : List ℕ) (q : MarkPlace) (position : ℕ) : Type 0 where
   low : q .depth ≤ MOST-LEVELS
   few : q .rows ≤ length rs

@@ -38,7 +38,7 @@ starts-in table b e h root first count l =
     let m : rowIn (rows table) 0 .node .end ≤ count = rw (← first) l in
     all-map (λ r w. (w .0, omega (arith, w .1))) (rows table) (table-within (rows table) (sym e ∙ h))
 
--- the marks are as many as the first row's end says
+-- The marks are as many as the first row's end says.
 count-marks : (table : List ℕ) → length (tableMarks table) ≡ rowIn (rows table) 0 .node .end
 unfolding tableMarks marksOf
 count-marks table = length-tagged (rows table) _ ∙ length-replicate (rowIn (rows table) 0 .node .end) CLOSE
@@ -47,7 +47,7 @@ module _ (table out : List ℕ) where
   abbrev Answers : Unnumbered → List ℕ → Type 0
   Answers r after = record { answer : r ≡ unnumberOutcome table out; output : after ≡ unnumberOutput table out }
 
-  -- what a refused call answers and leaves, and what a taken one does
+  -- What a refused call answers and leaves, and what a taken one does.
   refuses : (k : ℕ) → answerOf (checkTable table) (tableMarks table) out ≡ k → (k ≡ TAKEN → ⊥) → (r : Unnumbered) → r ≡ unnumbered k 0 0
       → Answers r out
   unfolding unnumberOutcome unnumberOutput outputOf ifTaken

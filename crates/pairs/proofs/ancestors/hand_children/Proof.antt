@@ -27,7 +27,7 @@ use Rattle.pairs.proofs.Running.{none-match}
 use Rattle.pairs.proofs.ancestors.hand_children.Statement.{statement}
 use Rattle.pairs.proofs.ancestors.hand_children.Tie as tie
 
--- no followers make no group
+-- No followers make no group.
 group-none : (a : Node) {ns : List Node} → ns ≡ [] → group Ancestor a ns ≡ []
 unfolding group
 group-none a q = rw q refl

@@ -17,7 +17,7 @@ use Rattle.pairs.proofs.Running.{further-next, further-trans}
 use Rattle.pairs.proofs.ancestors.past_inner.Statement.{statement}
 use Rattle.pairs.proofs.ancestors.past_inner.Tie as tie
 
--- the descendant stands after the zone, so that the zone holds the next one too
+-- The descendant stands after the zone, so that the zone holds the next one too.
 after : (c : tie.Else4) → afterb (c .before .before .before .before .node-from2 .result) (c .before .before .before .before .before .node-from .result) ≡ true
 after c = sym (c .before .before .before .is-after .ensures) ∙ not-none _ (c .before .before .if3 .left)
 

@@ -14,7 +14,7 @@ use Rattle.pairs.proofs.Running.{further-next, further-trans, further-s
 use Rattle.pairs.proofs.ancestors.run_end.Statement.{statement}
 use Rattle.pairs.proofs.ancestors.run_end.Tie as tie
 
--- the second descendant is in the run, and so is the one before which the guess ends
+-- The second descendant is in the run, and so is the one before which the guess ends.
 second-in : (c : tie.Else1) → let a = c .before .before .before .args in Further (now (a .descendants)) (a .ancestor) (a .from) (a .from + 4 + 4)
 second-in c =
     let a = c .before .before .before .args in

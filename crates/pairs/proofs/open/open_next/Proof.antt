@@ -22,7 +22,7 @@ use Rattle.pairs.proofs.open.open_next.Statement.{statement}
 use Rattle.pairs.proofs.open.open_next.Tie as tie
 
 module _ (ws : List ℕ) (used : ℕ) (d a : Node) where
-  -- where the stack makes a chain with the ancestor, there is a place for it
+  -- Where the stack makes a chain with the ancestor, there is a place for it.
   room-on : Fits used → a .level ≤ MOST-LEVELS → (openb d a ≡ true → Chain (a ∷ opened used ws)) → openb d a ≡ true → Fits (used + 4)
   room-on f l c o =
       let h = chain-length a (opened used ws) (c o) in

@@ -20,7 +20,7 @@ use Rattle.lists.proofs.WalkLaws.{head-open, head-shut, head-none}
 use Rattle.pairs.proofs.open.still_open.Statement.{statement}
 use Rattle.pairs.proofs.open.still_open.Tie as tie
 
--- the top lies in the last four words in use
+-- The top lies in the last four words in use.
 module _ (ws : List ℕ) (u : ℕ) (n e : Node) (h : 0 < u) (m : u % 4 ≡ 0) (q : e ≡ nodeAt ws ((u - 4) / 4)) where
   at-top : e ≡ nodeAt ws (u / 4 - 1)
   at-top = q ∙ ap (nodeAt ws) (omega arith)

@@ -17,7 +17,7 @@ use Rattle.readers.proofs.opening.kept_part.Statement.{statement}
 use Rattle.readers.proofs.opening.kept_part.Tie as tie
 
 module _ (book : List ℕ) (o : Opened) (e : o ≡ checkBook book) where
-  -- the verdict is the book's own
+  -- The verdict is the book's own.
   own : o .verdict .answer ≡ bookVerdict book .answer
   unfolding checkBook
   own = ap (λ p. p .verdict .answer) e

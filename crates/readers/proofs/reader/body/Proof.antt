@@ -61,7 +61,7 @@ abbrev stayed : Stays (body.ended .signature .params) (body.ended .kept)
 stayed = (stay-none B yes, (stay-none (λ _. u32) yes, tt))
 
 module _ {M : Type 1} (𝓤 : URA M) (H : Heap 𝓤) (A : Atoms 𝓤) (mem : Memory → SProp 𝓤) (run : Routine → Fun 𝓤) where
-  -- the contract that the proof cites
+  -- The contract that the proof cites.
   abbrev TagBody : Contract 𝓤
   TagBody = tripleOf 𝓤 H A callee.signature (callee.spec 𝓤 H A mem run)
 
@@ -70,14 +70,14 @@ module _ {M : Type 1} (𝓤 : URA M) (H : Heap 𝓤) (A : Atoms 𝓤) (W : Given
   abbrev mach : Val
   mach = T′.lowered d
 
-  -- the machine value of the book
+  -- The machine value of the book.
   abbrev v : Val
   v = sliceVal (d .book .ptr) (length (d .book .now))
 
   abbrev at : Vals body.signature (κ, tt)
   at = (mach ∷ [], (vint w32 n ∷ [], tt))
 
-  -- what the contract says of the part returned: its bytes, and where they lie
+  -- What the contract says of the part returned: its bytes, and where they lie.
   abbrev Wanted : RefT (List ℕ) → Type 0
   Wanted s = record {
     contents : now s ≡ tagBody (now (d .book)) (d .lists) n;
@@ -93,11 +93,11 @@ module _ {M : Type 1} (𝓤 : URA M) (H : Heap 𝓤) (A : Atoms 𝓤) (W : Given
   abbrev Slice : RattleType
   Slice = ShrSlice (named 0) κ u8
 
-  -- the values of the reader's fields
+  -- The values of the reader's fields.
   abbrev vd : Values (D (κ, tt) .parts)
   vd = (d .book, (d .lists, tt))
 
-  -- what the callee is passed
+  -- What the callee is passed.
   abbrev passed : Vals callee.signature (κ, tt)
   passed = (v ∷ [], (vint w32 (d .lists) ∷ [], (vint w32 n ∷ [], tt)))
 
@@ -109,7 +109,7 @@ module _ {M : Type 1} (𝓤 : URA M) (H : Heap 𝓤) (A : Atoms 𝓤) (W : Given
       qed W ((‵ (flft κ q) ⊛ ‵ ftrue) ∷ ‵ (owns (Slice ∷ u32 ∷ u32 ∷ []) (d .book, (d .lists, (n, tt))) passed) ∷ []) ∵
       join ! $ frame ! $ done !
 
-  -- what the reader owns gives what the callee asks for, and is kept as well
+  -- What the reader owns gives what the callee asks for, and is kept as well.
   apart : d .lists < 2 ^ 32
       → ent 𝓤 (onEntry 𝓤 H A body.signature (κ, tt) (q, tt) (d, (n, tt)) at) (sep 𝓤 (TagBody 𝓤 H A mem run .pre to) (sem 𝓤 H A Own))
   apart fits =
@@ -125,8 +125,8 @@ module _ {M : Type 1} (𝓤 : URA M) (H : Heap 𝓤) (A : Atoms 𝓤) (W : Given
       owned ! u32 (Is u32) (uint-makes 𝓤 H A W w32) (d .lists) _ (refl, fits) $ fjoin ! $ move ! (1 ∷ 0 ∷ []) $ fjoin ! $
       move ! (2 ∷ 0 ∷ []) $ use2 W (raw (TagBody 𝓤 H A mem run .pre to)) asked $ frame ! $ done !)
 
-  -- of what the callee promises only its contract's fact is kept: it lends nothing mutably, so
-  -- there are no last values
+  -- Of what the callee promises only its contract's fact is kept: it lends nothing mutably, so
+  -- there are no last values.
   said : (s : RefT (List ℕ))
       → ent 𝓤 (ensured 𝓤 H A callee.ended (callee.clauses 𝓤 H A mem run) (κ, tt) (d .book, (d .lists, (n, tt))) tt s) (fact 𝓤 (Wanted s))
   said s = exE 𝓤 _ (λ ws. snd∗ 𝓤 (sem 𝓤 H A (lasts callee.ended (κ, tt) (d .book, (d .lists, (n, tt))) ws)) (fact 𝓤 (Wanted s)))

@@ -62,7 +62,7 @@ use Rattle.readers.proofs.reader.body_in.Code as code
 abbrev stayed : Stays (body-in.ended .signature .params) (body-in.ended .kept)
 stayed = (stay-none-slice (0 ∷ []) tt (plain (λ _. u8)) yes, (stay-none (λ _. u32) yes, tt))
 
--- the tag's body in the part that is kept is `keptBody`, and lies where that lies
+-- The tag's body in the part that is kept is `keptBody`, and lies where that lies.
 module _ (part bytes : List ℕ) (lists tag : ℕ) (p : part ≡ keptOf bytes) (l : lists ≡ keptLists bytes) where
   body-kept : tagBody part lists tag ≡ keptBody bytes tag
   unfolding keptBody
@@ -73,7 +73,7 @@ module _ (part bytes : List ℕ) (lists tag : ℕ) (p : part ≡ keptOf bytes) (
   place-kept at start e = rw (p, l, e) refl
 
 module _ {M : Type 1} (𝓤 : URA M) (H : Heap 𝓤) (A : Atoms 𝓤) (mem : Memory → SProp 𝓤) (run : Routine → Fun 𝓤) where
-  -- the contracts that the proof cites
+  -- The contracts that the proof cites.
   abbrev Opening : Contract 𝓤
   Opening = tripleOf 𝓤 H A opening.signature (opening.spec 𝓤 H A mem run)
 
@@ -82,7 +82,7 @@ module _ {M : Type 1} (𝓤 : URA M) (H : Heap 𝓤) (A : Atoms 𝓤) (mem : Mem
 
 module _ {M : Type 1} (𝓤 : URA M) (H : Heap 𝓤) (A : Atoms 𝓤) (W : Given 𝓤 H A) (mem : Memory → SProp 𝓤) (run : Routine → Fun 𝓤)
     (κ : Lft) (q : Share) (bytes : RefT (List ℕ)) (n : ℕ) (ok : n < 2 ^ 32) where
-  -- the machine value that the bytes have
+  -- The machine value that the bytes have.
   abbrev v : Val
   v = sliceVal (bytes .ptr) (length (bytes .now))
 
@@ -92,7 +92,7 @@ module _ {M : Type 1} (𝓤 : URA M) (H : Heap 𝓤) (A : Atoms 𝓤) (W : Given
   abbrev Own : Fml
   Own = Slice .own bytes (v ∷ [])
 
-  -- the reader's type, as a local variable has it
+  -- The reader's type, as a local variable has it.
   abbrev αᵉ : NamedLft
   αᵉ = record { mir = erased; lft = κ }
 
@@ -102,7 +102,7 @@ module _ {M : Type 1} (𝓤 : URA M) (H : Heap 𝓤) (A : Atoms 𝓤) (W : Given
   abbrev Post : Val → SProp 𝓤
   Post = walkOf 𝓤 H A body-in.ended stayed (body-in.clauses 𝓤 H A mem run) .post (((κ, tt), (q, tt), tt, (bytes, (n, tt)), at), tt)
 
-  -- the call of `open`: what it is passed, what it asks for, and what is known of its result
+  -- The call of `open`: what it is passed, what it asks for, and what is known of its result.
   abbrev to-open : Opening 𝓤 H A mem run .Ghost
   to-open = (((κ, tt), (q, tt), tt, (bytes, tt), (v ∷ [], tt)), tt)
 
@@ -124,7 +124,7 @@ module _ {M : Type 1} (𝓤 : URA M) (H : Heap 𝓤) (A : Atoms 𝓤) (W : Given
   opened : (r : Reader) → ent 𝓤 (ensured 𝓤 H A opening.ended (opening.clauses 𝓤 H A mem run) (κ, tt) (bytes, tt) tt r) (fact 𝓤 (Opened r))
   opened r = exE 𝓤 _ (λ ws. snd∗ 𝓤 (sem 𝓤 H A (lasts opening.ended (κ, tt) (bytes, tt) ws)) (fact 𝓤 (Opened r)))
 
-  -- the call of `body`, at the reader r with the machine value u
+  -- The call of `body`, at the reader r with the machine value u.
   abbrev to-body : Reader → Val → Body 𝓤 H A mem run .Ghost
   to-body r u = (((κ, tt), (q, tt), tt, (r, (n, tt)), (u ∷ [], (vint w32 n ∷ [], tt))), tt)
 

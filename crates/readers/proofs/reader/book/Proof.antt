@@ -50,7 +50,7 @@ module _ {M : Type 1} (𝓤 : URA M) (H : Heap 𝓤) (A : Atoms 𝓤) (W : Given
   abbrev mach : Val
   mach = T′.lowered d
 
-  -- the machine value of the book
+  -- The machine value of the book.
   abbrev v : Val
   v = sliceVal (d .book .ptr) (length (d .book .now))
 
@@ -60,7 +60,7 @@ module _ {M : Type 1} (𝓤 : URA M) (H : Heap 𝓤) (A : Atoms 𝓤) (W : Given
   abbrev Own : Fml
   Own = B (κ, tt) .own d (mach ∷ [])
 
-  -- the values of the reader's fields
+  -- The values of the reader's fields.
   abbrev vd : Values (D (κ, tt) .parts)
   vd = (d .book, (d .lists, tt))
 

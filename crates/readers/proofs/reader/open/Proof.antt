@@ -64,13 +64,13 @@ use Rattle.readers.proofs.reader.open.Code as code
 abbrev stayed : Stays (opening.ended .signature .params) (opening.ended .kept)
 stayed = (stay-none-slice (0 ∷ []) tt (plain (λ _. u8)) yes, tt)
 
--- the number of lists in the part that is kept is `keptLists`
+-- The number of lists in the part that is kept is `keptLists`.
 lists-kept : (part bytes : List ℕ) (n : ℕ) → part ≡ keptOf bytes → n ≡ listsIn part → n ≡ keptLists bytes
 unfolding keptLists
 lists-kept part bytes n p e = e ∙ ap listsIn p
 
 module _ {M : Type 1} (𝓤 : URA M) (H : Heap 𝓤) (A : Atoms 𝓤) (mem : Memory → SProp 𝓤) (run : Routine → Fun 𝓤) where
-  -- the contracts that the proof cites
+  -- The contracts that the proof cites.
   abbrev Keeping : Contract 𝓤
   Keeping = tripleOf 𝓤 H A keeping.signature (keeping.spec 𝓤 H A mem run)
 
@@ -82,7 +82,7 @@ module _ {M : Type 1} (𝓤 : URA M) (H : Heap 𝓤) (A : Atoms 𝓤) (mem : Mem
 
 module _ {M : Type 1} (𝓤 : URA M) (H : Heap 𝓤) (A : Atoms 𝓤) (W : Given 𝓤 H A) (mem : Memory → SProp 𝓤) (run : Routine → Fun 𝓤)
     (κ : Lft) (q : Share) (bytes : RefT (List ℕ)) where
-  -- the machine value that the bytes have
+  -- The machine value that the bytes have.
   abbrev v : Val
   v = sliceVal (bytes .ptr) (length (bytes .now))
 
@@ -95,7 +95,7 @@ module _ {M : Type 1} (𝓤 : URA M) (H : Heap 𝓤) (A : Atoms 𝓤) (W : Given
   abbrev Post : Val → SProp 𝓤
   Post = walkOf 𝓤 H A opening.ended stayed (opening.clauses 𝓤 H A mem run) .post (((κ, tt), (q, tt), tt, (bytes, tt), (v ∷ [], tt)), tt)
 
-  -- the call of `kept_part`: what it is passed, what it asks for, and what is known of its result
+  -- The call of `kept_part`: what it is passed, what it asks for, and what is known of its result.
   abbrev to-keep : Keeping 𝓤 H A mem run .Ghost
   to-keep = (((κ, tt), (q, tt), tt, (bytes, tt), (v ∷ [], tt)), tt)
 
@@ -113,8 +113,8 @@ module _ {M : Type 1} (𝓤 : URA M) (H : Heap 𝓤) (A : Atoms 𝓤) (W : Given
   kept : (s : RefT (List ℕ)) → ent 𝓤 (ensured 𝓤 H A keeping.ended (keeping.clauses 𝓤 H A mem run) (κ, tt) (bytes, tt) tt s) (fact 𝓤 (Kept s))
   kept s = exE 𝓤 _ (λ ws. snd∗ 𝓤 (sem 𝓤 H A (lasts keeping.ended (κ, tt) (bytes, tt) ws)) (fact 𝓤 (Kept s)))
 
-  -- the call of `list_count`, with the part s and its machine value u, of which a copy stays for
-  -- the reader
+  -- The call of `list_count`, with the part s and its machine value u, of which a copy stays for
+  -- the reader.
   abbrev to-count : RefT (List ℕ) → Val → Counting 𝓤 H A mem run .Ghost
   to-count s u = (((κ, tt), (q, tt), tt, (s, tt), (u ∷ [], tt)), tt)
 
@@ -134,7 +134,7 @@ module _ {M : Type 1} (𝓤 : URA M) (H : Heap 𝓤) (A : Atoms 𝓤) (W : Given
       → ent 𝓤 (ensured 𝓤 H A counting.ended (counting.clauses 𝓤 H A mem run) (κ, tt) (s, tt) tt n) (fact 𝓤 (Counted s n))
   counted s n = exE 𝓤 _ (λ ws. snd∗ 𝓤 (sem 𝓤 H A (lasts counting.ended (κ, tt) (s, tt) ws)) (fact 𝓤 (Counted s n)))
 
-  -- the call of `over`, with the part s and the number n and their machine values u and w
+  -- The call of `over`, with the part s and the number n and their machine values u and w.
   abbrev to-over : RefT (List ℕ) → Val → ℕ → Val → Over 𝓤 H A mem run .Ghost
   to-over s u n w = (((κ, tt), (q, tt), tt, (s, (n, tt)), (u ∷ [], (w ∷ [], tt))), tt)
 

@@ -50,7 +50,7 @@ stayed = (stay-none-slice (0 ∷ []) tt (plain (λ _. u8)) yes, (stay-none (λ _
 
 module _ {M : Type 1} (𝓤 : URA M) (H : Heap 𝓤) (A : Atoms 𝓤) (W : Given 𝓤 H A) (mem : Memory → SProp 𝓤) (run : Routine → Fun 𝓤)
     (κ : Lft) (q : Share) (book : RefT (List ℕ)) (n : ℕ) (ok : n < 2 ^ 32) where
-  -- the machine value of the book
+  -- The machine value of the book.
   abbrev v : Val
   v = sliceVal (book .ptr) (length (book .now))
 

@@ -26,7 +26,7 @@ module _ (xs ys : List ℕ) (v : Verdict) (q : v ≡ checkTwo xs ys) (a d : ℕ 
   unfolding faultyPart faultyPlace
   shown = (ap (λ (w : Verdict). partAt w xs ys) q, ap (λ (w : Verdict). placeAt w a d xs ys) q)
 
-  -- what is returned is the faulty part, and lies where that lies
+  -- What is returned is the faulty part, and lies where that lies.
   abbrev Right : List ℕ → ℕ × ℕ → Type 0
   Right words at = record { contents : words ≡ faultyPart xs ys; place : at ≡ faultyPlace a d xs ys }
 

@@ -33,12 +33,12 @@ use Rattle.writing.proofs.WantedLaws.{length-wanted, wanted-from, wante
 use Rattle.writing.proofs.check.check_bodies.Statement.{statement}
 use Rattle.writing.proofs.check.check_bodies.Tie as tie
 
--- where the bodies start
+-- Where the bodies start.
 abbrev start : List ℕ → ℕ
 start entries = contentsEnd (length (wanted entries))
 
--- the verdict on the bodies from an index on, out of the words from a place on, is the verdict on
--- all; the bodies end where the words do
+-- The verdict on the bodies from an index on, out of the words from a place on, is the verdict on
+-- all; the bodies end where the words do.
 pub record Checks (entries list : List ℕ) (from index : ℕ) : Type 0 where
   pub fit : laidb (start entries + 4 * from) (laidOut (start entries + 4 * from) (drop index (wanted entries))) (start entries + 4 * length list)
       ≡ true
@@ -81,7 +81,7 @@ module _ (entries list : List ℕ) (whole : length list % NODE-WORDS ≡ 0) (goo
         let e = laid-end (at + NODE-BYTES * w .count) (laidOut (at + NODE-BYTES * w .count) (drop (index + 1) (wanted entries))) _ on in
         omega arith
 
-    -- the words of the next body; the verdict on them is that on its nodes
+    -- The words of the next body; the verdict on them is that on its nodes.
     abbrev part : List ℕ
     part = take (from + 4 * w .count - from) (drop from list)
 
@@ -99,7 +99,7 @@ module _ (entries list : List ℕ) (whole : length list % NODE-WORDS ≡ 0) (goo
         let l = length-take-le (from + 4 * w .count - from) (drop from list) (omega arith) in
         rw (eq-eqb _ _ (whole-words part .1 (omega arith, omega arith))) (ap checkNodes part-nodes)
 
-    -- the bodies left are the next one's nodes and those after it
+    -- The bodies left are the next one's nodes and those after it.
     split : bodiesFor (drop index (wanted entries)) (nodes (drop from list))
         ≡ take (w .count) (nodes (drop from list)) ∷ bodiesFor (drop (index + 1) (wanted entries)) (nodes (drop (from + 4 * w .count) list))
     unfolding bodiesFor

@@ -31,7 +31,7 @@ use Rattle.writing.proofs.WantedLaws.{length-wanted, wanted-from}
 use Rattle.writing.proofs.check.pass_wanted.Statement.{statement}
 use Rattle.writing.proofs.check.pass_wanted.Tie as tie
 
--- if a list is passed, its body ends at the next place, and it isn't too long
+-- If a list is passed, its body ends at the next place, and it isn't too long.
 Ends : ContentsPlace → Entry → Step → Type 0
 Ends p e (Reached q) = (q .end ≡ p .end + NODE-BYTES * e .count) × (e .count ≤ MOST-NODES)
 Ends p e (Refused answer) = Unit {0}
@@ -49,7 +49,7 @@ passed-ends : (p : ContentsPlace) (e : Entry) (r : Step) → r ≡ stepOf p e �
 unfolding Ends
 passed-ends p e r s q h = subst (Ends p e) (sym s ∙ h) (ends p e)
 
--- the first `index` lists of the entries are passed
+-- The first `index` lists of the entries are passed.
 pub record Passed (entries : List ℕ) (lists index : ℕ) (p : ContentsPlace) : Type 0 where
   pub most : p .end ≤ contentsEnd lists + 65536 * index
   pub left : Left p (laidOut (p .end) (drop index (wanted entries))) (startOf lists) (contentsFor (wanted entries))

@@ -33,7 +33,7 @@ module _ (entries list : List ℕ) (lists : ℕ) (n : lists ≡ length entries /
       let e = same-lists in
       rw (many-broken (length (wanted entries)) (contentsFor (wanted entries)) (sizeFor (wanted entries) (nodes list)) (omega arith))
 
-  -- the size that the book will have
+  -- The size that the book will have.
   sized : length list % NODE-WORDS ≡ 0 → (end : ℕ) → end ≡ contentsEnd lists → end + 4 * length list ≡ sizeFor (wanted entries) (nodes list)
   unfolding sizeFor
   sized whole end e =

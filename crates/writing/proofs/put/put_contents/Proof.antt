@@ -24,8 +24,8 @@ use Rattle.writing.proofs.WantedLaws.{length-wanted, wanted-from, wante
 use Rattle.writing.proofs.put.put_contents.Statement.{statement}
 use Rattle.writing.proofs.put.put_contents.Tie as tie
 
--- the entries from an index on, stored from there on, give what all entries give, stored from the
--- start on
+-- The entries from an index on, stored from there on, give what all entries give, stored from the
+-- start on.
 pub record Puts (entries out₀ : List ℕ) (end₀ index end : ℕ) (out : List ℕ) : Type 0 where
   pub same : length out ≡ length out₀
   pub most : end ≤ end₀ + 65536 * index
@@ -58,7 +58,7 @@ module _ (entries out₀ : List ℕ) (end₀ index end : ℕ) (out : List ℕ) (
       let l = length-wanted entries in
       ap (λ ws. sets out (4 * (1 + 3 * index)) (laidBytes end ws)) (sym (drop-of-length-le (wanted entries) {i = index} (omega arith))) ∙ p .whole
 
--- with the number of lists before them the entries are all that is to be written
+-- With the number of lists before them the entries are all that is to be written.
 ends : (entries out₀ out : List ℕ) (lists end₀ : ℕ) (start : List ℕ) → lists ≡ length entries / WANTED-WORDS → end₀ ≡ contentsEnd lists
     → 1 + 3 * (length entries / WANTED-WORDS) ≤ numberCount out₀ → start ≡ putNumber out₀ 0 lists
     → out ≡ sets start 4 (laidBytes end₀ (wanted entries))

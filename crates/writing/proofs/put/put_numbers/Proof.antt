@@ -19,8 +19,8 @@ use Rattle.writing.proofs.Putting.{put-on, length-put}
 use Rattle.writing.proofs.put.put_numbers.Statement.{statement}
 use Rattle.writing.proofs.put.put_numbers.Tie as tie
 
--- the words from an index on, stored from there on, give what all words give, stored from the start
--- on
+-- The words from an index on, stored from there on, give what all words give, stored from the start
+-- on.
 pub record Puts (words : List ℕ) (out₀ : List ℕ) (from index : ℕ) (out : List ℕ) : Type 0 where
   pub same : length out ≡ length out₀
   pub whole : sets out (4 * (from + index)) (wordsIn bytesOf (drop index words)) ≡ sets out₀ (4 * from) (wordsIn bytesOf words)

@@ -51,7 +51,7 @@ module _ (entries list : List ℕ) (v : Verdict) (q : v ≡ checkWanted entries 
     few : length entries / WANTED-WORDS ≤ MOST-LISTS
     few = wanted-few entries (nodes list) faultless
 
-    -- the size tested for is the book's
+    -- The size tested for is the book's.
     sized : (lists end size : ℕ) → lists ≡ length entries / WANTED-WORDS → end ≡ contentsEnd lists → size ≡ end + 4 * length list
         → length (bytesFor entries list) ≡ size
     unfolding bytesFor sizeFor
@@ -67,7 +67,7 @@ module _ (entries list : List ℕ) (v : Verdict) (q : v ≡ checkWanted entries 
         let w = write-room entries list out was-taken (omega arith) in
         record { answer = e ∙ sym (w .0); output = sym (w .1) }
 
-    -- the nodes after the contents make the book
+    -- The nodes after the contents make the book.
     book-made : (out front last : List ℕ) (lists : ℕ) → lists ≡ length entries / WANTED-WORDS → length (bytesFor entries list) ≤ length out
         → front ≡ written (wordsIn bytesOf (length (wanted entries) ∷ wordsIn entryNumbers (contentsFor (wanted entries)))) out
         → last ≡ sets front (4 * (1 + 3 * lists)) (wordsIn bytesOf list) → last ≡ written (bytesFor entries list) out
