@@ -1,4 +1,4 @@
--- Docs/SCOPE.md, "Answer numbers": the numbers by name, and the one table of names.
+-- docs/SCOPE.md, "Answer numbers": the numbers by name, and the one table of names.
 use Prim.Native.Nat.{ℕ}
 use Prim.Native.Char.{code}
 use Prim.Native.String.{String, len, charAt}

@@ -1,4 +1,4 @@
--- Docs/SCOPE.md, "Answer numbers": a call writes its result at the beginning of the output and
+-- docs/SCOPE.md, "Answer numbers": a call writes its result at the beginning of the output and
 -- alters no word beyond it. Where the output is shorter than the result, or the call has another
 -- fault, it alters no word.
 use Prim.Native.Nat.{ℕ}

@@ -1,4 +1,4 @@
--- Docs/SCOPE.md, "Answer numbers": what a check answers. It gives the number, the list that it
+-- docs/SCOPE.md, "Answer numbers": what a check answers. It gives the number, the list that it
 -- names, and the faulty node's index. A call that writes also gives the count of what it wrote.
 use Prim.Native.Nat.{ℕ}
 use mathlib.Core.Bool.{Bool, not}

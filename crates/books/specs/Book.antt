@@ -1,4 +1,4 @@
--- Docs/SCOPE.md, "The field book": its bodies, and the answer for a book.
+-- docs/SCOPE.md, "The field book": its bodies, and the answer for a book.
 use Prim.Native.Nat.{ℕ, suc, _*_}
 use mathlib.Core.Bool.{cond}
 use mathlib.Core.List.{List, [], _∷_, map}

@@ -1,4 +1,4 @@
--- Docs/SCOPE.md, "The field book": a list of a book by its tag or by its position, or ABSENT.
+-- docs/SCOPE.md, "The field book": a list of a book by its tag or by its position, or ABSENT.
 use Prim.Native.Nat.{ℕ, _*_}
 use mathlib.Core.Bool.{Bool, cond}
 use mathlib.Core.List.{List}

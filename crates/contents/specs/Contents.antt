@@ -1,4 +1,4 @@
--- Docs/SCOPE.md, "The field book": the table of contents and its rules.
+-- docs/SCOPE.md, "The field book": the table of contents and its rules.
 use Prim.Native.Nat.{ℕ, _+_, _*_, _-_, _/_}
 use mathlib.Core.Bool.{Bool, true, cond, not, _&&_, _||_}
 use mathlib.Core.List.{List, [], _∷_}

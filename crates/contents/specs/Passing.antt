@@ -1,4 +1,4 @@
--- Docs/SCOPE.md, "The field book": the rules of the contents, list by list, as the step along them
+-- docs/SCOPE.md, "The field book": the rules of the contents, list by list, as the step along them
 -- answers.
 use Prim.Native.Nat.{ℕ, _+_, _*_}
 use mathlib.Core.Bool.{Bool, true, false, cond, not, _&&_, _||_}

@@ -1,4 +1,4 @@
--- Docs/SCOPE.md, "Figures to hold against it": the cases marked [P] and some of our own, as rows of
+-- docs/SCOPE.md, "Figures to hold against it": the cases marked [P] and some of our own, as rows of
 -- one table. Each row has its number above it.
 use Prim.Native.Nat.{ℕ, _*_}
 use mathlib.Core.Bool.{Bool, true, false, cond, _&&_}

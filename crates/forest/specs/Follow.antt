@@ -1,4 +1,4 @@
--- Docs/SCOPE.md, "The containment forest": the nodes that are met by following `next` from a node.
+-- docs/SCOPE.md, "The containment forest": the nodes that are met by following `next` from a node.
 use Prim.Native.Nat.{ℕ, zero, suc}
 use mathlib.Core.Bool.{cond}
 use mathlib.Core.List.{List, [], _∷_}

@@ -1,4 +1,4 @@
--- Docs/SCOPE.md, "The containment forest": what the call answers and writes. The list's checks come
+-- docs/SCOPE.md, "The containment forest": what the call answers and writes. The list's checks come
 -- first, then ROOM.
 use Prim.Native.Nat.{ℕ}
 use mathlib.Core.List.{List}

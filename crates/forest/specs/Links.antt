@@ -1,4 +1,4 @@
--- Docs/SCOPE.md, "The containment forest": the links of a list, over all its nodes.
+-- docs/SCOPE.md, "The containment forest": the links of a list, over all its nodes.
 use Prim.Native.Nat.{ℕ, zero, suc}
 use mathlib.Core.Bool.{Bool, cond, not, _&&_}
 use mathlib.Core.List.{List, [], _∷_, _++_, map}

@@ -1,4 +1,4 @@
--- Docs/SCOPE.md, "The printing program": the lines that it prints, as ASCII bytes.
+-- docs/SCOPE.md, "The printing program": the lines that it prints, as ASCII bytes.
 use Prim.Native.Nat.{ℕ, zero, suc, _+_, _/_, _%_}
 use Prim.Native.String.{String}
 use mathlib.Core.Bool.{cond, not}

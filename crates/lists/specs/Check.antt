@@ -1,4 +1,4 @@
--- Docs/SCOPE.md, "Answer numbers": the answer for one list.
+-- docs/SCOPE.md, "Answer numbers": the answer for one list.
 use Prim.Native.Nat.{ℕ, suc, _%_}
 use mathlib.Core.Bool.{Bool, cond, not}
 use mathlib.Core.List.{List, [], _∷_}

@@ -1,4 +1,4 @@
--- Docs/SCOPE.md, "Answer numbers", rows 3 to 7: what is wrong at a node, given all the nodes before
+-- docs/SCOPE.md, "Answer numbers", rows 3 to 7: what is wrong at a node, given all the nodes before
 -- it, the last one first.
 use Prim.Native.Nat.{ℕ}
 use mathlib.Core.Bool.{Bool, false, cond, not, _&&_, _||_}

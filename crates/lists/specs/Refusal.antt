@@ -1,4 +1,4 @@
--- Docs/SCOPE.md, "Answer numbers", rows 1 to 8: the same rules, said by the nodes that draw an
+-- docs/SCOPE.md, "Answer numbers", rows 1 to 8: the same rules, said by the nodes that draw an
 -- answer and not by a check.
 use Prim.Native.Nat.{ℕ, _%_, _≤_, _<_}
 use mathlib.Core.Path.{_≡_}

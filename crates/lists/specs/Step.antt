@@ -1,4 +1,4 @@
--- Docs/SCOPE.md, "Answer numbers": the answer number and values that each of a step's two cases
+-- docs/SCOPE.md, "Answer numbers": the answer number and values that each of a step's two cases
 -- stands for.
 use Rattle.answers.specs.declared.verdict.Verdict.{Verdict}
 use Rattle.answers.specs.Verdict.{taken}

@@ -1,4 +1,4 @@
--- Docs/SCOPE.md, "Answer numbers", row 8 and the paragraph below the table: the answer for two
+-- docs/SCOPE.md, "Answer numbers", row 8 and the paragraph below the table: the answer for two
 -- lists.
 use Prim.Native.Nat.{ℕ}
 use mathlib.Core.Bool.{Bool, cond, not, _&&_, _||_}

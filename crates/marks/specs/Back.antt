@@ -1,4 +1,4 @@
--- Docs/SCOPE.md, "Marks and tables": how a table is turned back into marks.
+-- docs/SCOPE.md, "Marks and tables": how a table is turned back into marks.
 use Prim.Native.Nat.{ℕ, _-_}
 use mathlib.Core.Path.{_≡_}
 use mathlib.Core.Bool.{Bool, true, false, cond, _&&_}

@@ -1,4 +1,4 @@
--- Docs/SCOPE.md, "Marks and tables": what a mark does, and the checks on marks.
+-- docs/SCOPE.md, "Marks and tables": what a mark does, and the checks on marks.
 use Prim.Native.Nat.{ℕ, _+_, _-_}
 use mathlib.Core.Bool.{Bool, cond, not, _&&_, _||_}
 use mathlib.Core.List.{List, [], _∷_}

@@ -1,4 +1,4 @@
--- Docs/SCOPE.md, "Marks and tables": what the three calls answer and write.
+-- docs/SCOPE.md, "Marks and tables": what the three calls answer and write.
 use Prim.Native.Nat.{ℕ}
 use mathlib.Core.List.{List, map}
 use lib.Dec.{eqb}

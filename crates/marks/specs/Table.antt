@@ -1,4 +1,4 @@
--- Docs/SCOPE.md, "Marks and tables": the rows of a document's nodes, in start order, and the words
+-- docs/SCOPE.md, "Marks and tables": the rows of a document's nodes, in start order, and the words
 -- of a table.
 use Prim.Native.Nat.{ℕ, _+_, _-_, _%_, _/_, _≤_, _<_}
 use mathlib.Core.Path.{_≡_}

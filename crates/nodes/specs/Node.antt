@@ -1,4 +1,4 @@
--- Docs/SCOPE.md, "Nodes and lists": how two nodes lie to one another.
+-- docs/SCOPE.md, "Nodes and lists": how two nodes lie to one another.
 use mathlib.Core.Bool.{Bool, _&&_, _||_}
 use Prim.Native.Nat.{ℕ, _+_}
 use lib.Dec.{ltb, leb, eqb}

@@ -1,4 +1,4 @@
--- Docs/SCOPE.md, "Nodes and lists": a list of nodes is a list of words, four words a node, node
+-- docs/SCOPE.md, "Nodes and lists": a list of nodes is a list of words, four words a node, node
 -- after node.
 use Prim.Native.Nat.{ℕ, _*_, _/_}
 use mathlib.Core.Bool.{cond}

@@ -1,4 +1,4 @@
--- Docs/SCOPE.md, "The field book": all numbers are 32-bit little-endian.
+-- docs/SCOPE.md, "The field book": all numbers are 32-bit little-endian.
 use Prim.Native.Nat.{ℕ, _+_, _*_, _/_, _%_}
 use mathlib.Core.Bool.{cond}
 use mathlib.Core.List.{List, [], _∷_}

@@ -1,4 +1,4 @@
--- Docs/SCOPE.md, "Listings and tickets": keys are lists of numbers, compared number by number as
+-- docs/SCOPE.md, "Listings and tickets": keys are lists of numbers, compared number by number as
 -- words in a dictionary.
 use Prim.Native.Nat.{ℕ}
 use mathlib.Core.Bool.{Bool, true, false, _&&_, _||_}

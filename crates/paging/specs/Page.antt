@@ -1,4 +1,4 @@
--- Docs/SCOPE.md, "Listings and tickets": what remains of a listing past a place, the first of it
+-- docs/SCOPE.md, "Listings and tickets": what remains of a listing past a place, the first of it
 -- that fits, the new place, and done.
 use Prim.Native.Nat.{ℕ}
 use mathlib.Core.Bool.{Bool, true}

@@ -1,4 +1,4 @@
--- Docs/SCOPE.md, "Listings and tickets": what a page call answers and writes.
+-- docs/SCOPE.md, "Listings and tickets": what a page call answers and writes.
 use Prim.Native.Nat.{ℕ}
 use mathlib.Core.Bool.{Bool, false, cond}
 use mathlib.Core.List.{List, []}

@@ -1,4 +1,4 @@
--- Docs/SCOPE.md, "The printing program": its checks, in their order, and what it prints.
+-- docs/SCOPE.md, "The printing program": its checks, in their order, and what it prints.
 use Prim.Native.Nat.{ℕ}
 use mathlib.Core.Bool.{cond}
 use mathlib.Core.List.{List, _++_}

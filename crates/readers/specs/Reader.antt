@@ -1,4 +1,4 @@
--- Docs/SCOPE.md, "The field book": what a reader keeps of the caller's bytes. It keeps all of an
+-- docs/SCOPE.md, "The field book": what a reader keeps of the caller's bytes. It keeps all of an
 -- accepted book and an empty part of a refused one. Both begin where the caller's bytes begin.
 use Prim.Native.Nat.{ℕ}
 use mathlib.Core.Bool.{cond}

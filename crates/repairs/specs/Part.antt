@@ -1,4 +1,4 @@
--- Docs/SCOPE.md, "Answer numbers", last paragraph: the part at the faulty node, and where it
+-- docs/SCOPE.md, "Answer numbers", last paragraph: the part at the faulty node, and where it
 -- lies.
 use Prim.Native.Nat.{ℕ, _*_}
 use mathlib.Core.Bool.{Bool, cond, _&&_}

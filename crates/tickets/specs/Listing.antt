@@ -1,4 +1,4 @@
--- Docs/SCOPE.md, "Listings and tickets": the full listing, over both orders and both relations.
+-- docs/SCOPE.md, "Listings and tickets": the full listing, over both orders and both relations.
 use Prim.Native.Nat.{ℕ}
 use mathlib.Core.Bool.{Bool}
 use mathlib.Core.List.{List, [], _∷_, _++_, map}

@@ -1,4 +1,4 @@
--- Docs/SCOPE.md, "Listings and tickets": the words of a pair, and the room of an output.
+-- docs/SCOPE.md, "Listings and tickets": the words of a pair, and the room of an output.
 use Prim.Native.Nat.{ℕ, _/_}
 use mathlib.Core.List.{List, [], _∷_, _++_}
 use lib.ListN.{length}

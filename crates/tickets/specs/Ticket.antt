@@ -1,4 +1,4 @@
--- Docs/SCOPE.md, "Listings and tickets": which relation, which order and which place a
+-- docs/SCOPE.md, "Listings and tickets": which relation, which order and which place a
 -- ticket keeps.
 use Prim.Native.Nat.{ℕ}
 use mathlib.Core.List.{List, [], _∷_}

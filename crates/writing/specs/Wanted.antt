@@ -1,4 +1,4 @@
--- Docs/SCOPE.md, "The field book": what a book is written from, which is entries of tag and count
+-- docs/SCOPE.md, "The field book": what a book is written from, which is entries of tag and count
 -- and the nodes of all lists in sequence.
 use Prim.Native.Nat.{ℕ, _+_, _*_, _%_}
 use mathlib.Core.Bool.{Bool, cond, not}

@@ -1,4 +1,4 @@
--- Docs/SCOPE.md, "The field book": what writing answers and writes. Its checks are RAGGED,
+-- docs/SCOPE.md, "The field book": what writing answers and writes. Its checks are RAGGED,
 -- CONTENTS, the bodies and ROOM, in that order.
 use Prim.Native.Nat.{ℕ}
 use mathlib.Core.Bool.{cond, _||_}
