@@ -89,7 +89,7 @@ def times(measure, shape):
 
 
 def cell(code, measure, shape):
-    """Instructions, and microseconds where they were taken."""
+    """Returns the instructions, and the microseconds where they were taken."""
     taken = times(measure, shape)
     time = f"; {taken[code] / 1000:,.1f}" if taken else ""
     return f"{instructions(code, measure, shape):,}{time}"

@@ -4,6 +4,8 @@
 tests/oracles/make_books.py           writes the files
 tests/oracles/make_books.py --check   writes nothing, and fails where a file holds something else
 
+Both fail where crates/figures_books/data has a file that isn't made here.
+
 The books are put together number by number. What they answer comes from scope.py, which calls
 nothing of the library. So the stored outputs say what the program has to print, and not what it
 printed.
@@ -40,6 +42,8 @@ REFUSED = book(
          (12, 165, 170, 4), (12, 180, 215, 4), (12, 232, 238, 5), (12, 240, 245, 5),
          (12, 255, 265, 4), (12, 275, 278, 3)]))
 
+FOLDER = "crates/figures_books"
+
 # What crates/figures_books prints of entries that make no whole ones, after all books.
 RAGGED = "== entries of three words\nwritten 1 RAGGED list 0 index 0 bytes 0\n"
 
@@ -64,18 +68,28 @@ def sample_files():
 
 def figure_files():
     """Returns the files of crates/figures_books, by their paths."""
-    folder = "crates/figures_books"
     reports = [report(f"{name}.book", b) for name, b in CASES.items()]
     return {
-        **{f"{folder}/data/{name}.book": b for name, b in CASES.items()},
-        f"{folder}/args": "".join(f"{name}.book\n" for name in CASES),
-        f"{folder}/stdout": "".join(reports) + RAGGED,
+        **{f"{FOLDER}/data/{name}.book": b for name, b in CASES.items()},
+        f"{FOLDER}/args": "".join(f"{name}.book\n" for name in CASES),
+        f"{FOLDER}/stdout": "".join(reports) + RAGGED,
     }
 
 
 def files():
+    """Returns the content of each file, by its path."""
     return stored.as_bytes({**sample_files(), **figure_files()})
 
 
+def main():
+    """Writes or compares the files, and looks for others. Returns the exit status."""
+    status = stored.main(files)
+    there = {path.name for path in (stored.ROOT / FOLDER / "data").iterdir()}
+    extra = sorted(there - {f"{name}.book" for name in CASES})
+    for name in extra:
+        print(f"FAILED  {FOLDER}/data/{name} isn't made here")
+    return status or (1 if extra else 0)
+
+
 if __name__ == "__main__":
-    sys.exit(stored.main(files))
+    sys.exit(main())

@@ -587,7 +587,7 @@ class Csv(WithFiles):
         self.assertIn(":2:1: the tag", self.fails(_command.BAD_CSV, "pack", "-", "-", data=no_tag))
 
     def test_a_cleared_line_is_no_list_without_nodes(self):
-        """Such a line once lost its node without a word, since its tag has other lines."""
+        """Tries a line that once lost its node without a word, since its tag has other lines."""
         header, node, cleared = "tag,document,start,end,level\n", "2,5,2,10,2\n", "2,,,,\n"
         for rows, line, other in (
             (node + cleared, 3, 2), (cleared + node, 2, 3), (cleared + cleared, 3, 2),

@@ -118,7 +118,7 @@ class Memory(unittest.TestCase):
             self.assertRaisesRegex(Refused, "CONTENTS", belfry.book_check, nothing)
 
     def test_an_empty_list_in_rows(self):
-        """So does numpy return the nodes that a mask leaves, where it leaves none."""
+        """Reads what numpy returns for the nodes that a mask leaves, where it leaves none."""
         kinds = {belfry.nodes: 4, belfry.node_pairs: 8, belfry.rows: 5, belfry.node_links: 3}
         for read, numbers in kinds.items():
             self.assertEqual(list(read(in_rows(numbers))), [])

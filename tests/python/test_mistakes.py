@@ -112,7 +112,7 @@ class ListsSplitAndJoinedPieceByPiece(unittest.TestCase):
         self.assert_fault(Verdict(Answer.ORDER, 0, 4096))
 
     def test_a_zone_and_a_sample_at_odds_in_different_pieces_are_found(self):
-        """The last sample is given the end of the first zone, and its own zone is taken away."""
+        """Gives the last sample the end of the first zone, and takes its own zone away."""
         self.samples[-4 + END] = self.zones[END]
         del self.zones[-4:]
         self.assert_fault(Verdict(Answer.JOINT))
@@ -139,7 +139,7 @@ class APageWithRoomForNoPair(unittest.TestCase):
         self.assertRaises(TypeError, belfry.pairs, Z, S, room=1.5)
 
     def test_small_pages_are_nobodys_default(self):
-        """Each page checks both lists, so a page of few pairs costs as much as one of 4,096."""
+        """Checks the default room: a page of few pairs costs as much to check as one of 4,096."""
         for call in (belfry.pairs, Pieces.pairs):
             self.assertEqual(signature(call).parameters["room"].default, 4096)
 

@@ -50,7 +50,7 @@ class Model(unittest.TestCase):
         ])
 
     def test_more_zones_and_samples_than_a_call_takes(self):
-        """Six fields have 750 zones and 750 samples each, two of either in a nest."""
+        """Makes six fields of 750 zones and 750 samples each, two of either in a nest."""
         lines = [f"{name},,field,{name}," for name in "ghijk"]
         for at in range(2250):
             field = "fghijk"[at // 375]

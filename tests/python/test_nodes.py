@@ -90,7 +90,7 @@ class Books(unittest.TestCase):
         self.assertEqual((refused.name, refused.list, refused.index), ("ORDER", 1, 2))
 
     def test_words_never_move_from_one_list_to_the_next(self):
-        """Three words of one list and five of the next would make two whole nodes."""
+        """Writes three words of one list and five of the next, which would make two whole nodes."""
         message = "the list of tag 2 has 3 words after its last whole node"
         with self.assertRaisesRegex(ValueError, message):
             belfry.write_book({2: Z[:3], 3: Z[3:]})

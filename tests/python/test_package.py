@@ -140,7 +140,7 @@ class SharedObjects(unittest.TestCase):
         self.refuse(beside, found, "both must come from one build, as they do in dist/")
 
     def test_one_that_tells_no_version(self):
-        """A shared object of Python's own stands for one that was built before versions were."""
+        """Loads a shared object of Python's own, as if it were built before versions were."""
         os.environ["BELFRYCHEST_LIBRARY"] = _ctypes.__file__
         self.refuse(f"{Path(_ctypes.__file__).resolve()} tells no version",
                     f"the package is version {belfry.__version__};",
@@ -178,7 +178,7 @@ class SharedObjects(unittest.TestCase):
 
 class Readme(unittest.TestCase):
     def test_the_program_that_joins_in_several_processes(self):
-        """It runs as it stands, on the lists of test_mistakes."""
+        """Runs it as it stands, on the lists of test_mistakes."""
         text = (PYTHON / "README.md").read_text()
         blocks = re.findall(r"^```python\n(.*?)^```$", text, re.M | re.S)
         self.assertEqual(len(blocks), 1)

@@ -48,7 +48,7 @@ class AgainstTheArchive(unittest.TestCase):
         self.assertLessEqual(expected, seen)
 
     def test_a_crossing_that_also_is_too_deep_is_a_crossing(self):
-        """The last node is inside the first and not deep enough, and it crosses the second."""
+        """Tries a last node that is inside the first, not deep enough, and crosses the second."""
         crossed = in_five((1, 20, 5), (2, 5, 6), (7, 8, 6), (9, 10, 6), (4, 12, 3))
         sorted_ = in_five((1, 20, 5), (2, 5, 6), (4, 7, 3))
         for nodes in (crossed, sorted_):
@@ -162,7 +162,7 @@ class Whole(unittest.TestCase):
         self.assertEqual(cut.page(reached, out).ticket, ticket(0, 0, 1, 5, 4, 3))
 
     def test_pieces_that_the_ticket_has_passed_are_not_asked_but_checked(self):
-        """Three samples and two zones are in pieces of one."""
+        """Cuts three samples and two zones into pieces of one."""
         samples = in_five((4, 6, 4), (8, 8, 3), (9, 9, 3))
         cut = Pieces(Z, samples, _size=1)
         for place, calls in (((), 6), ((1, 5, 8, 2), 4), ((1, 5, 9, 2), 2), ((1, 6, 0, 0), 0)):

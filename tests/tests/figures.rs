@@ -157,7 +157,7 @@ fn empty_lists_have_no_pairs() {
 fn names_are_filled_up_with_blanks() {
     let name = |number| String::from_utf8(raw::name(number).to_vec()).expect("names are ASCII");
     let names: Vec<String> = (0..=17).chain([u32::MAX]).map(name).collect();
-    let table =
-        "TAKEN   RAGGED  LONG    LEVEL   SPAN    ORDER   CROSS   DEPTH   JOINT   ROOM    MARK    STRAY   DEEP    UNCLOSEDTABLE   CONTENTSABSENT  ";
+    let table = "TAKEN   RAGGED  LONG    LEVEL   SPAN    ORDER   CROSS   DEPTH   JOINT   \
+                 ROOM    MARK    STRAY   DEEP    UNCLOSEDTABLE   CONTENTSABSENT  ";
     assert_eq!(names.concat(), format!("{table}{:16}", ""));
 }
