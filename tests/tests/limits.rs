@@ -310,7 +310,7 @@ fn tags_of_a_book() {
     }
 }
 
-/// What the largest book of all answers: sixteen lists of the greatest length.
+/// Checks what the largest book of all answers: sixteen lists of the greatest length.
 #[test]
 fn nodes_of_a_book() {
     let lists: Vec<books::Tagged> = (0..MOST_LISTS as u32).map(|tag| (tag, texts(MOST))).collect();
@@ -352,7 +352,7 @@ fn counts_of_a_book() {
     }
 }
 
-/// Counts that add up to the nodes only where sums wrap at 32 bits.
+/// Tries counts that add up to the nodes only where sums wrap at 32 bits.
 #[test]
 fn counts_that_wrap() {
     for counts in [

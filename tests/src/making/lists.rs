@@ -190,7 +190,8 @@ pub fn list(random: &mut Random) -> Vec<u32> {
     mostly_sound(random, nodes)
 }
 
-/// Ancestors and descendants that are mostly accepted and mostly agree. A node may stand in both.
+/// Returns ancestors and descendants that are mostly accepted and mostly agree. A node may stand in
+/// both.
 pub fn two_lists(random: &mut Random) -> (Vec<u32>, Vec<u32>) {
     let (ancestors, descendants) = if random.one_in(4) {
         (wild(random), wild(random))
