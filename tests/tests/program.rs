@@ -105,8 +105,8 @@ fn the_books_of_the_examples() {
     hold(b"");
 }
 
-/// Tries books of one pair fewer than a page, one page, one pair more, two pages, one pair more, and
-/// 55 pages. A page has 4,096 pairs.
+/// Tries books of one pair fewer than a page, one page, one pair more, two pages, one pair more,
+/// and 55 pages. A page has 4,096 pairs.
 #[test]
 fn books_of_many_pages() {
     for (zones, samples) in [(63, 65), (32, 128), (17, 241), (32, 256), (3, 2_731), (60, 3_700)] {

@@ -148,8 +148,8 @@ fn refuses_book(lists: &[Tagged], verdict: Verdict) {
     });
 }
 
-/// Tries lists that differ in one word of one node, so that the node is at odds with the one that it
-/// was.
+/// Tries lists that differ in one word of one node, so that the node is at odds with the one that
+/// it was.
 #[test]
 fn two_lists_at_odds() {
     let edits: [fn(&mut Node); 5] = [
