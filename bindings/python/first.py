@@ -1,6 +1,6 @@
 from belfrychest import Node, pairs, words
 
-# Two zones of field 5, the second inside the first, and two samples: start, end and level of each.
+# Two zones of field 5, one inside the other, and two samples, by document, start, end and level.
 zones = words([Node(5, 2, 10, 2), Node(5, 3, 7, 3)])
 samples = words([Node(5, 4, 6, 4), Node(5, 8, 9, 3)])
 

@@ -36,7 +36,7 @@ module _ (t : Ticket) (c : Call) where
   abbrev Refused : Type 0
   Refused = answer t c .verdict .answer ≡ TAKEN → ⊥
 
-  -- The number, the list and the index are those of the table.
+  -- The number, the list and the index are what `checkTwo` says, which follows the table.
   pub answered-as-tabled : answer t c .verdict ≡ checkTwo (c .ancestors) (c .descendants)
   unfolding pageOf
   answered-as-tabled = refl
@@ -51,7 +51,7 @@ module _ (t : Ticket) (c : Call) where
   unfolding pageOf
   refused-alters-nothing r = refusal t c r
 
-  -- Refused or not, no word after the pairs that it counts is altered, none is added or taken away.
+  -- Refused or not, no word after the pairs that it counts is altered, and the length stays.
   pub beyond-is-never-altered : (drop (PAIR-WORDS * answer t c .count) (output t c) ≡ drop (PAIR-WORDS * answer t c .count) (c .out))
       × (length (output t c) ≡ length (c .out))
   beyond-is-never-altered = (beyond-kept t c, output-length t c)
@@ -72,7 +72,7 @@ module _ (ask : Asked) (c : Call) where
   pub no-pair-listed-twice : AcceptedCall c → EveryTwo (λ p q. p ≡ q → ⊥) (fullListing ask c)
   no-pair-listed-twice a = let l = lists-ascend c a in listed-once ask (nodes (c .ancestors)) (nodes (c .descendants)) (l .0) (l .1)
 
-  -- Each later pair's key stands above each earlier one's.
+  -- Keys strictly increase from pair to pair.
   pub listed-in-order : AcceptedCall c → EveryTwo (λ p q. aboveb (sortKey (ask .order) q) (sortKey (ask .order) p) ≡ true) (fullListing ask c)
   listed-in-order a = let l = lists-ascend c a in listing-ascends ask (nodes (c .ancestors)) (nodes (c .descendants)) (l .0) (l .1)
 

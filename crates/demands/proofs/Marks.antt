@@ -60,7 +60,7 @@ module _ (document : ℕ) (marks : List ℕ) (taken : checkMarks marks ≡ TAKEN
 
 -- Of any table:
 module _ (table : List ℕ) where
-  -- One that is taken is turned into its marks, and tells its document,
+  -- One that is accepted gives back its marks and its document number,
   pub taken-table-is-unnumbered : checkTable table ≡ TAKEN → (out : List ℕ) → length (tableMarks table) ≤ length out
       → (unnumberOutcome table out ≡ unnumbered TAKEN (documentOf (rows table)) (length (tableMarks table)))
       × (unnumberOutput table out ≡ written (tableMarks table) out)

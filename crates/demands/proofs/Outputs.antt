@@ -1,14 +1,20 @@
--- Demand 1 for the five other calls that write: `number`, `unnumber`, `pick`, `link_list` and
--- `write_book`. Two things hold of each: a refusal counts nothing and alters nothing, and no call
--- alters a word after those that it counts. A call that did otherwise would be caught here.
+-- Demand 1 for the other calls that write: `number`, `unnumber`, `pick`, `link_list`, `write_book`
+-- and `copy_lists`. A refusal counts nothing and alters nothing, and no call alters a word after
+-- those that it counts. A call that did otherwise would be caught here.
 use mathlib.Core.Path.{_≡_, refl}
 use mathlib.Core.List.{List}
+use mathlib.Core.Logic.{inl, inr}
 use Prim.Native.Nat.{ℕ, _*_}
 use native.Mathlib.Omega.{arith}
 use lib.ListN.{length, drop}
+use lib.Dec.{eqb}
+use lib.Seq.{drop-append-seam}
+use borrow.Author.Tests.{ne-eqb}
 use Rattle.answers.specs.Answer.{TAKEN}
 use Rattle.answers.specs.declared.verdict.Counted.{Counted}
 use Rattle.answers.proofs.OutputLaws.{refused-alters-nothing, beyond-unaltered, output-length}
+use Rattle.answers.specs.Output.{written}
+use Rattle.laws.proofs.Tests.{either}
 use Rattle.nodes.specs.Words.{NODE-WORDS, nodes}
 use Rattle.nodes.proofs.WordLaws.{length-nodes}
 use Rattle.lists.specs.Check.{checkWords}
@@ -24,6 +30,8 @@ use Rattle.forest.specs.Linked.{linksIn, linkedOf, linksOutput}
 use Rattle.forest.specs.Links.{LINK-WORDS}
 use Rattle.forest.proofs.LinkLaws.{links-length}
 use Rattle.writing.specs.WriteCall.{checkWanted, bytesFor, writtenOf, writtenOutput}
+use Rattle.joins.specs.declared.copy.Lengths.{Lengths}
+use Rattle.joins.specs.Join.{tagWords, copyAnswer, lengthsOf, firstAfter, secondAfter}
 
 -- A call whose answer isn't TAKEN counts nothing, and its output on return is the output it was
 -- lent.
@@ -63,7 +71,7 @@ module _ (table out : List ℕ) where
   unfolding unnumberOutcome unnumberOutput
   refused-unnumber-alters-nothing = refused-alters-nothing (checkTable table) (tableMarks table) out (length (tableMarks table))
 
-  -- and tells no document;
+  -- and returns document 0;
   pub refused-unnumber-tells-no-document : (unnumbering .answer ≡ TAKEN → ⊥) → unnumbering .document ≡ 0
   unfolding unnumberOutcome
   refused-unnumber-tells-no-document h = refused-alters-nothing (checkTable table) (tableMarks table) out (documentOf (rows table)) h .0
@@ -132,3 +140,26 @@ module _ (entries list out : List ℕ) where
       let fault = checkWanted entries list .answer in
       let bytes = bytesFor entries list in
       (beyond-unaltered fault bytes out 1 (length bytes) (writing .count) (omega arith) (omega arith), output-length fault bytes out)
+
+-- Copying the lists under two tags of a book into two outputs:
+module _ (book : List ℕ) (lists ancestors descendants : ℕ) (first second : List ℕ) where
+  abbrev copying : Lengths
+  copying = lengthsOf book lists ancestors descendants first second
+
+  -- a refusal counts no word and alters none of either output,
+  pub refused-copy-alters-nothing : (copyAnswer book lists ancestors descendants first second ≡ TAKEN → ⊥)
+      → (copying .ancestors ≡ 0) × (copying .descendants ≡ 0)
+      × (firstAfter book lists ancestors descendants first second ≡ first)
+      × (secondAfter book lists ancestors descendants first second ≡ second)
+  unfolding lengthsOf firstAfter secondAfter
+  refused-copy-alters-nothing h = rw (ne-eqb (copyAnswer book lists ancestors descendants first second) TAKEN h) (refl, refl, refl, refl)
+
+  -- and no word of an output after those that it counts is altered.
+  pub copy-keeps-beyond : (drop (copying .ancestors) (firstAfter book lists ancestors descendants first second) ≡ drop (copying .ancestors) first)
+      × (drop (copying .descendants) (secondAfter book lists ancestors descendants first second) ≡ drop (copying .descendants) second)
+  unfolding lengthsOf firstAfter secondAfter written
+  copy-keeps-beyond =
+      elim (either (eqb (copyAnswer book lists ancestors descendants first second) TAKEN)) [
+        | inl h ↦ rw h (drop-append-seam (tagWords book lists ancestors) _, drop-append-seam (tagWords book lists descendants) _)
+        | inr h ↦ rw h (refl, refl)
+      ]

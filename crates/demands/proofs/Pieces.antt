@@ -1,5 +1,5 @@
 -- The rule for lists of more nodes than one call takes, which are cut into pieces. Each clause is a
--- comment in words and the theorem that says it, which only cites its proof. `whole` is the list
+-- comment in words, and below it the theorem that says it. `whole` is the list
 -- before it was cut. A rule that lost a pair or passed a fault would be caught here.
 use Prim.Native.Nat.{ℕ, _≤_, _<_}
 use mathlib.Core.Path.{_≡_}
@@ -88,8 +88,8 @@ module _ (relation : Relation) where
       → pairsOf (asked relation Ancestor) (whole as′) descendants ≡ piecePairs (asked relation Ancestor) as′ (descendants ∷ [])
   ancestors-piece-by-piece as′ descendants no-cut = in-ancestor-order relation as′ descendants no-cut
 
-  -- The first n pairs of the whole past one place come from the pieces in turn, from each as many
-  -- as still fit:
+  -- Take pairs from the pieces in turn until there are n: these are the first n pairs of the whole
+  -- past one place,
   module _ (place : Spot) (n : ℕ) where
     -- in descendant order of the descendants' pieces,
     pub descendants-page-by-page : (ancestors : List ℕ) (ds : List (List ℕ)) → All WholeNodes ds
@@ -103,9 +103,8 @@ module _ (relation : Relation) where
         pageFor ask place n (whole as′) descendants ≡ inTurn (λ k a. pageFor ask place k a descendants) n as′
     ancestors-page-by-page as′ descendants no-cut = ancestors-in-turn relation place n as′ descendants no-cut
 
-    -- Both lists may be cut for that. For any room, let the pages of each leading piece with every
-    -- piece of the other list be merged by key. Their first pairs in turn are the page of the whole
-    -- lists:
+    -- Both lists may be cut for that. Where the pages of each leading piece with every piece of the
+    -- other list are merged by key, the same holds of what is merged,
     module _ (as′ ds : List (List ℕ)) (no-ancestor-cut : All WholeNodes as′) (no-descendant-cut : All WholeNodes ds)
         (ancestors-good : DrawsNone (whole as′)) (descendants-good : DrawsNone (whole ds)) (merged : ℕ → List ℕ → List Pair) where
       -- in descendant order,

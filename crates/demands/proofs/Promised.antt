@@ -1,6 +1,6 @@
 -- What else is promised: of one list, of the forest, of a book's answers, of the printing program
--- and of the C interface. Each clause is a comment in words and the theorem that says it, which
--- only cites its proof. A change that broke one would be caught here.
+-- and of the C interface. Each clause is a comment in words, and below it the theorem that
+-- says it. A change that broke one would be caught here.
 use mathlib.Core.Path.{_≡_}
 use mathlib.Core.Logic.{_↔_, _⊎_}
 use mathlib.Core.Bool.{true, false, cond, _&&_}

@@ -21,7 +21,7 @@ pub record Call : Type 0 where
   pub descendants : List ℕ
   pub out : List ℕ
 
--- The two lists of the call are accepted.
+-- The two lists of the call are accepted together, so that it isn't refused.
 abbrev pub AcceptedCall : Call → Type 0
 AcceptedCall c = checkTwo (c .ancestors) (c .descendants) .answer ≡ TAKEN
 
