@@ -4,17 +4,18 @@
 use mathlib.Core.Path.{_≡_, refl}
 use mathlib.Core.List.{List}
 use mathlib.Core.Logic.{inl, inr}
-use Prim.Native.Nat.{ℕ, _*_}
+use mathlib.Core.Bool.{_&&_}
+use Prim.Native.Nat.{ℕ, _*_, _≤_}
 use native.Mathlib.Omega.{arith}
-use lib.ListN.{length, drop}
-use lib.Dec.{eqb}
+use lib.ListN.{length, drop, length-append, length-drop}
+use lib.Dec.{eqb, leb}
 use lib.Seq.{drop-append-seam}
-use borrow.Author.Tests.{ne-eqb}
-use Rattle.answers.specs.Answer.{TAKEN}
+use borrow.Author.Tests.{eqb-true, leb-true}
+use Rattle.answers.specs.Answer.{TAKEN, ROOM, ABSENT}
 use Rattle.answers.specs.declared.verdict.Counted.{Counted}
 use Rattle.answers.proofs.OutputLaws.{refused-alters-nothing, beyond-unaltered, output-length}
 use Rattle.answers.specs.Output.{written}
-use Rattle.laws.proofs.Tests.{either}
+use Rattle.laws.proofs.Tests.{either, and-read}
 use Rattle.nodes.specs.Words.{NODE-WORDS, nodes}
 use Rattle.nodes.proofs.WordLaws.{length-nodes}
 use Rattle.lists.specs.Check.{checkWords}
@@ -31,7 +32,7 @@ use Rattle.forest.specs.Links.{LINK-WORDS}
 use Rattle.forest.proofs.LinkLaws.{links-length}
 use Rattle.writing.specs.WriteCall.{checkWanted, bytesFor, writtenOf, writtenOutput}
 use Rattle.joins.specs.declared.copy.Lengths.{Lengths}
-use Rattle.joins.specs.Join.{tagWords, copyAnswer, lengthsOf, firstAfter, secondAfter}
+use Rattle.joins.specs.Join.{tagWords, thereb, fitb, copyAnswer, lengthsOf, firstAfter, secondAfter}
 
 -- A call whose answer isn't TAKEN counts nothing, and its output on return is the output it was
 -- lent.
@@ -141,25 +142,70 @@ module _ (entries list out : List ℕ) where
       let bytes = bytesFor entries list in
       (beyond-unaltered fault bytes out 1 (length bytes) (writing .count) (omega arith) (omega arith), output-length fault bytes out)
 
+kept : (words out : List ℕ) → length words ≤ length out → KeepsBeyond (length words) out (written words out)
+unfolding written
+kept words out l = (
+  drop-append-seam words (drop (length words) out),
+  omega (arith, length-append words (drop (length words) out), length-drop (length words) out),
+)
+
 -- Copying the lists under two tags of a book into two outputs:
 module _ (book : List ℕ) (lists ancestors descendants : ℕ) (first second : List ℕ) where
   abbrev copying : Lengths
   copying = lengthsOf book lists ancestors descendants first second
 
-  -- a refusal counts no word and alters none of either output,
-  pub refused-copy-alters-nothing : (copyAnswer book lists ancestors descendants first second ≡ TAKEN → ⊥)
-      → (copying .ancestors ≡ 0) × (copying .descendants ≡ 0)
-      × (firstAfter book lists ancestors descendants first second ≡ first)
-      × (secondAfter book lists ancestors descendants first second ≡ second)
-  unfolding lengthsOf firstAfter secondAfter
-  refused-copy-alters-nothing h = rw (ne-eqb (copyAnswer book lists ancestors descendants first second) TAKEN h) (refl, refl, refl, refl)
+  abbrev first-copy : List ℕ
+  first-copy = firstAfter book lists ancestors descendants first second
 
-  -- and no word of an output after those that it counts is altered.
-  pub copy-keeps-beyond : (drop (copying .ancestors) (firstAfter book lists ancestors descendants first second) ≡ drop (copying .ancestors) first)
-      × (drop (copying .descendants) (secondAfter book lists ancestors descendants first second) ≡ drop (copying .descendants) second)
-  unfolding lengthsOf firstAfter secondAfter written
-  copy-keeps-beyond =
+  abbrev second-copy : List ℕ
+  second-copy = secondAfter book lists ancestors descendants first second
+
+  -- a refusal counts no word and alters none of the first output,
+  pub refused-copy-keeps-the-first : AltersNothing (copying .verdict .answer) (copying .ancestors) first first-copy
+  unfolding lengthsOf firstAfter
+  refused-copy-keeps-the-first r =
       elim (either (eqb (copyAnswer book lists ancestors descendants first second) TAKEN)) [
-        | inl h ↦ rw h (drop-append-seam (tagWords book lists ancestors) _, drop-append-seam (tagWords book lists descendants) _)
+        | inl h ↦ absurd (r (rw h refl))
+        | inr h ↦ rw h (refl, refl)
+      ]
+
+  -- nor of the second;
+  pub refused-copy-keeps-the-second : AltersNothing (copying .verdict .answer) (copying .descendants) second second-copy
+  unfolding lengthsOf secondAfter
+  refused-copy-keeps-the-second r =
+      elim (either (eqb (copyAnswer book lists ancestors descendants first second) TAKEN)) [
+        | inl h ↦ absurd (r (rw h refl))
+        | inr h ↦ rw h (refl, refl)
+      ]
+
+  fits : copyAnswer book lists ancestors descendants first second ≡ TAKEN
+      → (length (tagWords book lists ancestors) ≤ length first) × (length (tagWords book lists descendants) ≤ length second)
+  unfolding copyAnswer fitb
+  fits h =
+      let one = leb (length (tagWords book lists ancestors)) (length first) in
+      let two = leb (length (tagWords book lists descendants)) (length second) in
+      elim (either (thereb book lists ancestors descendants)) [
+        | inl t ↦ elim (either (one && two)) [
+          | inl f ↦ let p = and-read one f in (leb-true _ _ (p .0), leb-true _ _ (p .1))
+          | inr f ↦ let e : ROOM ≡ TAKEN = rw (t, f) at h in absurd (omega arith)
+        ]
+        | inr t ↦ let e : ABSENT ≡ TAKEN = rw t at h in absurd (omega arith)
+      ]
+
+  -- no word of the first output after those that it counts is altered,
+  pub copy-keeps-beyond-the-first : KeepsBeyond (copying .ancestors) first first-copy
+  unfolding lengthsOf firstAfter
+  copy-keeps-beyond-the-first =
+      elim (either (eqb (copyAnswer book lists ancestors descendants first second) TAKEN)) [
+        | inl h ↦ rw h (kept (tagWords book lists ancestors) first (fits (eqb-true _ _ h) .0))
+        | inr h ↦ rw h (refl, refl)
+      ]
+
+  -- nor of the second.
+  pub copy-keeps-beyond-the-second : KeepsBeyond (copying .descendants) second second-copy
+  unfolding lengthsOf secondAfter
+  copy-keeps-beyond-the-second =
+      elim (either (eqb (copyAnswer book lists ancestors descendants first second) TAKEN)) [
+        | inl h ↦ rw h (kept (tagWords book lists descendants) second (fits (eqb-true _ _ h) .1))
         | inr h ↦ rw h (refl, refl)
       ]
