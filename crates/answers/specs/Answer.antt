@@ -62,11 +62,14 @@ CONTENTS = 15
 abbrev pub ABSENT : ℕ
 ABSENT = 16
 
+abbrev pub READING : ℕ
+READING = 17
+
 -- The names, in the order of their numbers.
 unfoldable pub names : List String
 names =
     "TAKEN" ∷ "RAGGED" ∷ "LONG" ∷ "LEVEL" ∷ "SPAN" ∷ "ORDER" ∷ "CROSS" ∷ "DEPTH" ∷ "JOINT" ∷ "ROOM" ∷ "MARK" ∷ "STRAY" ∷ "DEEP"
-    ∷ "UNCLOSED" ∷ "TABLE" ∷ "CONTENTS" ∷ "ABSENT" ∷ []
+    ∷ "UNCLOSED" ∷ "TABLE" ∷ "CONTENTS" ∷ "ABSENT" ∷ "READING" ∷ []
 
 -- The ASCII byte at a place of a text, and a blank after its end.
 unfoldable pub letterAt : String → ℕ → ℕ

@@ -37,8 +37,13 @@ pub const CONTENTS: u32 = 15;
 
 pub const ABSENT: u32 = 16;
 
+pub const READING: u32 = 17;
+
+// How many rows the table of names has, one for each answer.
+const ROWS: usize = 18;
+
 // The name of each answer, in the row of its number, filled up with blanks.
-const NAMES: [[u8; 8]; 17] = [
+const NAMES: [[u8; 8]; ROWS] = [
     *b"TAKEN   ",
     *b"RAGGED  ",
     *b"LONG    ",
@@ -56,13 +61,14 @@ const NAMES: [[u8; 8]; 17] = [
     *b"TABLE   ",
     *b"CONTENTS",
     *b"ABSENT  ",
+    *b"READING ",
 ];
 
 // Returns the name of the answer `number`, or eight blanks for a number that no answer has.
 pub fn name_of(number: u32) -> [u8; 8]
     ensures { λ r. ⌜ r ≡ nameOf number ⌝ }
 {
-    if ABSENT < number {
+    if ROWS <= number as usize {
         return [b' '; 8];
     }
     NAMES[number as usize]

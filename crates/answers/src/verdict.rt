@@ -8,7 +8,7 @@ pub const ANCESTORS: u32 = 0;
 pub const DESCENDANTS: u32 = 1;
 
 // The answer of a check: its number, the list that it names, and the index of the faulty node in
-// that list, or 0.
+// that list, or 0. With READING it is the index of the sample.
 #[repr(C)]
 pub struct Verdict {
     pub answer: u32,
