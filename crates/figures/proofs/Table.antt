@@ -7,10 +7,11 @@ use mathlib.Core.Bool.{true}
 use mathlib.Core.List.{List, [], _∷_, flatMap}
 use Prim.Native.Nat.{ℕ}
 use lib.Dec.{eqb}
+use lib.Ieee.{ofInt, ofBits, toBits, div, lt}
 use borrow.Author.Tests.{eqb-true}
-use Rattle.laws.specs.Choose.{All, any, keep}
+use Rattle.laws.specs.Choose.{All, any, keep, firstAt}
 use Rattle.nodes.specs.Node.{endsb, insideb, deeperb, directlyb, apartb, afterb, openb, sameb}
-use Rattle.nodes.specs.Words.{nodes, wordsOf}
+use Rattle.nodes.specs.Words.{nodes, nodeAt, wordsOf}
 use Rattle.lists.specs.Check.{checkFrom, checkNodes, raggedb, longb, wordFault, checkWords}
 use Rattle.lists.specs.Fault.{levelb, spanb, orderb, crossb, depthb, fault}
 use Rattle.lists.specs.Two.{nestedb, agreeb, oddsb, jointb, checkTwo}
@@ -27,6 +28,9 @@ use Rattle.marks.specs.Outcome.{outcomeOf, numberOutcome, numberOutput, tableMa
 use Rattle.marks.specs.Table.{closeAt, endOf, rowsFrom, tableOf, rowWords, tableWords, rows, rowIn, rowFault}
 use Rattle.forest.specs.Linked.{linksIn, linkedOf, linksOutput}
 use Rattle.forest.specs.Links.{upTo, firstOf, nodeIn, indices, innermostb, parentOf, childOf, siblingb, nextOf, linkOf, linksOf, linkWords}
+use Rattle.readings.specs.Reading.{withinb, decode}
+use Rattle.readings.specs.Sample.{sampled, pairedb, inZone, present}
+use Rattle.ranges.specs.Range.{unbeaten, lowOf, highOf, rangeOf, zoneRange}
 use Rattle.laws.proofs.Tests.{never, and-read}
 use Rattle.figures.specs.Figures.{Figure, figures, equalb, heldb}
 
@@ -53,6 +57,7 @@ unfolding figures equalb heldb checkWords wordFault raggedb longb nodes checkNod
     openAfter strayb deepb markFault unclosedb faultFrom checkMarks outcomeOf numberOutcome numberOutput tableMarks unnumberOutcome
     unnumberOutput nodesWith pickedWords pickOutcome pickOutput closeAt endOf rowsFrom tableOf rowWords tableWords rows rowIn rowFault
     linksIn linkedOf linksOutput upTo firstOf nodeIn indices innermostb parentOf childOf siblingb nextOf linkOf linksOf linkWords
+    ofInt ofBits toBits div lt nodeAt firstAt withinb decode sampled pairedb inZone present unbeaten lowOf highOf rangeOf zoneRange
 computed = refl
 
 -- Each row's numbers are those that docs/SCOPE.md states.

@@ -2,14 +2,23 @@
 -- one table. Each row has its number above it.
 use Prim.Native.Nat.{ℕ, _*_}
 use mathlib.Core.Bool.{Bool, true, false, cond, _&&_}
-use mathlib.Core.List.{List, [], _∷_, _++_, map}
+use mathlib.Core.List.{List, [], _∷_, _++_, map, flatMap}
 use lib.Dec.{eqb}
+use lib.Ieee.{binary32, toBits}
 use lib.ListN.{length, replicate}
-use Rattle.answers.specs.Answer.{TAKEN, LEVEL, CROSS, DEPTH, JOINT, STRAY, UNCLOSED}
+use Rattle.answers.specs.Answer.{TAKEN, RAGGED, LEVEL, CROSS, DEPTH, JOINT, ABSENT, STRAY, UNCLOSED, READING}
 use Rattle.answers.specs.declared.verdict.Verdict.{Verdict}
 use Rattle.lists.specs.Check.{checkWords}
 use Rattle.lists.specs.Two.{checkTwo}
 use Rattle.answers.specs.Verdict.{ANCESTORS}
+use Rattle.readings.specs.declared.reading.Decoded.{Decoded}
+use Rattle.readings.specs.declared.reading.Decoded.the-variants.{Read, Faulty}
+use Rattle.readings.specs.declared.reading.Percentage.{Percentage}
+use Rattle.readings.specs.declared.reading.Percentage.the-variants.{Of, Missing}
+use Rattle.readings.specs.Reading.{MISSING, PERCENT, GRAMS, decode, percentOf}
+use Rattle.ranges.specs.declared.range.ZoneRange.{ZoneRange}
+use Rattle.ranges.specs.declared.range.ZoneRange.the-variants.{Found, NoReading, Refused}
+use Rattle.ranges.specs.Range.{zoneRange}
 use Rattle.tickets.specs.declared.ticket.Order.{Order}
 use Rattle.tickets.specs.declared.ticket.Order.the-variants.{Descendant, Ancestor}
 use Rattle.tickets.specs.declared.ticket.Place.{Place}
@@ -167,7 +176,62 @@ elevenMarks = 1 ∷ 2 ∷ 2 ∷ 3 ∷ TEXT ∷ 0 ∷ 0 ∷ 3 ∷ 0 ∷ 0 ∷ 0 �
 abbrev pub sixRows : List (ℕ × ℕ × ℕ × ℕ)
 sixRows = (1, 11, 1, 1) ∷ (2, 10, 2, 2) ∷ (3, 7, 3, 2) ∷ (4, 6, 4, 3) ∷ (5, 5, 5, TEXT) ∷ (8, 9, 3, 3) ∷ []
 
--- The table. A row's number and its meaning stand right above the row.
+-- A percentage as numbers: 1 and the bits of its value, or 1 alone where it is missing.
+abbrev pub percentNumbers : Percentage → List ℕ
+percentNumbers (Of p) = 1 ∷ toBits binary32 p ∷ []
+percentNumbers Missing = 1 ∷ []
+
+-- What two words stand for, as numbers: the percentage, or 0 for a fault.
+abbrev pub decodedNumbers : Decoded → List ℕ
+decodedNumbers (Read reading) = percentNumbers (percentOf reading)
+decodedNumbers Faulty = 0 ∷ []
+
+-- A figure of a reading in percent or in grams that is taken: the bits of its value in percent.
+abbrev pub value : ℕ → ℕ → ℕ → Figure
+value kind bits percent = record { found = decodedNumbers (decode kind bits); stated = 1 ∷ percent ∷ [] }
+
+-- A figure of two words that stand for a missing reading.
+abbrev pub missing : ℕ → ℕ → Figure
+missing kind bits = record { found = decodedNumbers (decode kind bits); stated = 1 ∷ [] }
+
+-- A figure of words that stand for no reading, each two given as (kind, bits).
+abbrev pub unread : List (ℕ × ℕ) → Figure
+unread pairs = record { found = flatMap (λ p. decodedNumbers (decode (p .0) (p .1))) pairs; stated = replicate (length pairs) 0 }
+
+-- What a zone's range shows, as numbers: the verdict, then 1 with the bits of low and high, or 0
+-- where there is neither.
+abbrev pub rangeNumbers : ZoneRange → List ℕ
+rangeNumbers (Found r) = TAKEN ∷ ANCESTORS ∷ 0 ∷ 1 ∷ toBits binary32 (r .low) ∷ toBits binary32 (r .high) ∷ []
+rangeNumbers NoReading = TAKEN ∷ ANCESTORS ∷ 0 ∷ 0 ∷ []
+rangeNumbers (Refused v) = verdictNumbers v ++ (0 ∷ [])
+
+-- What a zone shows whose readings go from one value to another, both given by their bits.
+abbrev pub fromTo : ℕ → ℕ → List ℕ
+fromTo low high = TAKEN ∷ ANCESTORS ∷ 0 ∷ 1 ∷ low ∷ high ∷ []
+
+-- What a zone shows in which no sample has a reading.
+abbrev pub noReading : List ℕ
+noReading = TAKEN ∷ ANCESTORS ∷ 0 ∷ 0 ∷ []
+
+-- What a refused question about a zone shows.
+abbrev pub refusal : ℕ → ℕ → List ℕ
+refusal answer index = answer ∷ ANCESTORS ∷ index ∷ 0 ∷ []
+
+-- A figure of the range of a zone, which is given by its index.
+abbrev pub range : Nodes → Nodes → List ℕ → ℕ → List ℕ → Figure
+range zones samples readings zone stated =
+    record { found = rangeNumbers (zoneRange (words zones) (words samples) readings zone); stated = stated }
+
+-- Readings of S: 4.5 percent and 38 grams.
+abbrev pub R : List ℕ
+R = PERCENT ∷ 1083179008 ∷ GRAMS ∷ 1108869120 ∷ []
+
+-- Readings of S, of which the second is of kind 3, which isn't there.
+abbrev pub secondFaulty : List ℕ
+secondFaulty = PERCENT ∷ 1083179008 ∷ 3 ∷ 0 ∷ []
+
+-- The table. A row's number and its meaning stand right above the row. A float is given by its
+-- bits, and the line above says which number that is.
 unfoldable pub figures : List Figure
 figures =
     -- 1: a start at an end crosses.
@@ -233,6 +297,82 @@ figures =
     ∷ faulty [] UNCLOSED
     -- 30: a second root.
     ∷ faulty (1 ∷ 0 ∷ 1 ∷ 0 ∷ []) STRAY
+    -- 31: 100 percent is taken.
+    ∷ value PERCENT 1120403456 1120403456
+    -- 32: the next float above 100 percent is refused.
+    ∷ unread ((PERCENT, 1120403457) ∷ [])
+    -- 33: 1,000 grams are taken and are 100 percent.
+    ∷ value GRAMS 1148846080 1120403456
+    -- 34: the next float above 1,000 grams is refused.
+    ∷ unread ((GRAMS, 1148846081) ∷ [])
+    -- 35: 0 percent is taken.
+    ∷ value PERCENT 0 0
+    -- 36: the least float above zero is taken as percent.
+    ∷ value PERCENT 1 1
+    -- 37: as grams it is taken too, and its tenth is rounded to 0.
+    ∷ value GRAMS 1 0
+    -- 38: minus zero percent is taken and keeps its sign.
+    ∷ value PERCENT 2147483648 2147483648
+    -- 39: the same for minus zero grams.
+    ∷ value GRAMS 2147483648 2147483648
+    -- 40: 38 grams are 3.8 percent, rounded to the nearest float.
+    ∷ value GRAMS 1108869120 1081291571
+    -- 41: 42 grams are 4.2 percent. Multiplied by 0.1 they would give the next float above.
+    ∷ value GRAMS 1109917696 1082549862
+    -- 42: a missing reading.
+    ∷ missing MISSING 0
+    -- 43: a missing reading with the bits 1 is refused.
+    ∷ unread ((MISSING, 1) ∷ [])
+    -- 44: the greatest float below zero is refused.
+    ∷ unread ((PERCENT, 2147483649) ∷ (GRAMS, 2147483649) ∷ [])
+    -- 45: the greatest finite float is refused.
+    ∷ unread ((PERCENT, 2139095039) ∷ (GRAMS, 2139095039) ∷ [])
+    -- 46: both infinities are refused.
+    ∷ unread ((PERCENT, 2139095040) ∷ (GRAMS, 2139095040) ∷ (PERCENT, 4286578688) ∷ (GRAMS, 4286578688) ∷ [])
+    -- 47: NaNs without a sign are refused.
+    ∷ unread ((PERCENT, 2139095041) ∷ (PERCENT, 2143289344) ∷ (PERCENT, 2147483647) ∷ (GRAMS, 2143289344) ∷ [])
+    -- 48: NaNs with a sign are refused.
+    ∷ unread ((PERCENT, 4286578689) ∷ (PERCENT, 4290772992) ∷ (PERCENT, 4294967295) ∷ (GRAMS, 4290772992) ∷ [])
+    -- 49: the kinds 3 and 4,294,967,295 are refused.
+    ∷ unread ((3, 0) ∷ (4294967295, 0) ∷ [])
+    -- 50: the first zone of Z holds both samples: from 3.8 to 4.5 percent.
+    ∷ range Z S R 0 (fromTo 1081291571 1083179008)
+    -- 51: the zone inside it holds the first sample alone: 4.5 percent is low and high.
+    ∷ range Z S R 1 (fromTo 1083179008 1083179008)
+    -- 52: both readings are missing, and the first zone has none.
+    ∷ range Z S (MISSING ∷ 0 ∷ MISSING ∷ 0 ∷ []) 0 noReading
+    -- 53: the first reading is missing, and the second is the first zone's low and high.
+    ∷ range Z S (MISSING ∷ 0 ∷ GRAMS ∷ 1108869120 ∷ []) 0 (fromTo 1081291571 1081291571)
+    -- 54: the zone inside it then has no reading, and never a 0.
+    ∷ range Z S (MISSING ∷ 0 ∷ GRAMS ∷ 1108869120 ∷ []) 1 noReading
+    -- 55: of minus zero and zero, which are equal, the first is low and high.
+    ∷ range Z S (PERCENT ∷ 2147483648 ∷ PERCENT ∷ 0 ∷ []) 0 (fromTo 2147483648 2147483648)
+    -- 56: the same for zero and minus zero.
+    ∷ range Z S (PERCENT ∷ 0 ∷ PERCENT ∷ 2147483648 ∷ []) 0 (fromTo 0 0)
+    -- 57: a faulty reading refuses, though its sample isn't inside the zone.
+    ∷ range Z S secondFaulty 1 (refusal READING 1)
+    -- 58: READING comes before ABSENT.
+    ∷ range Z S secondFaulty 2 (refusal READING 1)
+    -- 59: Z has no zone at index 2.
+    ∷ range Z S R 2 (refusal ABSENT 0)
+    -- 60: one reading too few.
+    ∷ range Z S (PERCENT ∷ 1083179008 ∷ []) 0 (refusal RAGGED 0)
+    -- 61: one word too many.
+    ∷ range Z S (R ++ (0 ∷ [])) 0 (refusal RAGGED 0)
+    -- 62: one reading too many.
+    ∷ range Z S (R ++ (MISSING ∷ 0 ∷ [])) 0 (refusal RAGGED 0)
+    -- 63: RAGGED comes before READING.
+    ∷ range Z S (3 ∷ 0 ∷ []) 0 (refusal RAGGED 0)
+    -- 64: a sample that stands in both lists. The first zone holds both, 10 and 20 percent.
+    ∷ range Z ((3, 7, 3) ∷ (4, 6, 4) ∷ []) (PERCENT ∷ 1092616192 ∷ PERCENT ∷ 1101004800 ∷ []) 0 (fromTo 1092616192 1101004800)
+    -- 65: that sample isn't inside itself: as a zone it holds 20 percent alone.
+    ∷ range Z ((3, 7, 3) ∷ (4, 6, 4) ∷ []) (PERCENT ∷ 1092616192 ∷ PERCENT ∷ 1101004800 ∷ []) 1 (fromTo 1101004800 1101004800)
+    -- 66: no samples at all.
+    ∷ range Z [] [] 0 noReading
+    -- 67: no zones at all.
+    ∷ range [] S R 0 (refusal ABSENT 0)
+    -- 68: JOINT comes before RAGGED.
+    ∷ range ((1, 9, 1) ∷ []) ((4, 12, 2) ∷ []) [] 0 (refusal JOINT 0)
     ∷ []
 
 -- The two lists of numbers are equal.

@@ -1,0 +1,212 @@
+-- Function: `zone_range` (src/range.rt).
+-- Why it holds: The checks come in the order of the definition. A pass that refuses has found a
+-- faulty reading, and any other pass has found none, so only the zone's index is left to test.
+-- What would break it: A check out of its turn, or left out, would be caught at the return that
+-- follows it.
+use borrow.Author.Needs.{needs}
+use types.Run.{OneOf}
+use denote.Enum.Declared.{tagOf}
+use denote.Ref.{now}
+use native.Mathlib.Omega.{arith}
+use mathlib.Core.Path.{_≡_, refl, sym, ap, _∙_, subst}
+use mathlib.Core.Logic.{inl, inr}
+use mathlib.Core.Bool.{Bool, true, false, cond, not}
+use mathlib.Core.List.{List, [], _∷_}
+use Prim.Native.Nat.{ℕ, _*_, _≤_, _<_}
+use lib.Dec.{leb, eqb}
+use lib.ListN.{length}
+use lib.Ieee.{Float}
+use borrow.Author.Tests.{eq-eqb, ne-eqb, le-leb, lt-leb}
+use Rattle.laws.specs.Choose.{any, firstAt}
+use Rattle.laws.proofs.Tests.{either, never, not-so}
+use Rattle.answers.specs.Answer.{TAKEN, RAGGED, READING, ABSENT}
+use Rattle.answers.specs.declared.verdict.Verdict.{Verdict}
+use Rattle.answers.specs.Verdict.{ANCESTORS, verdict, refusedb}
+use Rattle.nodes.specs.declared.node.Node.{Node}
+use Rattle.nodes.specs.Words.{nodeAt, count, MOST-NODES}
+use Rattle.lists.specs.Two.{checkTwo}
+use Rattle.lists.proofs.Pairing.{two-taken-iff}
+use Rattle.lists.proofs.Taken.{whole-words, words-check}
+use Rattle.readings.specs.Sample.{Sample, READING-WORDS, samplesIn, pairedb, faultyb, inZone, present}
+use Rattle.ranges.specs.declared.range.ZoneRange.{ZoneRange}
+use Rattle.ranges.specs.declared.range.ZoneRange.the-variants.{Found, NoReading, Refused}
+use Rattle.ranges.specs.Private.Passing.{passed}
+use Rattle.ranges.specs.Range.{rangeOf, zoneRange}
+use Rattle.ranges.proofs.range.ZoneRange.{the-type}
+use Rattle.ranges.proofs.range.zone_range.Statement.{statement}
+use Rattle.ranges.proofs.range.zone_range.Tie as tie
+
+-- An answer of the first two cases isn't a refusal, and a range isn't one either.
+no-refusal : (r : ZoneRange) (v : Verdict) → OneOf (0 ∷ 1 ∷ []) (tagOf the-type r) → r ≡ Refused v → ⊥
+no-refusal r v k e = elim (subst (λ r. OneOf (0 ∷ 1 ∷ []) (tagOf the-type r)) e k) [ inl z ↦ omega arith | inr z ↦ omega arith ]
+
+Refusal : ZoneRange → Type 0
+Refusal (Found range) = ⊥
+Refusal NoReading = ⊥
+Refusal (Refused refusal) = Unit {0}
+
+range-taken : (ps : List Float) (v : Verdict) → rangeOf ps ≡ Refused v → ⊥
+unfolding rangeOf Refusal
+range-taken [] v e = subst Refusal (sym e) tt
+range-taken (p ∷ ps) v e = subst Refusal (sym e) tt
+
+-- What a pass answers where a reading is faulty, and where none is.
+passed-faulty : (zone : Node) (ss : List Sample) → any faultyb ss ≡ true → passed zone ss ≡ Refused (verdict READING ANCESTORS (firstAt faultyb ss))
+unfolding passed
+passed-faulty zone ss h = rw h refl
+
+passed-sound : (zone : Node) (ss : List Sample) → any faultyb ss ≡ false → passed zone ss ≡ rangeOf (present (inZone zone ss))
+unfolding passed
+passed-sound zone ss h = rw h refl
+
+module _ (zones samples readings : List ℕ) (zone : ℕ) where
+  abbrev ss : List Sample
+  ss = samplesIn samples readings
+
+  abbrev answer : ZoneRange
+  answer = zoneRange zones samples readings zone
+
+  few : checkTwo zones samples .answer ≡ TAKEN → count samples ≤ MOST-NODES
+  few h = whole-words samples .0 (words-check samples .0 (two-taken-iff zones samples .0 h .1) .0) .1
+
+  -- The pass goes by the node at the zone's index.
+  placed : (r : ZoneRange) (n : Node) → r ≡ passed n ss → n ≡ nodeAt zones zone → r ≡ passed (nodeAt zones zone) ss
+  placed r n e q = e ∙ ap (λ n. passed n ss) q
+
+  -- Each return, from the checks passed and the one that failed.
+  at-lists : (checkTwo zones samples .answer ≡ TAKEN → ⊥) → Refused (checkTwo zones samples) ≡ answer
+  unfolding zoneRange refusedb
+  at-lists h = rw (ne-eqb _ _ h) refl
+
+  module _ (lists : checkTwo zones samples .answer ≡ TAKEN) where
+    at-pairing : (length readings ≡ READING-WORDS * count samples → ⊥) → Refused (verdict RAGGED ANCESTORS 0) ≡ answer
+    unfolding zoneRange refusedb pairedb
+    at-pairing h = rw (eq-eqb _ _ lists, ne-eqb _ _ h) refl
+
+    module _ (paired : length readings ≡ READING-WORDS * count samples) where
+      abbrev rest : Bool → Bool → ZoneRange
+      rest faulty absent =
+          cond faulty (Refused (verdict READING ANCESTORS (firstAt faultyb ss)))
+          (cond absent (Refused (verdict ABSENT ANCESTORS 0)) (rangeOf (present (inZone (nodeAt zones zone) ss))))
+
+      after-pairing : answer ≡ rest (any faultyb ss) (leb (count zones) zone)
+      unfolding zoneRange refusedb pairedb
+      after-pairing = rw (eq-eqb _ _ lists, eq-eqb _ _ paired) refl
+
+      at-reading : (r : ZoneRange) (v : Verdict) → r ≡ passed (nodeAt zones zone) ss → r ≡ Refused v → r ≡ answer
+      at-reading r v e q =
+          elim (either (any faultyb ss)) [
+            | inl t ↦ e ∙ passed-faulty (nodeAt zones zone) ss t ∙ sym (after-pairing ∙ ap (λ b. rest b (leb (count zones) zone)) t)
+            | inr f ↦ absurd (range-taken _ v (sym (e ∙ passed-sound (nodeAt zones zone) ss f) ∙ q))
+          ]
+
+      -- A pass that isn't refused has found no faulty reading.
+      module _ (r : ZoneRange) (e : r ≡ passed (nodeAt zones zone) ss) (k : OneOf (0 ∷ 1 ∷ []) (tagOf the-type r)) where
+        sound : any faultyb ss ≡ false
+        sound = not-so (λ t. no-refusal r _ k (e ∙ passed-faulty (nodeAt zones zone) ss t))
+
+        at-zone : count zones ≤ zone → Refused (verdict ABSENT ANCESTORS 0) ≡ answer
+        at-zone h = sym (after-pairing ∙ ap (λ b. rest b (leb (count zones) zone)) sound ∙ ap (rest false) (le-leb _ _ h))
+
+        at-end : zone < count zones → r ≡ answer
+        at-end h =
+            e ∙ passed-sound (nodeAt zones zone) ss sound ∙ sym (after-pairing ∙ ap (λ b. rest b (leb (count zones) zone)) sound ∙ ap (rest false) (lt-leb _ _ h))
+
+check-two-requires : tie.Need-check-two-requires
+check-two-requires c κs = search needs
+
+returns : tie.Need-returns
+returns c =
+    let a = c .before .before .before .before .before .before .args in
+    let q = c .before .before .check-two .ensures in
+    ap Refused q ∙ at-lists (now (a .zones)) (now (a .samples)) (now (a .readings)) (a .zone) (λ t. c .if1 .taken (ap (λ (v : Verdict). v .answer) q ∙ t))
+
+node-count-requires : tie.Need-node-count-requires
+node-count-requires c κs = search needs
+
+mul-if2 : tie.Need-mul-if2
+mul-if2 c = search needs
+
+without-node-requires : tie.Need-without-node-requires
+without-node-requires c κs = search needs
+
+returns-2 : tie.Need-returns-2
+returns-2 c =
+    let checked = c .before .before .before .before .before in
+    let a = checked .before .before .before .before .args in
+    ap Refused (c .without-node .ensures)
+    ∙ at-pairing (now (a .zones)) (now (a .samples)) (now (a .readings)) (a .zone)
+    (sym (ap (λ (v : Verdict). v .answer) (checked .check-two .ensures)) ∙ c .before .before .before .if1 .left) (λ e. omega arith)
+
+node-at-requires : tie.Need-node-at-requires
+node-at-requires c κs = search needs
+
+pass-samples-requires : tie.Need-pass-samples-requires
+pass-samples-requires c κs =
+    let checked = c .before .before .before .before .before in
+    let a = checked .before .before .before .before .args in (
+      omega arith,
+      few (now (a .zones)) (now (a .samples)) (now (a .readings)) (a .zone)
+          (sym (ap (λ (v : Verdict). v .answer) (checked .check-two .ensures)) ∙ c .before .before .before .if1 .left),
+    )
+
+enum-told : tie.Need-enum-told
+enum-told c = search needs
+
+returns-3 : tie.Need-returns-3
+returns-3 c =
+    let pairs = c .before .before .before .before in
+    let checked = pairs .before .before .before .before in
+    let a = checked .before .before .before .before .args in
+    at-reading (now (a .zones)) (now (a .samples)) (now (a .readings)) (a .zone)
+    (sym (ap (λ (v : Verdict). v .answer) (checked .check-two .ensures)) ∙ pairs .before .before .if1 .left) (omega arith) _ _
+    (placed (now (a .zones)) (now (a .samples)) (now (a .readings)) (a .zone) _ _ (c .before .before .pass-samples .ensures) (c .before .before .before .node-at .ensures))
+    (c .enum-told .given .1)
+
+node-count-requires-2 : tie.Need-node-count-requires-2
+node-count-requires-2 c κs = search needs
+
+without-node-requires-2 : tie.Need-without-node-requires-2
+without-node-requires-2 c κs = search needs
+
+returns-4 : tie.Need-returns-4
+returns-4 c =
+    let pass = c .before .before .before .before in
+    let pairs = pass .before .before in
+    let checked = pairs .before .before .before .before in
+    let a = checked .before .before .before .before .args in
+    ap Refused (c .without-node2 .ensures)
+    ∙ at-zone (now (a .zones)) (now (a .samples)) (now (a .readings)) (a .zone)
+    (sym (ap (λ (v : Verdict). v .answer) (checked .check-two .ensures)) ∙ pairs .before .before .if1 .left) (omega arith) _
+    (placed (now (a .zones)) (now (a .samples)) (now (a .readings)) (a .zone) _ _ (pass .pass-samples .ensures) (pass .before .node-at .ensures))
+    (c .before .before .before .match .keys2) (omega arith)
+
+returns-5 : tie.Need-returns-5
+returns-5 c =
+    let pass = c .before .before .before in
+    let pairs = pass .before .before in
+    let checked = pairs .before .before .before .before in
+    let a = checked .before .before .before .before .args in
+    at-end (now (a .zones)) (now (a .samples)) (now (a .readings)) (a .zone)
+    (sym (ap (λ (v : Verdict). v .answer) (checked .check-two .ensures)) ∙ pairs .before .before .if1 .left) (omega arith) _
+    (placed (now (a .zones)) (now (a .samples)) (now (a .readings)) (a .zone) _ _ (pass .pass-samples .ensures) (pass .before .node-at .ensures))
+    (c .before .before .match .keys2) (omega arith)
+
+pub zone-range-spec : {M : Type 1} → statement M
+zone-range-spec =
+    tie.close
+    (tie.spec
+    check-two-requires
+    returns
+    node-count-requires
+    mul-if2
+    without-node-requires
+    returns-2
+    node-at-requires
+    pass-samples-requires
+    enum-told
+    returns-3
+    node-count-requires-2
+    without-node-requires-2
+    returns-4
+    returns-5)
