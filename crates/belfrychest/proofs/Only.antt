@@ -13,6 +13,7 @@ use Rattle.belfrychest.proofs.list.belfry_check_two.Reads as check-two
 use Rattle.belfrychest.proofs.list.belfry_faulty.Reads as faulty
 use Rattle.belfrychest.proofs.name.belfry_name.Reads as name
 use Rattle.belfrychest.proofs.page.belfry_list.Reads as list
+use Rattle.belfrychest.proofs.range.belfry_zone_range.Reads as zone-range
 use Rattle.belfrychest.proofs.table.belfry_links.Reads as links
 use Rattle.belfrychest.proofs.table.belfry_number.Reads as number
 use Rattle.belfrychest.proofs.table.belfry_pick.Reads as pick
@@ -63,3 +64,6 @@ book-write-only κs a r r′ s s′ p q = (only (p .output) (q .output), only (p
 
 pub version-only : (κs : _) (a : _) (r r′ : _) (s s′ : _) → version.Post κs a r s → version.Post κs a r′ s′ → r ≡ r′
 version-only κs a r r′ s s′ p q = only p q
+
+pub zone-range-only : (κs : _) (a : _) (r r′ : _) (s s′ : _) → zone-range.Post κs a r s → zone-range.Post κs a r′ s′ → r ≡ r′
+zone-range-only κs a r r′ s s′ p q = only p q

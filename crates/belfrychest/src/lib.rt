@@ -4,5 +4,6 @@ pub mod book;
 pub mod list;
 pub mod name;
 pub mod page;
+pub mod range;
 pub mod table;
 pub mod version;
