@@ -36,6 +36,8 @@
  *   same time, as long as none of them writes what another is lent.
  * - Nobody else writes what a call is lent before it returns, neither a thread nor a signal
  *   handler.
+ * - The thread's floats are in their default mode: they are rounded to the nearest, and the
+ *   smallest ones aren't taken for zero. Only the calls for ranges compute with floats.
  * - There is enough stack. What a call takes has a bound, a few thousand bytes; docs/SPEED.md of
  *   the repository gives it.
  */
@@ -44,6 +46,7 @@
 
 #include <stddef.h>
 #include <stdint.h>
+#include <string.h>
 
 #ifdef __cplusplus
 extern "C" {
@@ -51,7 +54,7 @@ extern "C" {
 
 /* The version of the library that this header belongs to. It rises when something here changes:
  * belfry_version returns that of the archive, and the two have to be equal. */
-#define BELFRY_VERSION 1
+#define BELFRY_VERSION 2
 
 /* A call of words takes no null, and an answer that nobody looks at may be a refusal. A compiler
  * that has these attributes warns of a null and of a dropped answer. */
@@ -83,12 +86,13 @@ extern "C" {
 /* How many words each thing takes. A node is document, start, end, level. A pair is the ancestor
  * and then the descendant. A row of a table is a node and its tag. A link is the index of the
  * parent, of the first child and of the next sibling. An entry for a book to be written is a tag
- * and a number of nodes. A ticket is its fields. */
+ * and a number of nodes. A reading is a kind and the bits of a float. A ticket is its fields. */
 #define BELFRY_NODE_WORDS 4
 #define BELFRY_PAIR_WORDS (2 * BELFRY_NODE_WORDS)
 #define BELFRY_ROW_WORDS (BELFRY_NODE_WORDS + 1)
 #define BELFRY_LINK_WORDS 3
 #define BELFRY_ENTRY_WORDS 2
+#define BELFRY_READING_WORDS 2
 #define BELFRY_TICKET_WORDS 6
 
 /* How many bytes a number in a book takes, lowest byte first. */
@@ -111,6 +115,15 @@ extern "C" {
  * element with that tag. */
 #define BELFRY_CLOSE 0
 #define BELFRY_TEXT 65536
+
+/* The kinds of a lab reading of organic matter: there is none, it is in percent, or it is in grams
+ * per kilogram. */
+#define BELFRY_MISSING 0
+#define BELFRY_PERCENT 1
+#define BELFRY_GRAMS 2
+/* The greatest reading in percent, and in grams per kilogram. The least is 0. */
+#define BELFRY_MOST_PERCENT 100
+#define BELFRY_MOST_GRAMS 1000
 
 /* The word of a link when there is no such node. */
 #define BELFRY_NONE 4294967295u
@@ -138,7 +151,8 @@ typedef enum belfry_order {
 /* The answers, written by bin/tables. */
 /* Nothing below applies. */
 #define BELFRY_TAKEN 0
-/* The words don't divide evenly into nodes, rows or entries. */
+/* The words don't divide evenly into nodes, rows or entries, or there aren't as many readings as
+ * samples. */
 #define BELFRY_RAGGED 1
 /* There are more than 4,096 nodes, rows or marks. For the program: more than 61,440 bytes. */
 #define BELFRY_LONG 2
@@ -170,8 +184,12 @@ typedef enum belfry_order {
 /* A book's contents are wrong: the number of lists, the order of the tags, an offset, a count, or
  * where the book ends. */
 #define BELFRY_CONTENTS 15
-/* No list of the book has that tag, or the book has fewer lists than asked for. */
+/* No list of the book has that tag, the book has fewer lists than asked for, or no zone has that
+ * index. */
 #define BELFRY_ABSENT 16
+/* A sample's reading is of another kind, or is missing and has bits. Or its value isn't finite, is
+ * below zero, or is above 100 percent or 1,000 grams per kilogram. */
+#define BELFRY_READING 17
 
 /* A node of a list. */
 typedef struct {
@@ -198,9 +216,38 @@ typedef struct {
     uint32_t tag, count;
 } belfry_entry;
 
+/* The lab's reading of a sample: its kind, and the bits of its value, which are 0 when it is
+ * missing. belfry_percent, belfry_grams and belfry_no_reading make one. */
+typedef struct {
+    uint32_t kind, bits;
+} belfry_reading;
+
+/* Returns a reading of this kind with the bits of this value. */
+static inline belfry_reading belfry_reading_of(uint32_t kind, float value) {
+    belfry_reading reading = {kind, 0};
+    memcpy(&reading.bits, &value, sizeof value);
+    return reading;
+}
+
+/* Returns a reading in percent, and one in grams per kilogram. */
+static inline belfry_reading belfry_percent(float percent) {
+    return belfry_reading_of(BELFRY_PERCENT, percent);
+}
+static inline belfry_reading belfry_grams(float grams) {
+    return belfry_reading_of(BELFRY_GRAMS, grams);
+}
+
+/* Returns the reading of a sample that the lab didn't read. A reading of 0 says something else: the
+ * lab found no organic matter. */
+static inline belfry_reading belfry_no_reading(void) {
+    const belfry_reading missing = {BELFRY_MISSING, 0};
+    return missing;
+}
+
 /* What a check answers. For BELFRY_LEVEL to BELFRY_DEPTH, the list and the index say where the
- * faulty node is. For every other answer the index is 0, and so is the list, except in the
- * descendants' own BELFRY_RAGGED and BELFRY_LONG. */
+ * faulty node is. For BELFRY_READING the index is that of the sample, and the list is 0. For every
+ * other answer the index is 0, and so is the list, except in the descendants' own BELFRY_RAGGED and
+ * BELFRY_LONG. */
 typedef struct {
     uint32_t answer, list, index;
 } belfry_verdict;
@@ -243,6 +290,15 @@ typedef struct {
     size_t count;
     belfry_ticket ticket;
 } belfry_page;
+
+/* A verdict, whether the zone has a present reading (1 or 0), and the lowest and the highest of its
+ * present readings, in percent. Look at `present` first. Where it is 0, there is no low and no
+ * high: the two zeros that stand there are no values. */
+typedef struct {
+    belfry_verdict verdict;
+    uint32_t present;
+    float low, high;
+} belfry_range;
 
 /* A verdict, and how many rows, nodes, links or bytes were written. */
 typedef struct {
@@ -325,6 +381,23 @@ belfry_page belfry_list(const uint32_t *ancestors, size_t ancestor_words,
                         const uint32_t *descendants, size_t descendant_words, belfry_ticket ticket,
                         uint32_t *out, size_t out_words);
 
+/* Finds the low and the high of the lab readings in one zone. It reads both lists and the readings,
+ * and writes nothing. `zone` is the zone's index. The readings have two words for each sample, in
+ * the samples' order: a kind and the bits of a float.
+ * The low and the high are over the present readings of all samples inside the zone, directly or
+ * not. Grams per kilogram are divided by ten, once, so both are in percent. Of equal readings the
+ * first sample's stays: where -0.0 comes before 0.0, it is the low and the high.
+ * A missing reading is never a number. Where no sample inside the zone has a reading, the answer is
+ * TAKEN and `present` is 0. Then there is no low and no high, and the zeros there are no values.
+ * Answers: those of belfry_check_two. Then RAGGED with list 0, when there aren't as many readings
+ * as samples. Then READING with list 0 and the sample's index, for the first faulty reading of any
+ * sample, in the zone or not. Then ABSENT, when no zone has that index. */
+BELFRY_MUST_USE
+BELFRY_NONNULL
+belfry_range belfry_zone_range(const uint32_t *zones, size_t zone_words, const uint32_t *samples,
+                               size_t sample_words, const uint32_t *readings, size_t reading_words,
+                               uint32_t zone);
+
 /* Numbers a document's marks. It reads the marks and writes a row for each element and text, in
  * start order; as many rows as there are marks are always enough.
  * Answers: LONG, then MARK, STRAY or DEEP for the first faulty mark, UNCLOSED, ROOM; list and index
@@ -384,7 +457,7 @@ belfry_result belfry_book_write(const uint32_t *entries, size_t entry_words, con
                                 size_t node_words, uint8_t *out, size_t out_bytes);
 
 /* Writes an answer's name into all eight bytes, padded with blanks; eight blanks for a number above
- * BELFRY_ABSENT. It is never refused. */
+ * BELFRY_READING. It is never refused. */
 BELFRY_NONNULL
 void belfry_name(uint32_t answer, uint8_t out[BELFRY_NAME_BYTES]);
 
@@ -475,6 +548,20 @@ static inline belfry_page belfry_list_pairs(const belfry_node *ancestors, size_t
     return belfry_list(BELFRY_WORDS_OF(ancestors, ancestor_count, document),
                        BELFRY_WORDS_OF(descendants, descendant_count, document), ticket,
                        BELFRY_WORDS_OF(out, room, ancestor.document));
+}
+
+/* Finds the low and the high of the lab readings in the zone at index `zone`, as belfry_zone_range
+ * does: one reading for each sample. Where `present` is 0, there is no low and no high.
+ * Answers: those of belfry_check_two_lists, RAGGED when there aren't as many readings as samples,
+ * READING with the sample's index, ABSENT. */
+BELFRY_MUST_USE
+static inline belfry_range belfry_zone_range_nodes(const belfry_node *zones, size_t zone_count,
+                                                   const belfry_node *samples, size_t sample_count,
+                                                   const belfry_reading *readings,
+                                                   size_t reading_count, uint32_t zone) {
+    return belfry_zone_range(BELFRY_WORDS_OF(zones, zone_count, document),
+                             BELFRY_WORDS_OF(samples, sample_count, document),
+                             BELFRY_WORDS_OF(readings, reading_count, kind), zone);
 }
 
 /* Numbers a document's marks, as belfry_number does.

@@ -14,9 +14,9 @@ _name = function("name", None, word32, ctypes.c_void_p)
 class Verdict:
     """The answer of a check, the list that it means and the index of the faulty node in that list.
 
-    LEVEL to DEPTH have both. RAGGED and LONG have a list if two were checked. Otherwise they are
-    None. Of two lists, the ancestors are list 0 and the descendants list 1. A list of a book is
-    given by its place in the book, from 0.
+    LEVEL to DEPTH have both. RAGGED and LONG have a list if two were checked, and READING has the
+    index of the sample. Otherwise they are None. Of two lists, the ancestors are list 0 and the
+    descendants list 1. A list of a book is given by its place in the book, from 0.
     """
 
     answer: Answer
@@ -51,6 +51,8 @@ def verdict_of(found: VerdictStruct, two_lists: bool = False) -> Verdict:
         return Verdict(answer, found.list, found.index)
     if two_lists and answer in (Answer.RAGGED, Answer.LONG):
         return Verdict(answer, found.list)
+    if answer == Answer.READING:
+        return Verdict(answer, index=found.index)
     return Verdict(answer)
 
 

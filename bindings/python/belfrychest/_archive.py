@@ -110,6 +110,13 @@ class PageStruct(ctypes.Structure):
     ]
 
 
+class RangeStruct(ctypes.Structure):
+    _fields_ = [
+        ("verdict", VerdictStruct), ("present", word32), ("low", ctypes.c_float),
+        ("high", ctypes.c_float),
+    ]
+
+
 class WrittenStruct(ctypes.Structure):
     _fields_ = [("verdict", VerdictStruct), ("count", size)]
 

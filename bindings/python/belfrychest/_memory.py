@@ -7,7 +7,8 @@ from mmap import mmap
 from typing import TYPE_CHECKING, Any, Dict, Iterator, NamedTuple, Protocol, Union
 
 from ._table import (
-    ENTRY_WORDS, LINK_WORDS, MOST_NODES, NODE_WORDS, NONE, NUMBER_BYTES, PAIR_WORDS, ROW_WORDS,
+    ENTRY_WORDS, LINK_WORDS, MOST_NODES, NODE_WORDS, NONE, NUMBER_BYTES, PAIR_WORDS, READING_WORDS,
+    ROW_WORDS,
 )
 
 
@@ -52,6 +53,7 @@ PAIRS = _words(PAIR_WORDS, "a pair")
 ROWS = _words(ROW_WORDS, "a row")
 LINKS = _words(LINK_WORDS, "a link")
 ENTRIES = _words(ENTRY_WORDS, "an entry")
+READINGS = _words(READING_WORDS, "a reading")
 BYTES = Kind("Bbc", 1, "a buffer of bytes", 1, "a byte")
 
 

@@ -1,7 +1,7 @@
 """The version, the limits of the C header, and the answers. Written by bin/tables."""
 from enum import IntEnum
 
-__version__ = "1"
+__version__ = "2"
 
 MOST_NODES = 4096
 MOST_LEVELS = 64
@@ -14,6 +14,7 @@ PAIR_WORDS = 8
 ROW_WORDS = 5
 LINK_WORDS = 3
 ENTRY_WORDS = 2
+READING_WORDS = 2
 TICKET_WORDS = 6
 NUMBER_BYTES = 4
 CONTENTS_NUMBERS = 3
@@ -22,6 +23,11 @@ TICKET_BYTES = 28
 NAME_BYTES = 8
 CLOSE = 0
 TEXT = 65536
+MISSING = 0
+PERCENT = 1
+GRAMS = 2
+MOST_PERCENT = 100
+MOST_GRAMS = 1000
 NONE = 4294967295
 ANCESTORS = 0
 DESCENDANTS = 1
@@ -53,6 +59,7 @@ class Answer(IntEnum):
     TABLE = 14
     CONTENTS = 15
     ABSENT = 16
+    READING = 17
 
 
 HINTS = {
@@ -60,8 +67,8 @@ HINTS = {
         "Nothing: the call did what it says."
     ),
     Answer.RAGGED: (
-        "Give whole nodes of 4 words, rows of 5 or entries of 2. A length is cut off, or counts "
-        "bytes or nodes instead of words."
+        "Give whole nodes of 4 words, rows of 5 or entries of 2, and for each sample one reading "
+        "of 2. A length is cut off, or counts bytes or nodes instead of words."
     ),
     Answer.LONG: (
         "Join longer lists with Pieces (Python, Rust). Or cut them yourself: check each piece "
@@ -116,6 +123,12 @@ HINTS = {
         "of at most 4,096 nodes."
     ),
     Answer.ABSENT: (
-        "Ask for a tag that the book has. The program needs a book with at least two lists."
+        "Ask for a tag that the book has, or for the index of a zone, counted from 0. The program "
+        "needs a book with at least two lists."
+    ),
+    Answer.READING: (
+        "Repair the reading of the sample at that index. Give a percentage from 0 to 100, grams "
+        "per kilogram from 0 to 1,000, or a missing one, whose bits are 0. Never give 0 for a "
+        "sample that the lab didn't read."
     ),
 }

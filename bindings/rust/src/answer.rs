@@ -63,7 +63,8 @@ pub struct Refusal {
     /// book. The answers from LEVEL to DEPTH have it, and so do RAGGED and LONG from a call that
     /// is lent two lists.
     pub list: Option<usize>,
-    /// The index of the faulty node in that list. The answers from LEVEL to DEPTH have it.
+    /// The index of the faulty node in that list. The answers from LEVEL to DEPTH have it. READING
+    /// has the index of the sample and no list.
     pub index: Option<usize>,
 }
 
@@ -95,6 +96,9 @@ pub(crate) fn settle(verdict: raw::Verdict) -> Result<(), Refusal> {
         answer @ (Level | Span | Order | Cross | Depth) => {
             Err(Refusal { answer, list: Some(list as usize), index: Some(index as usize) })
         }
+        Answer::Reading => {
+            Err(Refusal { index: Some(index as usize), ..Refusal::without_place(Answer::Reading) })
+        }
         answer => Err(Refusal::without_place(answer)),
     }
 }
@@ -118,12 +122,12 @@ mod tests {
 
     #[test]
     fn an_unknown_number_is_a_refusal() {
-        let unknown = Refusal { answer: Answer::Unknown(17), list: None, index: None };
-        let verdict = raw::Verdict { answer: 17, list: 1, index: 3 };
+        let unknown = Refusal { answer: Answer::Unknown(99), list: None, index: None };
+        let verdict = raw::Verdict { answer: 99, list: 1, index: 3 };
         assert_eq!(settle(verdict), Err(unknown));
         assert_eq!(settle_two(verdict), Err(unknown));
-        assert_eq!(settle_answer(17), Err(unknown));
-        assert_eq!(unknown.to_string(), format!("refused 17 UNKNOWN: {UNKNOWN_HINT}"));
+        assert_eq!(settle_answer(99), Err(unknown));
+        assert_eq!(unknown.to_string(), format!("refused 99 UNKNOWN: {UNKNOWN_HINT}"));
     }
 
     #[test]

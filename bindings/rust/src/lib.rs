@@ -27,6 +27,9 @@
 //! lists are edited between the pages, [`next_page`] hands out a page at a time and a [`Ticket`] to
 //! go on with. [`Pieces`] does all this for lists of any length.
 //!
+//! [`zone_range`] returns the low and the high of the lab readings in a zone, or `None` where none
+//! is present: a reading that is missing is never a number.
+//!
 //! Lists that come as words, four for each node, are lent as they lie: [`nodes`] takes words, and
 //! [`words`] gives them. All that is unsafe is in [`raw`], the C interface as it is. Every call
 //! panics where the archive that was linked has another version than [`VERSION`].
@@ -45,6 +48,7 @@ mod page;
 mod pieces;
 #[allow(unsafe_code, missing_docs)]
 pub mod raw;
+mod reading;
 mod table;
 mod ticket;
 
@@ -58,5 +62,6 @@ pub use node::{nodes, rows, Entry, Link, Node, Pair, Row};
 pub use page::{next_page, Page};
 pub use pieces::Pieces;
 pub use raw::{version, words};
+pub use reading::{zone_range, Range, Reading};
 pub use table::{Answer, VERSION};
 pub use ticket::{Order, Place, Relation, StoredTicketError, Ticket};

@@ -25,6 +25,8 @@ pub const ROW_WORDS: usize = NODE_WORDS + 1;
 pub const LINK_WORDS: usize = 3;
 /// The words of an entry for a book that is to be written: a tag and a number of nodes.
 pub const ENTRY_WORDS: usize = 2;
+/// The words of a lab reading: its kind and the bits of its value.
+pub const READING_WORDS: usize = 2;
 /// The words of a ticket: its relation, its order, whether it is placed, and the three numbers of
 /// its key.
 pub const TICKET_WORDS: usize = 6;
@@ -43,6 +45,17 @@ pub const NAME_BYTES: usize = 8;
 pub const CLOSE: u32 = 0;
 /// The mark of a text. Any number between opens an element of that tag.
 pub const TEXT: u32 = 65536;
+/// The kind of a lab reading that is missing.
+pub const MISSING: u32 = 0;
+/// The kind of a lab reading in percent.
+pub const PERCENT: u32 = 1;
+/// The kind of a lab reading in grams per kilogram.
+pub const GRAMS: u32 = 2;
+/// The greatest lab reading in percent. The least is 0.
+pub const MOST_PERCENT: f32 = 100.0;
+/// The greatest lab reading in grams per kilogram. The least is 0.
+pub const MOST_GRAMS: f32 = 1000.0;
+
 /// A link's word that says there is no such node.
 pub const NONE: u32 = u32::MAX;
 

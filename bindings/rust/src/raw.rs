@@ -59,6 +59,17 @@ pub struct Page {
     pub ticket: Ticket,
 }
 
+/// What a range call answers: the verdict, whether a reading is present, and the low and the high.
+/// They are no values unless `present` is 1.
+#[repr(C)]
+#[derive(Clone, Copy, Debug, PartialEq)]
+pub struct Range {
+    pub verdict: Verdict,
+    pub present: u32,
+    pub low: f32,
+    pub high: f32,
+}
+
 /// The verdict of a call that writes, and how much it wrote.
 #[repr(C)]
 #[derive(Clone, Copy, Debug, PartialEq, Eq)]
@@ -116,6 +127,15 @@ extern "C" {
         out: *mut u32,
         out_words: usize,
     ) -> Page;
+    fn belfry_zone_range(
+        zones: *const u32,
+        zone_words: usize,
+        samples: *const u32,
+        sample_words: usize,
+        readings: *const u32,
+        reading_words: usize,
+        zone: u32,
+    ) -> Range;
     fn belfry_number(
         document: u32,
         marks: *const u32,
@@ -204,6 +224,22 @@ pub fn list(ancestors: &[u32], descendants: &[u32], ticket: Ticket, out: &mut [u
             ticket,
             out.as_mut_ptr(),
             out.len(),
+        )
+    }
+}
+
+/// Returns what `belfry_zone_range` answers for a zone.
+pub fn zone_range(zones: &[u32], samples: &[u32], readings: &[u32], zone: u32) -> Range {
+    hold_version();
+    unsafe {
+        belfry_zone_range(
+            zones.as_ptr(),
+            zones.len(),
+            samples.as_ptr(),
+            samples.len(),
+            readings.as_ptr(),
+            readings.len(),
+            zone,
         )
     }
 }

@@ -1,7 +1,7 @@
 //! The version, the answers and their hints. Written by bin/tables.
 
 /// The version of the library that this crate is made for.
-pub const VERSION: u32 = 1;
+pub const VERSION: u32 = 2;
 
 /// What a call can answer, by the numbers of docs/SCOPE.md, Answer numbers.
 #[derive(Clone, Copy, Debug, PartialEq, Eq, Hash)]
@@ -9,7 +9,8 @@ pub const VERSION: u32 = 1;
 pub enum Answer {
     /// Nothing below applies.
     Taken,
-    /// The words don't divide evenly into nodes, rows or entries.
+    /// The words don't divide evenly into nodes, rows or entries, or there aren't as many readings
+    /// as samples.
     Ragged,
     /// There are more than 4,096 nodes, rows or marks. For the program: more than 61,440 bytes.
     Long,
@@ -41,8 +42,12 @@ pub enum Answer {
     /// A book's contents are wrong: the number of lists, the order of the tags, an offset, a count,
     /// or where the book ends.
     Contents,
-    /// No list of the book has that tag, or the book has fewer lists than asked for.
+    /// No list of the book has that tag, the book has fewer lists than asked for, or no zone has
+    /// that index.
     Absent,
+    /// A sample's reading is of another kind, or is missing and has bits. Or its value isn't
+    /// finite, is below zero, or is above 100 percent or 1,000 grams per kilogram.
+    Reading,
     /// An answer that this crate doesn't know, by its number.
     Unknown(u32),
 }
@@ -52,8 +57,8 @@ pub(crate) const ROWS: &[(Answer, &str)] = &[
     (Answer::Taken, "Nothing: the call did what it says."),
     (
         Answer::Ragged,
-        "Give whole nodes of 4 words, rows of 5 or entries of 2. A length is cut off, or counts \
-        bytes or nodes instead of words.",
+        "Give whole nodes of 4 words, rows of 5 or entries of 2, and for each sample one reading \
+        of 2. A length is cut off, or counts bytes or nodes instead of words.",
     ),
     (
         Answer::Long,
@@ -105,6 +110,13 @@ pub(crate) const ROWS: &[(Answer, &str)] = &[
     ),
     (
         Answer::Absent,
-        "Ask for a tag that the book has. The program needs a book with at least two lists.",
+        "Ask for a tag that the book has, or for the index of a zone, counted from 0. The program \
+        needs a book with at least two lists.",
+    ),
+    (
+        Answer::Reading,
+        "Repair the reading of the sample at that index. Give a percentage from 0 to 100, grams \
+        per kilogram from 0 to 1,000, or a missing one, whose bits are 0. Never give 0 for a \
+        sample that the lab didn't read.",
     ),
 ];

@@ -83,6 +83,7 @@ fn binding_numbers() -> BTreeMap<String, u32> {
         ("NODE_WORDS", NODE_WORDS),
         ("LINK_WORDS", LINK_WORDS),
         ("ENTRY_WORDS", ENTRY_WORDS),
+        ("READING_WORDS", READING_WORDS),
         ("TICKET_WORDS", TICKET_WORDS),
         ("TICKET_FORM", TICKET_FORM as usize),
         ("NUMBER_BYTES", NUMBER_BYTES),
@@ -90,6 +91,11 @@ fn binding_numbers() -> BTreeMap<String, u32> {
         ("NAME_BYTES", NAME_BYTES),
         ("CLOSE", CLOSE as usize),
         ("TEXT", TEXT as usize),
+        ("MISSING", MISSING as usize),
+        ("PERCENT", PERCENT as usize),
+        ("GRAMS", GRAMS as usize),
+        ("MOST_PERCENT", MOST_PERCENT as usize),
+        ("MOST_GRAMS", MOST_GRAMS as usize),
         ("NONE", NONE as usize),
         ("ANCESTORS", ANCESTORS),
         ("DESCENDANTS", DESCENDANTS),
@@ -161,7 +167,7 @@ fn a_refusal_is_an_error_that_says_its_name_its_place_and_what_to_do() {
 
 #[test]
 fn each_answer_has_its_own_hint() {
-    let unknown = [Answer::Unknown(17)];
+    let unknown = [Answer::Unknown(99)];
     let mut hints: Vec<_> =
         Answer::ALL.iter().chain(&unknown).map(|answer| answer.hint()).collect();
     hints.sort_unstable();
@@ -302,6 +308,48 @@ fn a_listing_is_refused_at_its_start() {
     assert_eq!(listing(&ZONES, &TURNED, relation, order), turned);
     let one_by_one = Listing::new(&ZONES, &TURNED, relation, order, [PAIR_PAINT]);
     assert_eq!(one_by_one.map(Iterator::collect), turned);
+}
+
+#[test]
+fn a_zone_has_the_low_and_the_high_of_its_readings() {
+    let range = |readings: [Reading; 2], zone| zone_range(&ZONES, &SAMPLES, &readings, zone);
+    let found = |low, high| Ok(Some(Range { low, high }));
+    let (percent, grams) = (Reading::Percent(4.5), Reading::Grams(38.0));
+    assert_eq!(range([percent, grams], 0), found(38.0 / 10.0, 4.5));
+    assert_eq!(range([percent, grams], 1), found(4.5, 4.5));
+    assert_eq!(range([Reading::Missing, grams], 0), found(38.0 / 10.0, 38.0 / 10.0));
+    assert_eq!(range([Reading::Missing, grams], 1), Ok(None));
+    assert_eq!(range([Reading::Missing; 2], 0), Ok(None));
+    assert_eq!(range([Reading::Percent(0.0), grams], 1), found(0.0, 0.0));
+    assert_eq!(zone_range(&ZONES, &[], &[], 1), Ok(None));
+
+    let zeros = range([Reading::Percent(-0.0), Reading::Grams(0.0)], 0);
+    let Range { low, high } = zeros.expect("both are taken").expect("both are present");
+    assert_eq!([low, high].map(f32::to_bits), [1 << 31; 2]);
+}
+
+#[test]
+fn a_range_is_refused() {
+    let good = [Reading::Percent(MOST_PERCENT), Reading::Grams(MOST_GRAMS)];
+    let range = |readings: &[Reading], zone| zone_range(&ZONES, &SAMPLES, readings, zone);
+    let faulty = |index| Refusal { index: Some(index), ..refusal(Answer::Reading) };
+    assert_eq!(range(&good, 0), Ok(Some(Range { low: 100.0, high: 100.0 })));
+    assert_eq!(range(&good, 2), Err(refusal(Answer::Absent)));
+    assert_eq!(range(&good, usize::MAX), Err(refusal(Answer::Absent)));
+    assert_eq!(range(&good[1..], 0), Err(refusal(Answer::Ragged)));
+    assert_eq!(range(&[], 0), Err(refusal(Answer::Ragged)));
+    for value in [f32::NAN, f32::INFINITY, -f32::MIN_POSITIVE, 1000.5] {
+        assert_eq!(range(&[Reading::Grams(value), good[1]], 1), Err(faulty(0)));
+        assert_eq!(range(&[good[0], Reading::Percent(value)], 9), Err(faulty(1)));
+    }
+    let turned = zone_range(&ZONES, &TURNED, &good, 0);
+    assert_eq!(turned, Err(refusal_at(Answer::Order, DESCENDANTS, 1)));
+    assert_eq!(zone_range(&ZONES, &CROSSING, &good, 9), Err(refusal(Answer::Joint)));
+    let long = zone_range(&siblings(MOST_NODES + 1), &SAMPLES, &good, 0);
+    assert_eq!(long, Err(Refusal { list: Some(ANCESTORS), ..refusal(Answer::Long) }));
+    let hint = Answer::Reading.hint();
+    let said = range(&[good[0], Reading::Percent(100.5)], 0).expect_err("it is above 100 percent");
+    assert_eq!(said.to_string(), format!("refused 17 READING index 1: {hint}"));
 }
 
 #[test]

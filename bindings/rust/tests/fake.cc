@@ -25,6 +25,10 @@ belfry_page belfry_list(const uint32_t *, size_t, const uint32_t *, size_t, belf
                         uint32_t *, size_t) {
     return {refused, 0, 0, ticket};
 }
+belfry_range belfry_zone_range(const uint32_t *, size_t, const uint32_t *, size_t, const uint32_t *,
+                               size_t, uint32_t) {
+    return {refused, 0, 0, 0};
+}
 belfry_result belfry_number(uint32_t, const uint32_t *, size_t, uint32_t *, size_t) {
     return {refused, 0};
 }

@@ -140,6 +140,18 @@ fn a_page_with_room_for_no_pair_is_refused() {
     assert_eq!(listing(&[]), Err(room));
 }
 
+/// Tries what was once sown at the sand's rate: a missing reading was taken for 0, and 0 was read
+/// as bare sand.
+#[test]
+fn a_missing_reading_is_not_zero() {
+    let (zones, samples) = ([node(2, 10, 2)], [node(4, 6, 4), node(8, 9, 3)]);
+    let range = |readings: [Reading; 2]| zone_range(&zones, &samples, &readings, 0);
+    let only = |percent| Ok(Some(Range { low: percent, high: percent }));
+    assert_eq!(range([Reading::Missing; 2]), Ok(None));
+    assert_eq!(range([Reading::Missing, Reading::Percent(4.5)]), only(4.5));
+    assert_eq!(range([Reading::Missing, Reading::Percent(0.0)]), only(0.0));
+}
+
 #[test]
 fn a_ticket_of_another_form_is_told() {
     let place = Place::After { document: 5, first: 0x0102_0304, second: u32::MAX };
