@@ -69,6 +69,28 @@ static void call_list(void) {
     expect_output(out, sizeof out, out, 0);
 }
 
+/* Asks the outer zone for its low and high, then the inner zone without a reading and with a faulty
+ * one. */
+static void call_zone_range(void) {
+    const uint32_t thirty_eight = 0x42180000, four_and_a_half = 0x40900000;
+    uint32_t readings[] = {BELFRY_GRAMS, thirty_eight, BELFRY_PERCENT, four_and_a_half};
+
+    belfry_range range = belfry_zone_range(zones, 8, samples, 8, readings, 4, 0);
+    expect_verdict("belfry_zone_range", range.verdict, BELFRY_TAKEN, 0, 0);
+    expect_range(range, 1, 38.0f / 10.0f, 4.5f);
+
+    readings[0] = BELFRY_MISSING;
+    readings[1] = 0;
+    range = belfry_zone_range(zones, 8, samples, 8, readings, 4, 1);
+    expect_verdict("belfry_zone_range, no reading", range.verdict, BELFRY_TAKEN, 0, 0);
+    expect_range(range, 0, 0.0f, 0.0f);
+
+    readings[2] = BELFRY_GRAMS + 1;
+    range = belfry_zone_range(zones, 8, samples, 8, readings, 4, 1);
+    expect_verdict("belfry_zone_range, refused", range.verdict, BELFRY_READING, 0, 1);
+    expect_range(range, 0, 0.0f, 0.0f);
+}
+
 /* Makes a ticket by BELFRY_TICKET, which must be fresh and have the relation and the order asked
  * for. */
 static void make_ticket(void) {
@@ -164,10 +186,10 @@ static void call_faulty_book(void) {
 static void call_name(void) {
     uint8_t name[BELFRY_NAME_BYTES + 1];
     memset(name, PAINT, sizeof name);
-    belfry_name(BELFRY_ABSENT, name);
+    belfry_name(BELFRY_READING, name);
     printf("belfry_name\n");
     for (size_t i = 0; i < BELFRY_NAME_BYTES; i++)
-        expect("a byte of the name", name[i], (uint8_t) "ABSENT  "[i]);
+        expect("a byte of the name", name[i], (uint8_t) "READING "[i]);
     expect("the byte after the name", name[BELFRY_NAME_BYTES], PAINT);
 }
 
@@ -176,6 +198,7 @@ int main(void) {
     call_checks();
     make_ticket();
     call_list();
+    call_zone_range();
     call_tables();
     call_links();
     call_book();

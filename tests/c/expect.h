@@ -39,6 +39,19 @@ static inline void expect_ticket(belfry_ticket found, belfry_ticket wanted) {
     expect("second", found.second, wanted.second);
 }
 
+/* Returns the bits of a float. */
+static inline uint32_t bits_of(float value) {
+    uint32_t bits;
+    memcpy(&bits, &value, sizeof bits);
+    return bits;
+}
+
+static inline void expect_range(belfry_range found, uint32_t present, float low, float high) {
+    expect("present", found.present, present);
+    expect("the bits of the low", bits_of(found.low), bits_of(low));
+    expect("the bits of the high", bits_of(found.high), bits_of(high));
+}
+
 /* Checks that the first `written` bytes of an output are the wanted ones, and that the others are
  * still painted. */
 static inline void expect_output(const void *found, size_t bytes, const void *wanted,

@@ -40,6 +40,11 @@ static const place answers[] = {
     FIELD(belfry_page, done, 12),
     FIELD(belfry_page, count, 16),
     FIELD(belfry_page, ticket, 24),
+    SIZE(belfry_range, 24),
+    VERDICT(belfry_range),
+    FIELD(belfry_range, present, 12),
+    FIELD(belfry_range, low, 16),
+    FIELD(belfry_range, high, 20),
     SIZE(belfry_result, 24),
     VERDICT(belfry_result),
     FIELD(belfry_result, count, 16),
@@ -79,6 +84,9 @@ static const place words[] = {
     SIZE(belfry_entry, BELFRY_ENTRY_WORDS * sizeof(uint32_t)),
     FIELD(belfry_entry, tag, 0),
     FIELD(belfry_entry, count, 4),
+    SIZE(belfry_reading, BELFRY_READING_WORDS * sizeof(uint32_t)),
+    FIELD(belfry_reading, kind, 0),
+    FIELD(belfry_reading, bits, 4),
     SIZE(belfry_ticket, BELFRY_TICKET_WORDS * sizeof(uint32_t)),
 };
 

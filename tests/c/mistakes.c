@@ -52,6 +52,15 @@ static void give_null_lists(void) {
                 belfry_list_pairs(zones, 4, NULL, 0, fresh_ticket(), out, ROOM), 1, 0);
     expect_page("belfry_list_pairs, no output",
                 belfry_list_pairs(zones, 4, samples, 4, fresh_ticket(), NULL, 0), 0, 0);
+    expect_verdict("belfry_zone_range_nodes",
+                   belfry_zone_range_nodes(NULL, 0, NULL, 0, NULL, 0, 0).verdict, BELFRY_ABSENT, 0,
+                   0);
+    expect_verdict("belfry_zone_range_nodes, no samples",
+                   belfry_zone_range_nodes(zones, 4, NULL, 0, NULL, 0, 3).verdict, BELFRY_TAKEN, 0,
+                   0);
+    expect_verdict("belfry_zone_range_nodes, no readings",
+                   belfry_zone_range_nodes(zones, 4, samples, 4, NULL, 0, 0).verdict, BELFRY_RAGGED,
+                   0, 0);
     expect_verdict("belfry_link_nodes", belfry_link_nodes(NULL, 0, NULL, 0).verdict, BELFRY_TAKEN,
                    0, 0);
     expect_verdict("belfry_link_nodes, no output", belfry_link_nodes(zones, 4, NULL, 0).verdict,
@@ -106,8 +115,10 @@ static void give_null(void) {
 static void overflow_inputs(void) {
     const size_t nodes = SIZE_MAX / BELFRY_NODE_WORDS + 1, rows = SIZE_MAX / BELFRY_ROW_WORDS + 1;
     const size_t entries = SIZE_MAX / BELFRY_ENTRY_WORDS + 1;
+    const size_t readings = SIZE_MAX / BELFRY_READING_WORDS + 1;
     const belfry_row table[] = {{5, 1, 2, 1, 1}};
     const belfry_entry empty_list[] = {{2, 0}};
+    const belfry_reading reading = belfry_percent(4.5f);
     uint32_t marks[2];
     belfry_link links[ROOM];
     belfry_node picked[ROOM];
@@ -117,6 +128,9 @@ static void overflow_inputs(void) {
                    0, 0);
     expect_verdict("belfry_check_two_lists", belfry_check_two_lists(zones, 4, samples, nodes),
                    BELFRY_LONG, BELFRY_DESCENDANTS, 0);
+    expect_verdict("belfry_zone_range_nodes",
+                   belfry_zone_range_nodes(zones, 4, NULL, 0, &reading, readings, 0).verdict,
+                   BELFRY_RAGGED, 0, 0);
     expect_verdict("belfry_link_nodes", belfry_link_nodes(zones, nodes, links, ROOM).verdict,
                    BELFRY_LONG, 0, 0);
     expect("belfry_unnumber_rows", belfry_unnumber_rows(table, rows, marks, 2).answer, BELFRY_LONG);
@@ -178,6 +192,33 @@ static void give_no_room(void) {
                 belfry_list_pairs(zones, 4, samples, 4, page.ticket, pairs, 0), 1, 0);
 }
 
+/* Holds what the zones of the samples answer, by their indexes, against what has to be there. */
+static void expect_ranges(const belfry_reading *readings, const belfry_range *wanted) {
+    for (uint32_t zone = 0; zone < COUNT(zones); zone++) {
+        const belfry_range range = belfry_zone_range_nodes(zones, 4, samples, 4, readings, 4, zone);
+        expect_verdict("belfry_zone_range_nodes", range.verdict, BELFRY_TAKEN, 0, 0);
+        expect_range(range, wanted[zone].present, wanted[zone].low, wanted[zone].high);
+    }
+}
+
+/* Reads a zero where there is no low and no high. Only `present` tells a zone without a reading
+ * from one whose only reading is zero. A float of 0 that stands in for a missing reading is one. */
+static void take_missing_for_zero(void) {
+    const belfry_reading missing = belfry_no_reading();
+    const belfry_reading readings[] = {belfry_percent(4.5f), missing, belfry_grams(38.0f), missing};
+    const belfry_reading zeros[] = {missing, belfry_percent(0.0f), missing, missing};
+    const belfry_verdict taken = {BELFRY_TAKEN, 0, 0};
+    const float tenth = 38.0f / 10.0f;
+    const belfry_range found[] = {{taken, 1, tenth, 4.5f},
+                                  {taken, 1, 4.5f, 4.5f},
+                                  {taken, 1, tenth, tenth},
+                                  {taken, 0, 0, 0}};
+    const belfry_range found_zeros[] = {
+        {taken, 1, 0, 0}, {taken, 0, 0, 0}, {taken, 1, 0, 0}, {taken, 1, 0, 0}};
+    expect_ranges(readings, found);
+    expect_ranges(zeros, found_zeros);
+}
+
 /* Checks that bytes which aren't a ticket of this form are refused, and that the caller's ticket
  * stays as it was. */
 static void refuse_bytes(const uint8_t *stored, size_t bytes, belfry_ticket_fault fault) {
@@ -229,7 +270,7 @@ static void print_name(void) {
     expect("what it returns", belfry_answer_name(BELFRY_ROOM, name) == name, 1);
     expect_output(name, sizeof name, part, sizeof part);
     expect("the length of an unknown answer's name",
-           strlen(belfry_answer_name(BELFRY_ABSENT + 1, name)), 0);
+           strlen(belfry_answer_name(BELFRY_READING + 1, name)), 0);
 }
 
 static const struct {
@@ -240,6 +281,7 @@ static const struct {
     {"null", give_null},
     {"overflow", overflow},
     {"room", give_no_room},
+    {"missing", take_missing_for_zero},
     {"ticket", store_ticket},
     {"name", print_name},
 };

@@ -9,6 +9,11 @@ static const belfry_node zones[] = {{5, 2, 30, 2}, {5, 3, 7, 3}, {5, 9, 20, 3}, 
 /* The last one is at fault: it comes after a node that starts later. */
 static const belfry_node samples[] = {
     {5, 4, 6, 4}, {5, 11, 12, 5}, {5, 16, 17, 4}, {5, 40, 40, 2}, {5, 39, 39, 2}};
+/* The third one is at fault: a missing reading has no bits. */
+static const belfry_reading readings[] = {{BELFRY_GRAMS, 0x42180000},
+                                          {BELFRY_MISSING, 0},
+                                          {BELFRY_MISSING, 1},
+                                          {BELFRY_PERCENT, 0x40900000}};
 static const uint32_t marks[] = {1, 2, 2, 3, 65536, 0, 0, 3, 0, 0, 0};
 static const belfry_row table[] = {{5, 1, 11, 1, 1}, {5, 2, 10, 2, 2},    {5, 3, 7, 3, 2},
                                    {5, 4, 6, 4, 3},  {5, 5, 5, 5, 65536}, {5, 8, 9, 3, 3}};
@@ -19,6 +24,7 @@ static const belfry_node stored[] = {{5, 2, 30, 2},  {5, 3, 7, 3}, {5, 9, 20, 3}
 /* The same in words. */
 static uint32_t zone_words[COUNT(zones) * BELFRY_NODE_WORDS];
 static uint32_t sample_words[COUNT(samples) * BELFRY_NODE_WORDS];
+static uint32_t reading_words[COUNT(readings) * BELFRY_READING_WORDS];
 static uint32_t table_words[COUNT(table) * BELFRY_ROW_WORDS];
 static uint32_t entry_words[COUNT(entries) * BELFRY_ENTRY_WORDS];
 static uint32_t stored_words[COUNT(stored) * BELFRY_NODE_WORDS];
@@ -26,6 +32,7 @@ static uint32_t stored_words[COUNT(stored) * BELFRY_NODE_WORDS];
 static void fill_words(void) {
     memcpy(zone_words, zones, sizeof zone_words);
     memcpy(sample_words, samples, sizeof sample_words);
+    memcpy(reading_words, readings, sizeof reading_words);
     memcpy(table_words, table, sizeof table_words);
     memcpy(entry_words, entries, sizeof entry_words);
     memcpy(stored_words, stored, sizeof stored_words);
@@ -85,6 +92,25 @@ static void list_both(size_t zone_count, size_t sample_count, size_t room) {
     expect("count", pairs.count, words.count);
     expect_ticket(pairs.ticket, words.ticket);
     expect_output(out, sizeof out, by_words, sizeof out);
+}
+
+/* Asks for the zone after the last one too, and gives as many readings as samples or one more. */
+static void range_of(size_t zone_count, size_t sample_count, size_t reading_count, uint32_t zone) {
+    const belfry_range words = belfry_zone_range(
+        zone_words, BELFRY_NODE_WORDS * zone_count, sample_words, BELFRY_NODE_WORDS * sample_count,
+        reading_words, BELFRY_READING_WORDS * reading_count, zone);
+    const belfry_range nodes = belfry_zone_range_nodes(zones, zone_count, samples, sample_count,
+                                                       readings, reading_count, zone);
+    expect_same("belfry_zone_range_nodes", nodes.verdict, words.verdict);
+    expect_range(nodes, words.present, words.low, words.high);
+}
+
+/* Makes a reading of each kind, which must have the bits of its value. */
+static void make_readings(void) {
+    const belfry_reading made[] = {belfry_grams(38.0f), belfry_no_reading(), belfry_percent(4.5f)};
+    const belfry_reading wanted[] = {readings[0], readings[1], readings[3]};
+    printf("belfry_grams, belfry_no_reading, belfry_percent\n");
+    expect_output(made, sizeof made, wanted, sizeof wanted);
 }
 
 static void number_marks(size_t count, size_t room) {
@@ -186,6 +212,10 @@ static void try_lists(void) {
         check_both(zone_count, sample_count);
         list_both(zone_count, sample_count, ROOM);
         list_both(zone_count, sample_count, 2);
+        for (uint32_t zone = 0; zone <= zone_count; zone++) {
+            range_of(zone_count, sample_count, sample_count % (COUNT(readings) + 1), zone);
+            range_of(zone_count, sample_count, COUNT(readings), zone);
+        }
     }
 }
 
@@ -215,6 +245,7 @@ static void try_books(void) {
 
 int main(void) {
     fill_words();
+    make_readings();
     try_lists();
     try_counts();
     try_books();

@@ -20,21 +20,21 @@ MOST_WORDS, SHOWN_WORDS = 60, 10
 MOST_PAIRS = 40
 
 
-# What all three files share: words, answers, and where a case stands.
+# What the files share: words, answers, and where a case stands.
 
-def run_of(text):
+def run_of(text, base):
     """Returns the words of `4096*5 1 3 1 + 0 3 3 0`, of `3*7`, or of plain words."""
     times, star, first = text.rpartition("*")
     first, _, step = first.partition("+")
-    first, step = ([int(word) for word in part.split()] for part in (first, step))
+    first, step = ([int(word, base) for word in part.split()] for part in (first, step))
     step = step or [0] * len(first)
     return [(word + i * more) % 2**32
             for i in range(int(times) if star else 1) for word, more in zip(first, step)]
 
 
 @lru_cache(maxsize=None)
-def words_of(text):
-    return [word for run in text.split(",") for word in run_of(run)]
+def words_of(text, base=10):
+    return [word for run in text.split(",") for word in run_of(run, base)]
 
 
 @lru_cache(maxsize=None)
@@ -88,6 +88,20 @@ def list_answers(line):
     if len(texts) == 1:
         return [placed(verdict_of(*texts))]
     return [with_part(texts), "swapped: " + with_part(texts[::-1])]
+
+
+# tests/cases/ranges.txt: a zone's low and high.
+
+def range_answers(line):
+    label, _, texts = line.partition(":")
+    zones, samples, readings = texts.split("/")
+    zone = int(label.split()[1])
+    *verdict, bounds = scope.zone_range(
+        words_of(zones), words_of(samples), words_of(readings, 16), zone)
+    if verdict[0] != "TAKEN":
+        return [placed(verdict)]
+    shown = "low {:08x} high {:08x}".format(*bounds) if bounds else "no reading"
+    return [f"{placed(verdict)}, {shown}"]
 
 
 # tests/cases/marks.txt: numbering, its way back, picking and links.
@@ -248,6 +262,7 @@ def files():
     makers = {
         "lists.txt": lambda lines: answered(lines, list_answers),
         "marks.txt": lambda lines: answered(lines, mark_answers),
+        "ranges.txt": lambda lines: answered(lines, range_answers),
         "pairs.txt": with_runs,
     }
     made = {}

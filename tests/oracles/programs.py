@@ -13,7 +13,8 @@ import sys
 import stored
 from figure_books import S, Z
 from scope import (
-    ANSWER, MOST, check_list, check_two, check_words, cut, flat, listing, page, pair_lines,
+    ANSWER, GRAMS, MISSING, MOST, bits_of, check_list, check_two, check_words, cut, flat, float_of,
+    listing, page, pair_lines, zone_range,
 )
 
 FRESH = ("inside", "descendant", ())
@@ -34,6 +35,19 @@ def first():
     """Returns the pairs of the scope's figure in words."""
     pairs = listing(Z, S, "inside", "descendant")
     lines = [f"zone {x[1]}-{x[2]} holds sample {y[1]}-{y[2]}\n" for x, y in pairs]
+    return "".join(lines)
+
+
+# bindings/python/readings.py, the program of a zone without a reading.
+
+def ranges():
+    """Returns the ranges of the figure's zones, where the lab has read the second sample alone."""
+    readings = [MISSING, 0, GRAMS, bits_of(45.0)]
+    lines = []
+    for zone in range(len(Z)):
+        _, _, _, found = zone_range(flat(Z), flat(S), readings, zone)
+        low_high = "Range(low={}, high={})".format(*map(float_of, found)) if found else None
+        lines.append(f"zone {zone}: {low_high}\n")
     return "".join(lines)
 
 
@@ -161,6 +175,7 @@ def files():
     return stored.as_bytes({
         "bindings/c/farm.out": farm(),
         "bindings/python/first.out": first(),
+        "bindings/python/readings.out": ranges(),
         "examples/cab.out": cab(),
         "examples/model.out": rates(),
         "crates/figures_run/stdout": lengths(),

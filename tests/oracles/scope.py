@@ -8,7 +8,7 @@ import struct
 
 NAMES = """
     TAKEN RAGGED LONG LEVEL SPAN ORDER CROSS DEPTH JOINT ROOM MARK STRAY DEEP UNCLOSED TABLE
-    CONTENTS ABSENT
+    CONTENTS ABSENT READING
 """.split()
 ANSWER = {name: number for number, name in enumerate(NAMES)}
 MOST = 4096
@@ -113,6 +113,58 @@ def check_two(*lists):
         if answer != "TAKEN":
             return answer, number, index
     return "JOINT" if at_odds(*(cut(words, 4) for words in lists)) else "TAKEN", 0, 0
+
+
+# Lab readings: a kind and the bits of a 32-bit float. Python's floats have twice the bits. Its
+# quotient of two 32-bit floats, rounded once more to 32 bits, is the nearest 32-bit float.
+
+MISSING, PERCENT, GRAMS = 0, 1, 2
+MOST_VALUE = {PERCENT: 100.0, GRAMS: 1000.0}
+
+
+def as_float(number):
+    """Returns the nearest 32-bit float."""
+    return struct.unpack("<f", struct.pack("<f", number))[0]
+
+
+def float_of(bits):
+    return struct.unpack("<f", struct.pack("<I", bits))[0]
+
+
+def bits_of(number):
+    return struct.unpack("<I", struct.pack("<f", number))[0]
+
+
+def is_reading(kind, bits):
+    """Tells whether two words are a reading. No comparison with what isn't a number holds."""
+    if kind == MISSING:
+        return bits == 0
+    return kind in MOST_VALUE and 0.0 <= float_of(bits) <= MOST_VALUE[kind]
+
+
+def in_percent(kind, bits):
+    return as_float(float_of(bits) / 10.0) if kind == GRAMS else float_of(bits)
+
+
+def zone_range(zones, samples, readings, zone):
+    """Returns the answer, the list, the index, and the low and the high as bits; () of none."""
+    verdict = check_two(zones, samples)
+    if verdict[0] != "TAKEN":
+        return *verdict, ()
+    nodes, outer = cut(samples, 4), cut(zones, 4)
+    if len(readings) != 2 * len(nodes):
+        return "RAGGED", 0, 0, ()
+    pairs = cut(readings, 2)
+    faulty = [index for index, pair in enumerate(pairs) if not is_reading(*pair)]
+    if faulty:
+        return "READING", 0, faulty[0], ()
+    if zone >= len(outer):
+        return "ABSENT", 0, 0, ()
+    values = [in_percent(*pair) for node, pair in zip(nodes, pairs)
+              if inside(node, outer[zone]) and pair[0] != MISSING]
+    # Of equal values Python's min and max return the first.
+    found = tuple(map(bits_of, (min(values), max(values)))) if values else ()
+    return "TAKEN", 0, 0, found
 
 
 # Listings and tickets. A ticket is (relation, order, place), and a fresh place is ().

@@ -1,4 +1,5 @@
 """The scope's figures, every refusal, and the calls that write into the caller's memory."""
+import math
 import pickle
 import unittest
 from array import array
@@ -9,7 +10,9 @@ from support import (
 )
 
 import belfrychest as belfry
-from belfrychest import HINTS, NONE, Answer, Node, Page, Refused, Verdict
+from belfrychest import (
+    HINTS, NONE, Answer, Grams, Node, Page, Percent, Range, Refused, Verdict,
+)
 
 
 class Figures(unittest.TestCase):
@@ -38,6 +41,28 @@ class Figures(unittest.TestCase):
         last = belfry.page(Z, S, first.ticket, out)
         self.assertEqual(last, Page(1, True, ticket(0, 0, 1, 5, 8, 2)))
         self.assertEqual(out, Z[:4] + S[4:] + Z[4:] + S[:4] + painted(1))
+
+    def test_ranges(self):
+        tenth = model.as_float(38.0 / 10.0)
+        for readings, outer, inner in (
+            ([None, None], None, None), ([Percent(4.5), None], (4.5, 4.5), (4.5, 4.5)),
+            ([None, Percent(0)], (0.0, 0.0), None), ([None, Grams(38.0)], (tenth, tenth), None),
+            ([Percent(4.5), Grams(38.0)], (tenth, 4.5), (4.5, 4.5)),
+        ):
+            with self.subTest(readings=readings):
+                made = belfry.reading_words(readings)
+                for given in (readings, iter(readings), made, memoryview(made).toreadonly()):
+                    self.assertEqual(belfry.zone_range(Z, S, given, 0), outer)
+                self.assertEqual(belfry.zone_range(Z, S, readings, 1), inner)
+        self.assertIsNone(belfry.zone_range(Z, array("I"), [], 1))
+        found = belfry.zone_range(Z, S, [Percent(100), Grams(1000.0)], 0)
+        self.assertEqual((found, type(found), found.low, found.high),
+                         ((100.0, 100.0), Range, 100.0, 100.0))
+
+    def test_of_equal_readings_the_first_stays(self):
+        for readings in ([Percent(-0.0), Percent(0.0)], [Grams(0.0), Percent(-0.0)]):
+            found = belfry.zone_range(Z, S, readings, 0)
+            self.assertEqual(list(map(str, found)), [str(readings[0].value)] * 2)
 
     def test_links(self):
         self.assertEqual(belfry.links(Z).tolist(), [NONE, 1, NONE, 0, NONE, NONE])
@@ -81,9 +106,9 @@ class Figures(unittest.TestCase):
         self.assertEqual(len(belfry.faulty(Z, S)), 0)
 
     def test_names(self):
-        self.assertEqual([belfry.name(number) for number in range(17)], model.NAMES)
+        self.assertEqual([belfry.name(number) for number in range(18)], model.NAMES)
         self.assertEqual([answer.name for answer in Answer], model.NAMES)
-        self.assertEqual((belfry.name(17), belfry.name(NONE)), ("", ""))
+        self.assertEqual((belfry.name(18), belfry.name(NONE)), ("", ""))
 
 
 class Writing(unittest.TestCase):
@@ -114,6 +139,7 @@ SPANS = in_five((2, 10, 2), (3, 1, 3))
 CROSSED = in_five((1, 5, 1), (5, 7, 2))
 TOO_DEEP = in_five((1, 9, 3), (2, 3, 3))
 LONG = words(figure_books.siblings(4097, 0))
+GOOD = [Percent(4.5), Grams(38.0)]
 REFUSALS = [
     (lambda: belfry.check(array("I", bytes(4 * 16385))), Answer.RAGGED, None, None),
     (lambda: belfry.check_two(Z[:3], Z), Answer.RAGGED, 0, None),
@@ -129,6 +155,22 @@ REFUSALS = [
     (lambda: belfry.links(CROSSED), Answer.CROSS, 0, 1),
     (lambda: belfry.page(S, TOO_DEEP, INSIDE, painted(8)), Answer.DEPTH, 1, 1),
     (lambda: belfry.check_two(in_five((1, 9, 1)), in_five((4, 12, 2))), Answer.JOINT, None, None),
+    (lambda: belfry.zone_range(Z[:3], S, GOOD, 0), Answer.RAGGED, 0, None),
+    (lambda: belfry.zone_range(Z, S[:3], GOOD, 0), Answer.RAGGED, 1, None),
+    (lambda: belfry.zone_range(LONG, S, GOOD, 0), Answer.LONG, 0, None),
+    (lambda: belfry.zone_range(Z, LEVELS, GOOD, 0), Answer.LEVEL, 1, 1),
+    (lambda: belfry.zone_range(Z, S, GOOD[1:], 0), Answer.RAGGED, None, None),
+    (lambda: belfry.zone_range(Z, S, [*GOOD, None], 0), Answer.RAGGED, None, None),
+    (lambda: belfry.zone_range(Z, S, array("I", [1, 0, 1]), 0), Answer.RAGGED, None, None),
+    (lambda: belfry.zone_range(Z, S, [Percent(-1.0), *GOOD[1:]], 1), Answer.READING, None, 0),
+    (lambda: belfry.zone_range(Z, S, [GOOD[0], Grams(1000.5)], 1), Answer.READING, None, 1),
+    (lambda: belfry.zone_range(Z, S, [None, Percent(math.nan)], 9), Answer.READING, None, 1),
+    (lambda: belfry.zone_range(Z, S, [Grams(math.inf), None], 0), Answer.READING, None, 0),
+    (lambda: belfry.zone_range(Z, S, [None, Grams(1e39)], 0), Answer.READING, None, 1),
+    (lambda: belfry.zone_range(Z, S, array("I", [1, 0, 0, 1]), 0), Answer.READING, None, 1),
+    (lambda: belfry.zone_range(Z, S, array("I", [3, 0, 0, 0]), 0), Answer.READING, None, 0),
+    (lambda: belfry.zone_range(Z, S, GOOD, 2), Answer.ABSENT, None, None),
+    (lambda: belfry.zone_range(Z, S, GOOD, NONE), Answer.ABSENT, None, None),
     (lambda: belfry.number_into(5, MARKS, painted(29)), Answer.ROOM, None, None),
     (lambda: belfry.unnumber_into(TABLE, painted(10)), Answer.ROOM, None, None),
     (lambda: belfry.pick_into(TABLE, 2, painted(7)), Answer.ROOM, None, None),
@@ -171,11 +213,11 @@ class Refusals(unittest.TestCase):
     def test_the_message_says_what_and_what_to_do_and_the_place_if_there_is_one(self):
         for refused, expected in (
             (Refused(5, 1, 2), "5 ORDER, list 1, index 2: "), (Refused(2, 0), "2 LONG, list 0: "),
-            (Refused(8), "8 JOINT: "),
+            (Refused(8), "8 JOINT: "), (Refused(17, index=3), "17 READING, index 3: "),
         ):
             self.assertEqual(str(refused), expected + HINTS[refused.number])
             self.assertEqual(refused.hint, HINTS[refused.number])
-        self.assertEqual((set(HINTS), len(set(HINTS.values()))), (set(Answer), 17))
+        self.assertEqual((set(HINTS), len(set(HINTS.values()))), (set(Answer), 18))
 
     def test_it_can_be_pickled(self):
         again = pickle.loads(pickle.dumps(Refused(6, 1, 7)))

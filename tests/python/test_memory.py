@@ -60,6 +60,7 @@ KINDS = {
 if numpy:
     KINDS["numpy"] = lambda numbers: numpy.array(numbers, dtype=numpy.uint32)
     KINDS["numpy in rows"] = lambda numbers: numpy.array(numbers, dtype="<u4").reshape(-1, 4)
+READINGS = belfry.reading_words([belfry.Percent(4.5), belfry.Grams(1000.0)])
 EMPTY = [
     array("I"), memoryview(array("I")), memoryview(b"").cast("I"),
     memoryview(bytearray()).cast("I"), (ctypes.c_uint32 * 0)(),
@@ -77,6 +78,7 @@ class Memory(unittest.TestCase):
                 self.assertEqual(belfry.Pieces(zones, samples).listing(), belfry.listing(Z, S))
                 self.assertEqual(list(belfry.nodes(zones)), list(belfry.nodes(Z)))
                 self.assertEqual(belfry.links(zones), belfry.links(Z))
+                self.assertEqual(belfry.zone_range(zones, samples, READINGS, 0), (4.5, 100.0))
                 self.assertEqual(belfry.faulty(crossed, samples).tolist(), [5, 3, 12, 3])
                 self.assertEqual(belfry.faulty(samples, crossed).tolist(), [5, 3, 12, 3])
                 self.assertEqual(belfry.write_book({3: samples, 2: zones}), BOOK)
@@ -106,6 +108,7 @@ class Memory(unittest.TestCase):
                 self.assertEqual(list(belfry.pairs(nothing, S)), [])
                 self.assertEqual((belfry.links(nothing), belfry.pick(nothing, 2)),
                                  (array("I"), array("I")))
+                self.assertIsNone(belfry.zone_range(Z, nothing, nothing, 1))
                 self.assertEqual(belfry.book_write(nothing, nothing), bytes(4))
                 page = belfry.page(nothing, nothing, INSIDE, painted(8))
                 self.assertEqual(page, Page(0, True, INSIDE))
@@ -212,6 +215,8 @@ class Shapes(unittest.TestCase):
         self.assertEqual(belfry.page(shaped(Z.tolist(), 4), S, INSIDE, pairs).count, 3)
         self.assertEqual(array("I", pairs.tobytes()), belfry.listing(Z, S))
         self.assertEqual(belfry.pick(shaped(TABLE.tolist(), 5), 2), Z)
+        found = belfry.zone_range(Z, S, shaped(READINGS.tolist(), 2), 0)
+        self.assertEqual(found, (4.5, 100.0))
         self.assertEqual(belfry.number(5, shaped(MARKS.tolist(), 1)), TABLE)
         self.assertEqual(belfry.book_write(shaped(ENTRIES.tolist(), 2), Z + S), BOOK)
         found = list(belfry.node_links(shaped(links.tolist(), 3)))
@@ -223,6 +228,7 @@ class Shapes(unittest.TestCase):
             (lambda: belfry.check(wrong), "4, the numbers of a node"),
             (lambda: belfry.Pieces(Z, wrong).check(), "4, the numbers of a node"),
             (lambda: belfry.page(Z, S, INSIDE, wrong), "8, the numbers of a pair"),
+            (lambda: belfry.zone_range(Z, S, wrong, 0), "2, the numbers of a reading"),
             (lambda: belfry.unnumber(wrong), "5, the numbers of a row"),
             (lambda: belfry.links_into(Z, wrong), "3, the numbers of a link"),
             (lambda: belfry.book_write(wrong, Z), "2, the numbers of an entry"),
@@ -290,6 +296,7 @@ CALLS = [
     (lambda zones, samples: belfry.Pieces(zones, samples).listing(), TWO),
     (lambda zones, samples, place, out: belfry.Pieces(zones, samples).page(place, out),
      [*TWO, ("ticket", INSIDE), ("out", painted(24))]),
+    (belfry.zone_range, [*TWO, ("words", READINGS), ("number", 0)]),
     (belfry.nodes, [("words", Z)]), (belfry.rows, [("words", TABLE)]),
     (belfry.node_pairs, [("words", Z)]), (belfry.node_links, [("words", belfry.links(Z))]),
     (belfry.number, [("number", 5), ("words", MARKS)]),

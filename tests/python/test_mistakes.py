@@ -6,7 +6,9 @@ from inspect import signature
 from support import INSIDE, S, Z, painted, starts, ticket, words
 
 import belfrychest as belfry
-from belfrychest import Answer, Order, Pieces, Refused, Relation, Ticket, Verdict
+from belfrychest import (
+    Answer, Grams, Order, Percent, Pieces, Refused, Relation, Ticket, Verdict,
+)
 
 
 class TheOrderGivenAsTheRelation(unittest.TestCase):
@@ -116,6 +118,44 @@ class ListsSplitAndJoinedPieceByPiece(unittest.TestCase):
         self.samples[-4 + END] = self.zones[END]
         del self.zones[-4:]
         self.assert_fault(Verdict(Answer.JOINT))
+
+
+class AMissingReadingTakenForZero(unittest.TestCase):
+    """Zero was read as bare sand, and good loam was sown at the sand's rate."""
+
+    def test_a_zone_without_a_reading_has_no_number(self):
+        self.assertIsNone(belfry.zone_range(Z, S, [None, Percent(4.5)], 1))
+        self.assertEqual(belfry.zone_range(Z, S, [None, Percent(4.5)], 0), (4.5, 4.5))
+        self.assertEqual(belfry.zone_range(Z, S, [Percent(0), Percent(4.5)], 1), (0.0, 0.0))
+
+    def test_a_bare_number_is_no_reading(self):
+        for reading in (0, 0.0, 4.5, float("nan"), "", "4.5", (4.5,), [1, 0]):
+            with self.subTest(reading=reading):
+                with self.assertRaisesRegex(TypeError, "^reading 1 must be Percent, Grams or None"):
+                    belfry.zone_range(Z, S, [None, reading], 0)
+
+    def test_a_value_that_is_no_number_is_an_error(self):
+        for value in (None, "4.5", b"4", [4.5]):
+            for kind in (Percent, Grams):
+                with self.assertRaisesRegex(TypeError, "^reading 0 must have a number, not "):
+                    belfry.zone_range(Z, S, [kind(value), None], 0)
+        with self.assertRaisesRegex(ValueError, "^reading 1 has a number that is no float"):
+            belfry.zone_range(Z, S, [None, Grams(10 ** 400)], 0)
+
+    def test_memory_of_floats_is_no_memory_of_readings(self):
+        for given in (array("f", [4.5, 3.8]), array("d", [4.5, 3.8]), bytes(16)):
+            with self.assertRaisesRegex(TypeError, "^readings must be a buffer of unsigned 32-bit"):
+                belfry.zone_range(Z, S, given, 0)
+
+    def test_percent_and_grams_are_not_equal(self):
+        self.assertNotEqual(Percent(4.5), Grams(4.5))
+
+    def test_an_index_that_is_no_word_is_an_error(self):
+        for zone in (-1, 2 ** 32):
+            with self.assertRaisesRegex(ValueError, "^zone must be from 0 to 4294967295, not "):
+                belfry.zone_range(Z, S, [None, None], zone)
+        with self.assertRaisesRegex(TypeError, "^zone must be a whole number, not "):
+            belfry.zone_range(Z, S, [None, None], 0.0)
 
 
 class APageWithRoomForNoPair(unittest.TestCase):

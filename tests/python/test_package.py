@@ -32,6 +32,7 @@ class Names(unittest.TestCase):
             (_archive.PartStruct, 32, verdict + [("start", 16), ("words", 24)]),
             (_archive.TicketStruct, 24, [(field, 4 * at) for at, field in enumerate(six)]),
             (_archive.PageStruct, 48, verdict + [("done", 12), ("count", 16), ("ticket", 24)]),
+            (_archive.RangeStruct, 24, verdict + [("present", 12), ("low", 16), ("high", 20)]),
             (_archive.WrittenStruct, 24, verdict + [("count", 16)]),
             (_archive.UnnumberedStruct, 16, [("answer", 0), ("document", 4), ("count", 8)]),
             (_archive.BookStruct, 16, verdict + [("lists", 12)]),
@@ -50,7 +51,7 @@ class Names(unittest.TestCase):
         own = [Refused.__init__, Refused.__str__, Ticket.__init__, Pieces.__init__]
         methods = [method for class_ in (Ticket, Pieces) for name, method in
                    inspect.getmembers(class_, inspect.isroutine) if not name.startswith("_")]
-        self.assertEqual((len(self.public_functions()), len(methods)), (28, 11))
+        self.assertEqual((len(self.public_functions()), len(methods)), (30, 11))
         for function in self.public_functions() + methods:
             self.assertGreater(len(function.__doc__ or ""), 0, function)
         for function in self.public_functions() + methods + own:
@@ -177,17 +178,29 @@ class SharedObjects(unittest.TestCase):
 
 
 class Readme(unittest.TestCase):
-    def test_the_program_that_joins_in_several_processes(self):
-        """Runs it as it stands, on the lists of test_mistakes."""
+    """Runs the programs of README as they stand there."""
+
+    def blocks(self, language):
         text = (PYTHON / "README.md").read_text()
-        blocks = re.findall(r"^```python\n(.*?)^```$", text, re.M | re.S)
-        self.assertEqual(len(blocks), 1)
+        return re.findall(rf"^```{language}\n(.*?)^```$", text, re.M | re.S)
+
+    def assert_prints(self, text, expected):
         with tempfile.TemporaryDirectory() as folder:
             program = Path(folder) / "program.py"
-            program.write_text(blocks[0])
+            program.write_text(text)
             started = start_python(program)
             out, err = started.communicate()
-        self.assertEqual((started.returncode, out, err), (0, b"9000 pairs\n", b""))
+        self.assertEqual((started.returncode, out.decode(), err), (0, expected, b""))
+
+    def test_the_program_that_joins_in_several_processes(self):
+        """Runs it on the lists of test_mistakes."""
+        joining, _ = self.blocks("python")
+        self.assert_prints(joining, "9000 pairs\n")
+
+    def test_the_program_that_asks_for_a_zone_without_a_reading(self):
+        _, asking = self.blocks("python")
+        [printed] = self.blocks("text")
+        self.assert_prints(asking, printed)
 
 
 if __name__ == "__main__":

@@ -15,6 +15,15 @@ import belfrychest as belfry
 from belfrychest import Answer, Refused
 
 
+def random_reading(rng):
+    """Returns the two words of a reading, now and then of a faulty one."""
+    kind = rng.choice((0, 1, 2)) if rng.random() < 0.98 else 3
+    bits = rng.choice((0, 1, 0x80000000, 0x40900000, 0x42180000, 0x42C80000))
+    if kind == 0 and rng.random() < 0.98:
+        bits = 0
+    return kind, bits if rng.random() < 0.98 else rng.choice((0x447A0001, 0xBF800000, 0x7FC00000))
+
+
 class AgainstTheModel(unittest.TestCase):
     def test_lists(self):
         rng, answers = random.Random(3), set()
@@ -34,6 +43,27 @@ class AgainstTheModel(unittest.TestCase):
                 self.assertEqual(list(belfry.node_pairs(found)), listing(zones, samples, **which))
                 self.assertEqual(belfry.links(words(zones)), words(model.links(zones)))
         self.assertEqual(answers, {Answer.TAKEN} | set(map(Answer, range(3, 9))))
+
+    def test_ranges(self):
+        rng, answers = random.Random(7), set()
+        for _ in range(1000):
+            tree = random_tree(rng)
+            zones, samples = words(some_of(rng, tree)), words(some_of(rng, tree))
+            if rng.random() < 0.1 and samples:
+                samples[rng.randrange(len(samples))] += 1
+            readings = array("I", chain.from_iterable(
+                random_reading(rng) for _ in range(len(samples) // 4)))
+            if rng.random() < 0.1:
+                readings.append(0)
+            zone = rng.randrange(len(zones) // 4 + 2)
+            answer, number, index, bits = model.zone_range(zones, samples, readings, zone)
+            found = self.placed(belfry.zone_range, zones, samples, readings, zone)
+            self.assertEqual(found[:3], (answer, number, index))
+            shown = tuple(map(model.bits_of, found[3])) if found[3] else ()
+            self.assertEqual(shown, bits)
+            answers.add((answer, bits != ()))
+        self.assertLessEqual({("TAKEN", True), ("TAKEN", False), ("RAGGED", False),
+                              ("READING", False), ("ABSENT", False), ("JOINT", False)}, answers)
 
     def test_marks(self):
         rng, answers = random.Random(4), set()

@@ -3,7 +3,7 @@
 
 use crate::model::answers::{row, Answer, Verdict, Written};
 use crate::model::pages::{Order, Relation, Ticket};
-use crate::model::{books, links, lists, marks, pages};
+use crate::model::{books, links, lists, marks, pages, readings};
 use crate::paint::hold;
 use belfrychest::raw;
 
@@ -85,6 +85,23 @@ pub fn list(
         raw::list(ancestors, descendants, ticket, out)
     });
     page.verdict.answer
+}
+
+/// Returns what the model says of a zone's readings. The low and the high are compared by their
+/// bits, which are all 0 where there are none.
+pub fn zone_range(zones: &[u32], samples: &[u32], readings: &[u32], zone: u32) -> readings::Range {
+    let expected = readings::zone_range(zones, samples, readings, zone);
+    let given = raw::zone_range(zones, samples, readings, zone);
+    assert_eq!(
+        (given.verdict, given.present, [given.low, given.high].map(f32::to_bits)),
+        (
+            raw_verdict(expected.verdict),
+            u32::from(expected.bounds.is_some()),
+            expected.bounds.unwrap_or_default().map(f32::to_bits)
+        ),
+        "given and expected: zone {zone} of {zones:?} with {samples:?} that read {readings:?}"
+    );
+    expected
 }
 
 pub fn number(document: u32, marks: &[u32], out: &mut [u32]) -> Answer {

@@ -3,7 +3,7 @@
 
 use crate::asking;
 use crate::ground::Ground;
-use crate::making::{books, lists, marks, tickets};
+use crate::making::{books, lists, marks, readings, tickets};
 use crate::model::answers::Answer::{self, *};
 use crate::model::answers::NAME_BYTES;
 use crate::model::books::{contents_end, NUMBER_BYTES, WANTED_WORDS};
@@ -11,6 +11,7 @@ use crate::model::links::LINK_WORDS;
 use crate::model::marks::{CLOSE, ROW_WORDS};
 use crate::model::nodes::{nodes, NODE_WORDS};
 use crate::model::pages::{pairs, PAIR_WORDS};
+use crate::model::readings::Range;
 use crate::model::MOST;
 use crate::random::{each_case, Random};
 use crate::tally::Tally;
@@ -67,6 +68,19 @@ fn list(random: &mut Random, ground: Ground) -> Answer {
         ticket,
         &mut ground.room(words),
     )
+}
+
+pub const ZONE_RANGE: Function = Function {
+    case: |random, ground| zone_range(random, ground).verdict.answer,
+    answers: &[Taken, Ragged, Long, Level, Span, Order, Cross, Depth, Joint, Absent, Reading],
+};
+
+/// Asks for a zone, and returns what the model says.
+pub fn zone_range(random: &mut Random, ground: Ground) -> Range {
+    let (zones, samples) = lists::two_lists(random);
+    let readings = readings::readings(random, samples.len() / NODE_WORDS);
+    let zone = readings::zone(random, &zones, &samples);
+    asking::zone_range(&ground.lend(&zones), &ground.lend(&samples), &ground.lend(&readings), zone)
 }
 
 pub const NUMBER: Function =

@@ -4,6 +4,7 @@
 pub mod books;
 pub mod lists;
 pub mod marks;
+pub mod readings;
 pub mod tickets;
 
 use crate::model::MOST;

@@ -10,6 +10,7 @@ pub mod marks;
 pub mod nodes;
 pub mod pages;
 pub mod printing;
+pub mod readings;
 
 /// The most nodes of a list, rows of a table and marks of a document.
 pub const MOST: usize = 4_096;

@@ -46,7 +46,15 @@ pub fn each_case(text: &str, count: usize, test: impl Fn(&Case) -> Vec<String>) 
 
 /// Returns the numbers of a text, which blanks part.
 pub fn numbers(text: &str) -> Vec<u32> {
-    text.split_whitespace().map(|number| number.parse().expect("a 32-bit number")).collect()
+    numbers_in(DECIMAL, text)
+}
+
+/// The radix of what isn't said to be hexadecimal.
+const DECIMAL: u32 = 10;
+
+fn numbers_in(radix: u32, text: &str) -> Vec<u32> {
+    let number = |number| u32::from_str_radix(number, radix).expect("a 32-bit number");
+    text.split_whitespace().map(number).collect()
 }
 
 /// Returns the one number of a text.
@@ -56,19 +64,30 @@ pub fn number(text: &str) -> usize {
 
 /// Returns the words of a case: parts with commas between them, each of which is numbers or a run.
 pub fn words(text: &str) -> Vec<u32> {
+    words_in(DECIMAL, text)
+}
+
+/// Returns the words of a case whose words are hexadecimal.
+pub fn hexadecimal_words(text: &str) -> Vec<u32> {
+    words_in(16, text)
+}
+
+fn words_in(radix: u32, text: &str) -> Vec<u32> {
     text.split(',')
         .flat_map(|part| {
-            part.split_once('*')
-                .map_or_else(|| numbers(part), |(count, item)| run(number(count), item))
+            part.split_once('*').map_or_else(
+                || numbers_in(radix, part),
+                |(count, item)| run(number(count), radix, item),
+            )
         })
         .collect()
 }
 
 /// Returns the words of a run of `count` items: the first, and each next one with the words after a
 /// "+" added to those of the item before. A sum that is too great wraps.
-fn run(count: usize, text: &str) -> Vec<u32> {
+fn run(count: usize, radix: u32, text: &str) -> Vec<u32> {
     let (first, step) = text.split_once('+').unwrap_or((text, ""));
-    let (mut item, step) = (numbers(first), numbers(step));
+    let (mut item, step) = (numbers_in(radix, first), numbers_in(radix, step));
     assert!(
         step.is_empty() || step.len() == item.len(),
         "a step of other words than the item: {text}"
@@ -84,6 +103,11 @@ fn run(count: usize, text: &str) -> Vec<u32> {
 /// Returns the two lists of a case, which a "/" parts, or nothing if there is one list.
 pub fn two_lists(text: &str) -> Option<(Vec<u32>, Vec<u32>)> {
     text.split_once('/').map(|(ancestors, descendants)| (words(ancestors), words(descendants)))
+}
+
+/// Returns a verdict's answer, list and index.
+pub fn verdict(given: raw::Verdict) -> String {
+    format!("{} list {} index {}", answer(given.answer), given.list, given.index)
 }
 
 /// Returns an answer's number and name.

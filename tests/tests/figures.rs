@@ -107,6 +107,26 @@ fn zones_joined_with_themselves() {
     assert_eq!(page(&zones(), &zones(), ticket(0, 0), 4).0, [[2, 3]]);
 }
 
+/// Returns what a zone of the example answers: the bits of its low and high, or none.
+fn range(readings: [u32; 4], zone: u32) -> Option<[u32; 2]> {
+    let expected = asking::zone_range(&zones(), &samples(), &readings, zone);
+    assert_eq!(expected.verdict.answer, Taken);
+    expected.bounds.map(|bounds| bounds.map(f32::to_bits))
+}
+
+/// Gives the first sample 4.5 percent or no reading, and the second 38 grams, which are 3.8
+/// percent. A zone whose only sample has no reading has no number, and never 0.
+#[test]
+fn a_zone_without_a_reading_has_none() {
+    let [percent, grams] = [4.5_f32, 38.0].map(f32::to_bits);
+    let [low, high] = [3.8_f32, 4.5].map(f32::to_bits);
+    assert_eq!(range([1, percent, 2, grams], 0), Some([low, high]));
+    assert_eq!(range([1, percent, 2, grams], 1), Some([high, high]));
+    assert_eq!(range([0, 0, 2, grams], 0), Some([low, low]));
+    assert_eq!(range([0, 0, 2, grams], 1), None);
+    assert_eq!(range([1, 0, 2, grams], 1), Some([0, 0]));
+}
+
 #[test]
 fn links_of_the_zones() {
     let mut out = [0; 6];
@@ -156,8 +176,9 @@ fn empty_lists_have_no_pairs() {
 #[test]
 fn names_are_filled_up_with_blanks() {
     let name = |number| String::from_utf8(raw::name(number).to_vec()).expect("names are ASCII");
-    let names: Vec<String> = (0..=17).chain([u32::MAX]).map(name).collect();
+    let names: Vec<String> = (0..=18).chain([u32::MAX]).map(name).collect();
     let table = "TAKEN   RAGGED  LONG    LEVEL   SPAN    ORDER   CROSS   DEPTH   JOINT   \
-                 ROOM    MARK    STRAY   DEEP    UNCLOSEDTABLE   CONTENTSABSENT  ";
+                 ROOM    MARK    STRAY   DEEP    UNCLOSEDTABLE   CONTENTSABSENT  \
+                 READING ";
     assert_eq!(names.concat(), format!("{table}{:16}", ""));
 }

@@ -1,5 +1,5 @@
-//! More than a million random cases of the twelve functions, sound and damaged, against the model.
-//! An answer that a function can give and that never came is a failure too.
+//! More than a million random cases of the thirteen functions, sound and damaged, against the
+//! model. An answer that a function can give and that never came is a failure too.
 
 use outside::cases::{self, Function};
 use outside::ground::Ground;
@@ -65,6 +65,11 @@ fn book_body() {
 #[test]
 fn book_write() {
     hold(&cases::BOOK_WRITE, 10);
+}
+
+#[test]
+fn zone_range() {
+    hold(&cases::ZONE_RANGE, 12);
 }
 
 #[test]

@@ -3,13 +3,9 @@
 
 use belfrychest::raw;
 use outside::asking;
-use outside::stored::{answer, each_case, listed, two_lists, words, Case};
+use outside::stored::{each_case, listed, two_lists, verdict, words, Case};
 
 const CASES: &str = include_str!("../cases/lists.txt");
-
-fn verdict(given: raw::Verdict) -> String {
-    format!("{} list {} index {}", answer(given.answer), given.list, given.index)
-}
 
 /// Returns the line of one list.
 fn one(list: &[u32]) -> String {

@@ -7,7 +7,7 @@ use outside::model::answers::Answer::{Table, Taken};
 use outside::model::links::LINK_WORDS;
 use outside::model::marks::{ROW_WORDS, TEXT};
 use outside::model::nodes::NODE_WORDS;
-use outside::stored::{answer, each_case, listed, words, Case};
+use outside::stored::{answer, each_case, listed, verdict, words, Case};
 
 const CASES: &str = include_str!("../cases/marks.txt");
 /// The most words that are all shown, and how many of a longer result are, at either end.
@@ -72,9 +72,8 @@ fn pick(tag: u32, table: &[u32], room: usize) -> String {
 fn links(list: &[u32], room: usize) -> String {
     let mut out = vec![0; room];
     asking::links(list, &mut out);
-    let raw::Written { verdict, count } = raw::links(list, &mut out);
-    let named = format!("{} list {} index {}", answer(verdict.answer), verdict.list, verdict.index);
-    format!("{named}, links {count}:{}", shown(&out[..LINK_WORDS * count]))
+    let raw::Written { verdict: found, count } = raw::links(list, &mut out);
+    format!("{}, links {count}:{}", verdict(found), shown(&out[..LINK_WORDS * count]))
 }
 
 /// Returns a letter for what a table with one word changed draws, or "=" if the change leaves it.

@@ -20,12 +20,13 @@ pub enum Answer {
     Table,
     Contents,
     Absent,
+    Reading,
 }
 
 /// The names in the order of their numbers.
-pub const NAMES: [&str; 17] = [
+pub const NAMES: [&str; 18] = [
     "TAKEN", "RAGGED", "LONG", "LEVEL", "SPAN", "ORDER", "CROSS", "DEPTH", "JOINT", "ROOM", "MARK",
-    "STRAY", "DEEP", "UNCLOSED", "TABLE", "CONTENTS", "ABSENT",
+    "STRAY", "DEEP", "UNCLOSED", "TABLE", "CONTENTS", "ABSENT", "READING",
 ];
 
 /// The bytes of a name's row.
