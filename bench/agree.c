@@ -7,16 +7,16 @@
 #include <stdlib.h>
 #include <string.h>
 
-enum { MOST_PAIRS = 300000, MOST_NOTES = 1 << 16, ANSWERS = BELFRY_ABSENT + 1 };
+enum { MOST_PAIRS = 300000, MOST_NOTES = 1 << 16, ANSWERS = BELFRY_READING + 1 };
 
 /* What a case gives to the calls. */
 struct input {
-    const uint32_t *ancestors, *descendants, *marks;
+    const uint32_t *ancestors, *descendants, *readings, *marks;
     const uint8_t *book;
-    size_t ancestor_words, descendant_words, mark_words, book_bytes;
+    size_t ancestor_words, descendant_words, reading_words, mark_words, book_bytes;
     size_t rooms[2];
     belfry_ticket ticket;
-    uint32_t tag;
+    uint32_t zone, tag;
 };
 
 /* All that a code answered in a case, in order. */
@@ -107,6 +107,22 @@ static void note_listings(struct notes *notes, const struct code *code, const st
     }
 }
 
+static void note_float(struct notes *notes, float number) {
+    uint32_t bits;
+    memcpy(&bits, &number, sizeof bits);
+    note(notes, bits);
+}
+
+static void note_range(struct notes *notes, const struct code *code, const struct input *in) {
+    belfry_range range =
+        code->zone_range(in->ancestors, in->ancestor_words, in->descendants, in->descendant_words,
+                         in->readings, in->reading_words, in->zone);
+    note_verdict(notes, range.verdict);
+    note(notes, range.present);
+    note_float(notes, range.low);
+    note_float(notes, range.high);
+}
+
 static void note_written(struct notes *notes, belfry_result result, size_t room_words) {
     note_verdict(notes, result.verdict);
     note(notes, result.count);
@@ -135,6 +151,7 @@ static void note_all(struct notes *notes, const struct code *code, const struct 
     notes->count = 0;
     note_checks(notes, code, in);
     note_listings(notes, code, in);
+    note_range(notes, code, in);
     note_others(notes, code, in);
 }
 
@@ -172,7 +189,8 @@ enum {
 /* A random case. */
 struct small {
     size_t words[SMALL_LISTS], marks, bytes;
-    uint32_t list[SMALL_LISTS][BELFRY_NODE_WORDS * MOST_SMALL], mark[SMALL_MARKS];
+    uint32_t list[SMALL_LISTS][BELFRY_NODE_WORDS * MOST_SMALL],
+        reading[BELFRY_READING_WORDS * MOST_SMALL], mark[SMALL_MARKS];
     uint8_t book[BELFRY_BOOK_BYTES(SMALL_LISTS, SMALL_NODES) + 1];
 };
 
@@ -274,6 +292,25 @@ static void fill_book(struct small *s) {
         s->bytes = below(2) ? below(end) : end + 1;
 }
 
+/* Fills in a reading for each sample, and most often leaves them sound. Values lie close together,
+ * so that many are equal, and at the limits. */
+static void fill_readings(struct small *s) {
+    static const uint32_t others[] = {0,          1,          0x80000000, 0x80000001, 0x42c80000,
+                                      0x42c80001, 0x447a0000, 0x447a0001, 0x7f7fffff, 0x7f800000,
+                                      0x7fc00000, 0xff800000, 0xffc00001};
+    build_readings(s->reading, MOST_SMALL);
+    for (size_t i = 0; i < MOST_SMALL; i++)
+        if (below(2)) {
+            float value = below(3) ? 3 : 30;
+            memcpy(&s->reading[BELFRY_READING_WORDS * i + 1], &value, sizeof value);
+            s->reading[BELFRY_READING_WORDS * i] = BELFRY_PERCENT + below(2);
+        }
+    if (below(2))
+        s->reading[BELFRY_READING_WORDS * below(MOST_SMALL) + 1] = others[below(13)];
+    if (below(8) == 0)
+        s->reading[BELFRY_READING_WORDS * below(MOST_SMALL)] = below(5);
+}
+
 static void compare_random(unsigned long number) {
     static struct small s;
     fill_lists(&s);
@@ -281,6 +318,7 @@ static void compare_random(unsigned long number) {
         size_t list = below(SMALL_LISTS);
         damage_list(s.list[list], &s.words[list]);
     }
+    fill_readings(&s);
     fill_marks(&s);
     fill_book(&s);
     struct input in = {
@@ -288,6 +326,10 @@ static void compare_random(unsigned long number) {
         .ancestor_words = s.words[0],
         .descendants = s.list[1],
         .descendant_words = s.words[1],
+        .readings = s.reading,
+        .reading_words = BELFRY_READING_WORDS * (s.words[1] / BELFRY_NODE_WORDS) -
+                         (s.words[1] > 0 && below(16) == 0),
+        .zone = below(8),
         .marks = s.mark,
         .mark_words = s.marks,
         .book = s.book,
@@ -304,14 +346,19 @@ static void compare_random(unsigned long number) {
 
 static void compare_shape(const char *name) {
     static struct shape lists, document;
+    static uint32_t readings[BELFRY_READING_WORDS * BELFRY_MOST_NODES];
     static uint8_t book[4];
     build_shape(&lists, name, BELFRY_MOST_NODES);
     build_document(&document, name, BELFRY_MOST_NODES);
+    build_readings(readings, lists.samples);
     struct input in = {
         .ancestors = lists.zone,
         .ancestor_words = BELFRY_NODE_WORDS * lists.zones,
         .descendants = lists.sample,
         .descendant_words = BELFRY_NODE_WORDS * lists.samples,
+        .readings = readings,
+        .reading_words = BELFRY_READING_WORDS * lists.samples,
+        .zone = lists.zones / 2,
         .marks = document.mark,
         .mark_words = document.marks,
         .book = book,
@@ -329,7 +376,9 @@ static void compare_shape(const char *name) {
  * deep as levels go. */
 static void compare_limit(size_t words, size_t mark_words, int nested) {
     static uint32_t list[BELFRY_NODE_WORDS * (BELFRY_MOST_NODES + 1)], mark[BELFRY_MOST_NODES + 1];
+    static uint32_t readings[BELFRY_READING_WORDS * (BELFRY_MOST_NODES + 1)];
     static uint8_t book[CONTENTS_BYTES];
+    build_readings(readings, BELFRY_MOST_NODES + 1);
     for (uint32_t i = 0; i < words / BELFRY_NODE_WORDS; i++) {
         uint32_t node[BELFRY_NODE_WORDS] = {5, 1 + 2 * i, nested ? UINT32_MAX - i : 2 + 2 * i,
                                             nested ? 1 + i : 1};
@@ -342,6 +391,8 @@ static void compare_limit(size_t words, size_t mark_words, int nested) {
         .ancestor_words = words,
         .descendants = list,
         .descendant_words = words,
+        .readings = readings,
+        .reading_words = BELFRY_READING_WORDS * (words / BELFRY_NODE_WORDS),
         .marks = mark,
         .mark_words = mark_words,
         .book = book,

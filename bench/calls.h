@@ -12,6 +12,9 @@
     belfry_page prefix##_list(const uint32_t *ancestors, size_t ancestor_words, \
                               const uint32_t *descendants, size_t descendant_words, \
                               belfry_ticket ticket, uint32_t *out, size_t out_words); \
+    belfry_range prefix##_zone_range( \
+        const uint32_t *zones, size_t zone_words, const uint32_t *samples, size_t sample_words, \
+        const uint32_t *readings, size_t reading_words, uint32_t zone); \
     belfry_result prefix##_links(const uint32_t *list, size_t words, uint32_t *out, \
                                  size_t out_words); \
     belfry_result prefix##_number(uint32_t document, const uint32_t *marks, size_t mark_words, \

@@ -20,6 +20,9 @@ struct code {
     belfry_page (*list)(const uint32_t *ancestors, size_t ancestor_words,
                         const uint32_t *descendants, size_t descendant_words, belfry_ticket ticket,
                         uint32_t *out, size_t out_words);
+    belfry_range (*zone_range)(const uint32_t *zones, size_t zone_words, const uint32_t *samples,
+                               size_t sample_words, const uint32_t *readings, size_t reading_words,
+                               uint32_t zone);
     belfry_result (*links)(const uint32_t *list, size_t words, uint32_t *out, size_t out_words);
     belfry_result (*number)(uint32_t document, const uint32_t *marks, size_t mark_words,
                             uint32_t *out, size_t out_words);

@@ -94,7 +94,8 @@ def sizes(shape, nodes=MOST_NODES):
 
 
 def unit_of(measure):
-    return {"check": "node", "book": "node", "links": "node", "number": "mark"}.get(measure, "pair")
+    return {"check": "node", "range": "node", "book": "node", "links": "node",
+            "number": "mark"}.get(measure, "pair")
 
 
 def units(measure, shape, nodes=MOST_NODES):
@@ -103,7 +104,8 @@ def units(measure, shape, nodes=MOST_NODES):
         return sizes(shape, min(int(nodes), PRINTED_NODES))["inside"]
     size = sizes(shape, nodes)
     both = size["zones"] + size["samples"]
-    counts = {"check": both, "book": both, "links": size["zones"], "number": size["marks"]}
+    counts = {"check": both, "range": both, "book": both, "links": size["zones"],
+              "number": size["marks"]}
     return counts[measure] if measure in counts else size[measure.split("-")[0]]
 
 

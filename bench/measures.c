@@ -10,7 +10,7 @@ enum {
 };
 
 struct shape shape;
-static uint32_t out[OUT_WORDS];
+static uint32_t out[OUT_WORDS], readings[BELFRY_READING_WORDS * BELFRY_MOST_NODES];
 uint8_t book[BELFRY_BOOK_BYTES(BOOK_LISTS, BOOK_NODES)];
 size_t book_bytes;
 
@@ -51,8 +51,11 @@ static int prepare_listing(struct measure *measure, const char *name) {
 
 int prepare_measure(struct measure *measure, const char *name, const char *shape_name,
                     size_t nodes) {
-    static const char *const names[] = {
-        [CHECK] = "check", [LINKS] = "links", [NUMBER] = "number", [BOOK] = "book"};
+    static const char *const names[] = {[CHECK] = "check",
+                                        [RANGE] = "range",
+                                        [LINKS] = "links",
+                                        [NUMBER] = "number",
+                                        [BOOK] = "book"};
     int named = 0;
     for (enum kind kind = CHECK; kind <= BOOK; kind++)
         if (names[kind] && strcmp(names[kind], name) == 0) {
@@ -66,6 +69,7 @@ int prepare_measure(struct measure *measure, const char *name, const char *shape
     if (!build_shape(&shape, shape_name, nodes))
         return 0;
     build_book();
+    build_readings(readings, shape.samples);
     return 1;
 }
 
@@ -98,6 +102,14 @@ static size_t check_two(const struct code *code) {
     return taken(verdict.answer, shape.zones + shape.samples);
 }
 
+/* Asks for the first zone, around which no other lies. */
+static size_t range_of_first(const struct code *code) {
+    belfry_range range = code->zone_range(shape.zone, BELFRY_NODE_WORDS * shape.zones, shape.sample,
+                                          BELFRY_NODE_WORDS * shape.samples, readings,
+                                          BELFRY_READING_WORDS * shape.samples, 0);
+    return taken(range.verdict.answer, shape.zones + shape.samples);
+}
+
 static size_t link_zones(const struct code *code) {
     belfry_result result = code->links(shape.zone, BELFRY_NODE_WORDS * shape.zones, out, OUT_WORDS);
     return taken(result.verdict.answer, result.count);
@@ -117,6 +129,8 @@ size_t run_measure(const struct measure *measure, const struct code *code) {
     switch (measure->kind) {
     case CHECK:
         return check_two(code);
+    case RANGE:
+        return range_of_first(code);
     case LINKS:
         return link_zones(code);
     case NUMBER:

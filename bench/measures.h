@@ -7,7 +7,7 @@
 
 enum { MOST_PAIRS = 262144 };
 
-enum kind { CHECK, LISTING, LINKS, NUMBER, BOOK };
+enum kind { CHECK, LISTING, RANGE, LINKS, NUMBER, BOOK };
 
 /* A measure that was prepared: the shape's words and bytes, and the output, lie in memory that all
    measures share. */
@@ -24,7 +24,7 @@ extern size_t book_bytes;
 
 /* Prepares a measure by its name on a shape with at most `nodes` nodes in each list, or on a
    document with at most `nodes` marks; it answers 0 where there is no such measure or shape. The
-   names are check, links, number, book, and RELATION-ORDER-ROOM with the relation inside or
+   names are check, range, links, number, book, and RELATION-ORDER-ROOM with the relation inside or
    directly, the order descendant or ancestor, and as room the pairs of a page, or all. */
 int prepare_measure(struct measure *measure, const char *name, const char *shape_name,
                     size_t nodes);

@@ -179,7 +179,7 @@ def check_counter():
 def print_codes():
     print("\n## Codes")
     say("Every call checks what it is given. The twins differ in how they check two lists, list "
-        "pairs and link nodes; they number marks and check books in one way.")
+        "pairs and link nodes; they find ranges, number marks and check books in one way.")
     print()
     item("archive: the proved library")
     item("three: ordinary C that checks two lists in three passes, over each list and then over "
@@ -346,10 +346,12 @@ def print_pages():
 
 
 def print_others():
-    print("\n## Links, numbering, books")
-    say("Links are those of the zones. What is numbered is a document of the shape's kind with at "
-        f"most {MOST_NODES:,} marks; a document of the shape `documents` has two nodes only and is "
-        "left out. The book that is checked holds both lists.")
+    print("\n## Ranges, links, numbering, books")
+    say("A range is that of the first zone, with a reading for each sample: in percent, in grams "
+        "and missing, in turn. Links are those of the zones. What is numbered is a document of the "
+        f"shape's kind with at most {MOST_NODES:,} marks; a document of the shape `documents` has "
+        "two nodes only and is left out. The book that is checked holds both lists.")
+    measured("Ranges", "range", "a node")
     measured("Links", "links", "a node")
     measured("Numbering", "number", "a mark", NUMBERED_SHAPES)
     measured("Checking a book", "book", "a node")

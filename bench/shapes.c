@@ -97,6 +97,17 @@ uint32_t random_number(uint64_t *state) {
     return *state >> 33;
 }
 
+void build_readings(uint32_t *readings, size_t samples) {
+    uint64_t state = 1;
+    for (size_t i = 0; i < samples; i++) {
+        float grams = random_number(&state) % BELFRY_MOST_GRAMS;
+        belfry_reading reading = i % 3 == 0   ? belfry_percent(grams / 10)
+                                 : i % 3 == 1 ? belfry_grams(grams)
+                                              : belfry_no_reading();
+        memcpy(&readings[BELFRY_READING_WORDS * i], &reading, sizeof reading);
+    }
+}
+
 /* Builds a walk that opens a zone, opens a sample or closes what is open, at random. */
 static void build_random(struct building *b) {
     uint64_t state = 1;

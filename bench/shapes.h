@@ -23,6 +23,10 @@ int build_shape(struct shape *shape, const char *name, size_t nodes);
    `marks`, and a nest has one zone less. Of a shape with many documents it builds one. */
 int build_document(struct shape *shape, const char *name, size_t marks);
 
+/* Fills in a reading for each of `samples` samples: in percent, in grams and missing, in turn. The
+   values are random. */
+void build_readings(uint32_t *readings, size_t samples);
+
 /* Returns the next random number after a state, which may begin with any number. The same state
  * gives the same number, which is below 2 to the 31. */
 uint32_t random_number(uint64_t *state);

@@ -8,14 +8,15 @@
 #include <string.h>
 #include <ucontext.h>
 
-enum { AREA_BYTES = 1 << 18, OUT_WORDS = 1 << 21, CALLS = 13, PAINTS = 2, WORD_BYTES = 8 };
+enum { AREA_BYTES = 1 << 18, OUT_WORDS = 1 << 21, CALLS = 14, PAINTS = 2, WORD_BYTES = 8 };
 
-/* What the calls are given: a shape's lists, a document's marks and table, and a book of the zones,
-   with the entry and the bytes that it has. */
+/* What the calls are given: a shape's lists and readings, a document's marks and table, and a book
+   of the zones, with the entry and the bytes that it has. */
 static struct shape lists, document;
 static size_t zone_words, sample_words, table_words, book_bytes;
 static uint32_t table[BELFRY_ROW_WORDS * BELFRY_MOST_NODES], entry[2],
-    book[4 + BELFRY_NODE_WORDS * BELFRY_MOST_NODES], out[OUT_WORDS];
+    book[4 + BELFRY_NODE_WORDS * BELFRY_MOST_NODES],
+    readings[BELFRY_READING_WORDS * BELFRY_MOST_NODES], out[OUT_WORDS];
 
 static void call_nothing(const struct code *code) {
     (void)code;
@@ -48,6 +49,11 @@ static void call_list_descendant(const struct code *code) {
 static void call_list_ancestor(const struct code *code) {
     call_list(code, 0, 1);
     call_list(code, 1, 1);
+}
+
+static void call_zone_range(const struct code *code) {
+    code->zone_range(lists.zone, zone_words, lists.sample, sample_words, readings,
+                     BELFRY_READING_WORDS * lists.samples, 0);
 }
 
 static void call_number(const struct code *code) {
@@ -100,6 +106,7 @@ static const struct {
     {"faulty", call_faulty, 0},
     {"list, descendant order", call_list_descendant, 1},
     {"list, ancestor order", call_list_ancestor, 1},
+    {"zone_range", call_zone_range, 1},
     {"number", call_number, 1},
     {"unnumber", call_unnumber, 0},
     {"pick", call_pick, 0},
@@ -153,6 +160,7 @@ static size_t stack_of(void (*make)(const struct code *code), const struct code 
 static void prepare(const char *shape_name) {
     build_shape(&lists, shape_name, BELFRY_MOST_NODES);
     build_document(&document, shape_name, BELFRY_MOST_NODES);
+    build_readings(readings, lists.samples);
     zone_words = BELFRY_NODE_WORDS * lists.zones;
     sample_words = BELFRY_NODE_WORDS * lists.samples;
     size_t room = BELFRY_ROW_WORDS * BELFRY_MOST_NODES;

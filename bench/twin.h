@@ -216,6 +216,87 @@ belfry_page TWIN(list)(const uint32_t *ancestors, size_t ancestor_words,
     return (belfry_page){verdict_of(BELFRY_TAKEN), done, w.out - pairs, ticket};
 }
 
+/* The lab's reading of a sample. */
+struct reading {
+    uint32_t kind;
+    union {
+        uint32_t bits;
+        float value;
+    };
+};
+
+/* Tells whether a value lies between zero and the greatest. What isn't a number doesn't. */
+static inline int is_between(float value, float most) {
+    return 0 <= value && value <= most;
+}
+
+/* Tells whether a reading may be what it says. */
+static inline int is_reading(const struct reading *r) {
+    switch (r->kind) {
+    case BELFRY_MISSING:
+        return r->bits == 0;
+    case BELFRY_PERCENT:
+        return is_between(r->value, BELFRY_MOST_PERCENT);
+    case BELFRY_GRAMS:
+        return is_between(r->value, BELFRY_MOST_GRAMS);
+    default:
+        return 0;
+    }
+}
+
+static inline int is_inside(const struct node *inner, const struct node *outer) {
+    return inner->document == outer->document && outer->start < inner->start &&
+           inner->end < outer->end;
+}
+
+/* Takes a present reading into a range. Of equal ones the earlier stays. */
+static inline void take_in(belfry_range *range, const struct reading *r) {
+    float percent = r->kind == BELFRY_GRAMS ? r->value / 10 : r->value;
+    if (!range->present || percent < range->low)
+        range->low = percent;
+    if (!range->present || percent > range->high)
+        range->high = percent;
+    range->present = 1;
+}
+
+static belfry_range without_range(belfry_verdict verdict) {
+    return (belfry_range){verdict, 0, 0, 0};
+}
+
+/* Finds the low and the high of the samples inside a zone, or the first faulty reading. */
+static belfry_range pass_samples(const struct node *zone, const struct node *samples,
+                                 const struct reading *readings, size_t count) {
+    belfry_range range = without_range(verdict_of(BELFRY_TAKEN));
+    for (size_t i = 0; i < count; i++) {
+        if (!is_reading(&readings[i]))
+            return without_range((belfry_verdict){BELFRY_READING, 0, i});
+        if (readings[i].kind != BELFRY_MISSING && is_inside(&samples[i], zone))
+            take_in(&range, &readings[i]);
+    }
+    return range;
+}
+
+/* A zone that holds nothing stands in for one that isn't there: all readings are looked at before
+ * it is missed. */
+belfry_range TWIN(zone_range)(const uint32_t *zones, size_t zone_words, const uint32_t *samples,
+                              size_t sample_words, const uint32_t *readings, size_t reading_words,
+                              uint32_t zone) {
+    static const struct node nowhere = {0, 0, 0, 0};
+    belfry_verdict verdict = check_both(zones, zone_words, samples, sample_words);
+    size_t count = sample_words / BELFRY_NODE_WORDS;
+    int absent = zone >= zone_words / BELFRY_NODE_WORDS;
+    if (verdict.answer != BELFRY_TAKEN)
+        return without_range(verdict);
+    if (reading_words != BELFRY_READING_WORDS * count)
+        return without_range(verdict_of(BELFRY_RAGGED));
+    belfry_range range =
+        pass_samples(absent ? &nowhere : (const struct node *)zones + zone,
+                     (const struct node *)samples, (const struct reading *)readings, count);
+    if (range.verdict.answer == BELFRY_TAKEN && absent)
+        return without_range(verdict_of(BELFRY_ABSENT));
+    return range;
+}
+
 static belfry_result result_of(belfry_verdict v, size_t count) {
     return (belfry_result){v, count};
 }
