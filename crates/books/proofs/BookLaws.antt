@@ -5,7 +5,6 @@
 -- caught here.
 use mathlib.Core.Path.{_≡_, refl}
 use mathlib.Core.Logic.{inl, inr}
-use mathlib.Core.Bool.{true, false}
 use mathlib.Core.List.{List, [], _∷_, map}
 use Prim.Native.Nat.{ℕ, suc, _+_, _*_, _≤_, _<_}
 use native.Mathlib.Numerals.{add-one}
@@ -13,7 +12,7 @@ use native.Mathlib.Omega.{arith}
 use lib.Dec.{eqb}
 use lib.ListN.{length, drop, length-drop}
 use lib.Seq.{length-take-le}
-use borrow.Author.Tests.{eq-eqb, ne-eqb, eqb-false}
+use borrow.Author.Tests.{eqb-false}
 use Rattle.nodes.specs.declared.node.Node.{Node}
 use Rattle.answers.specs.Answer.{TAKEN}
 use Rattle.nodes.specs.Words.{MOST-NODES}
@@ -26,17 +25,9 @@ use Rattle.contents.proofs.ContentLaws.{entry-within}
 use Rattle.answers.specs.declared.verdict.Verdict.{Verdict}
 use Rattle.lists.specs.Check.{checkNodes, checkBytes}
 use Rattle.answers.specs.Verdict.{refusedb, inList, taken}
+use Rattle.answers.proofs.VerdictLaws.{refuses, accepts}
 use Rattle.lists.proofs.InBytes.{whole-bytes}
 use Rattle.books.specs.Book.{bodyOf, nodesOf, checkBodies, checkParts, bookVerdict, checkBook}
-
--- A verdict is a refusal exactly when its answer isn't TAKEN.
-pub refuses : (v : Verdict) → (v .answer ≡ TAKEN → ⊥) → refusedb v ≡ true
-unfolding refusedb
-refuses v h = rw (ne-eqb (v .answer) TAKEN h)
-
-pub accepts : (v : Verdict) → v .answer ≡ TAKEN → refusedb v ≡ false
-unfolding refusedb
-accepts v h = rw (eq-eqb (v .answer) TAKEN h)
 
 -- The bodies left decide the whole, and the next body's verdict v is known: where it is taken, the
 -- later bodies decide; where it isn't, it decides itself.

@@ -19,11 +19,12 @@ use Rattle.contents.specs.Contents.{entry, listsIn, contentsOf, entryAt, ascend
 use Rattle.contents.proofs.ContentLaws.{tags-ascend, count-contents, entry-of}
 use Rattle.answers.specs.declared.verdict.Verdict.{Verdict}
 use Rattle.answers.specs.Verdict.{refusedb, ANCESTORS, verdict, taken}
+use Rattle.answers.proofs.VerdictLaws.{refuses, accepts}
 use Rattle.laws.proofs.First.{first-there}
 use Rattle.books.specs.Book.{bodyOf, nodesOf, bookVerdict}
 use Rattle.books.specs.Find.{tagAt, found, verdictAt, foundAt, foundTag, hasTag, tagEntry, tagBody}
 use Rattle.books.proofs.Answers.{parts-faultless}
-use Rattle.books.proofs.BookLaws.{refuses, accepts, book-taken}
+use Rattle.books.proofs.BookLaws.{book-taken}
 
 module _ (book : List ℕ) (position : ℕ) where
   nowhere : (v : Verdict) → verdictAt book position ≡ v → refusedb v ≡ true → foundAt book position ≡ found v 0 0

@@ -10,6 +10,7 @@ use native.Mathlib.Nat.{not-suc-le-zero}
 use native.Mathlib.Omega.{arith}
 use lib.ListN.{length, getD, take, drop}
 use Rattle.laws.specs.Choose.{All, EveryTwo, In, any, keep}
+use Rattle.laws.proofs.Parts.{part-all, part-every-two, part-fewer, kept-part}
 use Rattle.laws.proofs.Tests.{either, never, or-read, or-none}
 
 module _ {A : Type 0} where
@@ -79,18 +80,11 @@ module _ {A : Type 0} where
 
   -- No more elements are kept than there are.
   pub keep-fewer : (test : A → Bool) (xs : List A) → length (keep test xs) ≤ length xs
-  unfolding keep
-  keep-fewer test [] = omega arith
-  keep-fewer test (x ∷ xs) =
-      let h = keep-fewer test xs in
-      elim (either (test x)) [ inl t ↦ rw t (omega arith) | inr t ↦ rw t (omega arith) ]
+  keep-fewer test xs = part-fewer (kept-part test xs)
 
   -- What holds of all elements holds of all that are kept.
   pub keep-all-of : (P : A → Type 0) (test : A → Bool) (xs : List A) → All P xs → All P (keep test xs)
-  unfolding keep
-  keep-all-of P test [] h = tt
-  keep-all-of P test (x ∷ xs) h =
-      elim (either (test x)) [ inl t ↦ rw t (h .0, keep-all-of P test xs (h .1)) | inr t ↦ rw t (keep-all-of P test xs (h .1)) ]
+  keep-all-of P test xs h = part-all P (kept-part test xs) h
 
   -- Each element of a list stands in it.
   pub each-in : (xs : List A) → All (λ x. In x xs) xs
@@ -121,13 +115,7 @@ module _ {A : Type 0} where
 
   -- What holds of each element and every later one also holds among those kept.
   pub keep-every-two : (R : A → A → Type 0) (test : A → Bool) (xs : List A) → EveryTwo R xs → EveryTwo R (keep test xs)
-  unfolding keep
-  keep-every-two R test [] h = tt
-  keep-every-two R test (x ∷ xs) h =
-      elim (either (test x)) [
-        | inl t ↦ rw t (keep-all-of (R x) test xs (h .0), keep-every-two R test xs (h .1))
-        | inr t ↦ rw t (keep-every-two R test xs (h .1))
-      ]
+  keep-every-two R test xs h = part-every-two R (kept-part test xs) h
 
   -- If R implies S, then where R holds of each element and every later one, so does S.
   pub every-two-map : {R S : A → A → Type 0} → ((x y : A) → R x y → S x y) → (xs : List A) → EveryTwo R xs → EveryTwo S xs

@@ -2,9 +2,9 @@
 -- passed k elements adds k to what the rest says.
 -- What would break it: An element passed over, or a count one off, would be caught here.
 use Prim.Native.Nat.{ℕ, zero, suc, _+_, _≤_, _<_, zero-le, compare·suc-suc}
-use mathlib.Core.Path.{_≡_, refl}
+use mathlib.Core.Path.{_≡_, refl, ap}
 use mathlib.Core.Bool.{Bool, true, false}
-use mathlib.Core.List.{List, [], _∷_}
+use mathlib.Core.List.{List, [], _∷_, _++_}
 use mathlib.Core.Logic.{inl, inr}
 use native.Mathlib.Nat.{not-suc-le-zero}
 use native.Mathlib.Omega.{arith}
@@ -89,3 +89,12 @@ first-there test (x ∷ xs) =
       | inl h ↦ rw h (lt-ltb 0 (length (x ∷ xs)) (omega arith))
       | inr h ↦ rw (h, compare·suc-suc (suc (firstAt test xs)) (length xs)) (first-there test xs)
     ]
+
+-- An element that passes, with none before it that does, stands where the search stops.
+pub first-split : {A : Type 0} (test : A → Bool) (before : List A) (u : A) (after : List A) → All (λ x. test x ≡ false) before → test u ≡ true
+    → (any test (before ++ (u ∷ after)) ≡ true) × (firstAt test (before ++ (u ∷ after)) ≡ length before)
+unfolding any firstAt
+first-split test [] u after h t = (rw t, rw t)
+first-split test (x ∷ before) u after h t =
+    let rest = first-split test before u after (h .1) t in
+    (rw (h .0) (rest .0), rw (h .0) (ap suc (rest .1)))

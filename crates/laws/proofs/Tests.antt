@@ -32,6 +32,14 @@ and-read false p = absurd (never p refl)
 pub and-make : {a b : Bool} → a ≡ true → b ≡ true → (a && b) ≡ true
 and-make p q = rw (p, q)
 
+-- One part that fails is enough.
+pub and-left : {a : Bool} (b : Bool) → a ≡ false → (a && b) ≡ false
+and-left b p = rw p
+
+pub and-right : (a : Bool) {b : Bool} → b ≡ false → (a && b) ≡ false
+and-right true q = q
+and-right false q = refl
+
 pub or-read : (a : Bool) {b : Bool} → (a || b) ≡ true → (a ≡ true) ⊎ (b ≡ true)
 or-read true p = inl refl
 or-read false p = inr p

@@ -15,9 +15,12 @@ use Rattle.lists.specs.Check.{raggedb, longb, wordFault, checkFrom, chec
 use Rattle.lists.specs.Fault.{levelb, spanb, orderb, crossb, depthb, fault}
 use Rattle.lists.specs.Two.{jointb, checkTwo}
 
--- An answer up to JOINT.
+-- An answer up to JOINT, and a verdict with one.
 abbrev Low : ℕ → Type 0
 Low a = a ≤ JOINT
+
+abbrev Mild : Verdict → Type 0
+Mild v = Low (v .answer)
 
 node-draws : (before : List Node) (n : Node) → Low (fault before n)
 unfolding fault
@@ -30,18 +33,18 @@ nodes-draw : (before : List Node) (index : ℕ) (ns : List Node) → Low (checkF
 unfolding checkFrom
 nodes-draw before index [] = omega arith
 nodes-draw before index (n ∷ ns) =
-    chosen (λ (v : Verdict). Low (v .answer)) (eqb (fault before n) TAKEN) (nodes-draw (n ∷ before) (suc index) ns) (node-draws before n)
+    chosen Mild (eqb (fault before n) TAKEN) (nodes-draw (n ∷ before) (suc index) ns) (node-draws before n)
 
 words-draw : (ws : List ℕ) → Low (checkWords ws .answer)
 unfolding checkWords checkNodes wordFault
 words-draw ws =
-    chosen (λ (v : Verdict). Low (v .answer)) (eqb (wordFault ws) TAKEN) (nodes-draw [] 0 (nodes ws))
+    chosen Mild (eqb (wordFault ws) TAKEN) (nodes-draw [] 0 (nodes ws))
     (chosen Low (raggedb ws) (omega arith) (chosen Low (longb ws) (omega arith) (omega arith)))
 
 -- No check of two lists answers above JOINT.
 pub two-draws : (ancestors descendants : List ℕ) → checkTwo ancestors descendants .answer ≤ JOINT
 unfolding checkTwo
 two-draws ancestors descendants =
-    chosen (λ (v : Verdict). Low (v .answer)) (refusedb (checkWords ancestors)) (words-draw ancestors)
-    (chosen (λ (v : Verdict). Low (v .answer)) (refusedb (checkWords descendants)) (words-draw descendants)
-    (chosen (λ (v : Verdict). Low (v .answer)) (jointb (nodes ancestors) (nodes descendants)) (omega arith) (omega arith)))
+    chosen Mild (refusedb (checkWords ancestors)) (words-draw ancestors)
+    (chosen Mild (refusedb (checkWords descendants)) (words-draw descendants)
+    (chosen Mild (jointb (nodes ancestors) (nodes descendants)) (omega arith) (omega arith)))

@@ -8,18 +8,17 @@ use mathlib.Core.Bool.{true, false}
 use mathlib.Core.List.{List, [], flatMap}
 use Prim.Native.Nat.{_*_, _≤_}
 use native.Mathlib.Omega.{arith}
-use lib.Dec.{eqb}
 use lib.ListN.{length, take, drop, length-append, length-take, length-drop}
 use lib.Seq.{take-all, take-append-seam, drop-append-seam}
-use borrow.Author.Tests.{eqb-true, eq-eqb}
+use borrow.Author.Tests.{eq-eqb}
 use Rattle.nodes.specs.declared.node.Node.{Node}
-use Rattle.answers.specs.Answer.{TAKEN}
 use Rattle.laws.specs.Choose.{EveryTwo}
 use Rattle.nodes.specs.Node.{afterb}
 use Rattle.nodes.specs.Words.{nodes, wordsOf}
 use Rattle.laws.proofs.Choices.{all-of, keep-all, every-two-map}
-use Rattle.laws.proofs.Tests.{either, so, not-none}
+use Rattle.laws.proofs.Tests.{either, so}
 use Rattle.answers.specs.Verdict.{refusedb}
+use Rattle.answers.proofs.VerdictLaws.{accepts, is-taken}
 use Rattle.lists.specs.Two.{checkTwo}
 use Rattle.lists.proofs.Taken.{Fine}
 use Rattle.paging.specs.Page.{fresh, pastb, remains, handed, doneb, reached}
@@ -41,12 +40,10 @@ ascend ns h = every-two-map (λ e n f. f .after) ns h
 module _ (c : Call) where
   -- A call is accepted exactly if it isn't refused.
   pub not-refused : AcceptedCall c → refusedb (checkTwo (c .ancestors) (c .descendants)) ≡ false
-  unfolding refusedb
-  not-refused a = rw (eq-eqb (checkTwo (c .ancestors) (c .descendants) .answer) TAKEN a)
+  not-refused a = accepts (checkTwo (c .ancestors) (c .descendants)) a
 
   pub is-accepted : refusedb (checkTwo (c .ancestors) (c .descendants)) ≡ false → AcceptedCall c
-  unfolding refusedb
-  is-accepted h = eqb-true _ _ (not-none (eqb (checkTwo (c .ancestors) (c .descendants) .answer) TAKEN) h)
+  is-accepted h = is-taken (checkTwo (c .ancestors) (c .descendants)) h
 
   -- Each of two accepted lists ascends.
   pub lists-ascend : AcceptedCall c

@@ -13,10 +13,11 @@ use Rattle.contents.specs.declared.entry.Entry.{Entry}
 use Rattle.contents.specs.Contents.{listsIn, entryAt}
 use Rattle.lists.specs.Two.{checkTwo}
 use Rattle.answers.specs.Verdict.{ANCESTORS, verdict, taken}
+use Rattle.answers.proofs.VerdictLaws.{refuses, accepts}
 use Rattle.books.specs.declared.book.Opened.{Opened}
 use Rattle.books.specs.Book.{bookVerdict, checkBook, listAt}
 use Rattle.books.specs.Find.{verdictAt}
-use Rattle.books.proofs.BookLaws.{refuses, accepts, opened-verdict, opened-lists}
+use Rattle.books.proofs.BookLaws.{opened-verdict, opened-lists}
 use Rattle.joins.specs.declared.copy.Lengths.{Lengths}
 use Rattle.joins.specs.Join.{lengthsOf, firstAfter, secondAfter}
 use Rattle.joins.proofs.Joined.{few-words, lists-copied, words-copied}

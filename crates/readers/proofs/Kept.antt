@@ -20,7 +20,7 @@ use Rattle.contents.specs.Contents.{entry, listsIn, entriesIn, contentsOf, entr
 use Rattle.contents.proofs.ContentLaws.{few-entries}
 use Rattle.books.specs.Book.{bodyOf, bookVerdict}
 use Rattle.books.specs.Find.{tagAt, foundAt, foundTag, tagEntry, tagBody}
-use Rattle.books.proofs.BookLaws.{refuses, accepts}
+use Rattle.answers.proofs.VerdictLaws.{refuses, accepts}
 use Rattle.books.proofs.FindLaws.{list-absent, list-found, tag-body-at}
 use Rattle.readers.specs.Reader.{keptOf, keptLists, keptBody}
 

@@ -11,8 +11,8 @@ use Rattle.answers.specs.Answer.{TAKEN}
 use Rattle.numbers.specs.Little.{numberAt}
 use Rattle.contents.specs.Contents.{listsIn}
 use Rattle.answers.specs.declared.verdict.Verdict.{Verdict}
+use Rattle.answers.proofs.VerdictLaws.{refuses, accepts}
 use Rattle.books.specs.Book.{bookVerdict, opened, checkBook}
-use Rattle.books.proofs.BookLaws.{refuses, accepts}
 use Rattle.books.proofs.book.check_book.Statement.{statement}
 use Rattle.books.proofs.book.check_book.Tie as tie
 

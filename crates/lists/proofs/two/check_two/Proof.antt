@@ -3,28 +3,19 @@
 -- comes first, then the second's. Where both are taken, only JOINT is left.
 -- What would break it: A list checked out of turn, or named wrongly, would be caught at its return.
 use borrow.Author.Needs.{needs}
-use mathlib.Core.Path.{_≡_, sym, ap, _∙_}
-use mathlib.Core.Bool.{true, false, not}
+use mathlib.Core.Path.{sym, ap, _∙_}
 use Prim.Native.Nat.{ℕ}
 use denote.Ref.{now}
-use borrow.Author.Tests.{not-true, not-false, eqb-true, eqb-false}
-use Rattle.answers.specs.Answer.{TAKEN}
+use borrow.Author.Tests.{not-true, not-false}
 use Rattle.answers.specs.declared.verdict.Verdict.{Verdict}
-use Rattle.answers.specs.Verdict.{refusedb, inList, DESCENDANTS}
+use Rattle.answers.specs.Verdict.{inList, DESCENDANTS}
+use Rattle.answers.proofs.VerdictLaws.{not-taken, is-taken}
 use Rattle.lists.proofs.Naming.{two-first, two-second, two-joint, two-taken}
 use Rattle.lists.proofs.two.check_two.Statement.{statement}
 use Rattle.lists.proofs.two.check_two.Tie as tie
 
 abbrev number : Verdict → ℕ
 number v = v .answer
-
-agreed : (v : Verdict) → not (refusedb v) ≡ true → v .answer ≡ TAKEN
-unfolding refusedb
-agreed v h = eqb-true _ _ (not-false _ (not-true _ h))
-
-differed : (v : Verdict) → not (refusedb v) ≡ false → v .answer ≡ TAKEN → ⊥
-unfolding refusedb
-differed v h = eqb-false _ _ (not-true _ (not-false _ h))
 
 are-agreeing-requires : tie.Need-are-agreeing-requires
 are-agreeing-requires c κs = search needs
@@ -35,7 +26,7 @@ without-node-requires c κs = search needs
 returns : tie.Need-returns
 returns c =
     let a = c .before .before .before .before .before .args in
-    c .without-node .ensures ∙ two-taken (now (a .ancestors)) (now (a .descendants)) (agreed _ (sym (c .before .before .are-agreeing .ensures) ∙ c .before .if1 .taken))
+    c .without-node .ensures ∙ two-taken (now (a .ancestors)) (now (a .descendants)) (is-taken _ (not-true _ (sym (c .before .before .are-agreeing .ensures) ∙ c .before .if1 .taken)))
 
 check-list-requires : tie.Need-check-list-requires
 check-list-requires c κs = search needs
@@ -70,7 +61,7 @@ returns-4 c =
     let q = second .before .before .check-list2 .ensures in
     c .without-node2 .ensures
     ∙ two-joint (now (a .ancestors)) (now (a .descendants)) (sym (ap number p) ∙ first .if2 .left) (sym (ap number q) ∙ second .if3 .left)
-    (differed _ (sym (differ .before .are-agreeing .ensures) ∙ differ .if1 .left))
+    (not-taken _ (not-false _ (sym (differ .before .are-agreeing .ensures) ∙ differ .if1 .left)))
 
 pub check-two-spec : {M : Type 1} → statement M
 check-two-spec =
