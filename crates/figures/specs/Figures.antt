@@ -194,7 +194,7 @@ value kind bits percent = record { found = decodedNumbers (decode kind bits); st
 abbrev pub missing : ℕ → ℕ → Figure
 missing kind bits = record { found = decodedNumbers (decode kind bits); stated = 1 ∷ [] }
 
--- A figure of words that stand for no reading, each two given as (kind, bits).
+-- A figure of faulty readings, each given as (kind, bits).
 abbrev pub unread : List (ℕ × ℕ) → Figure
 unread pairs = record { found = flatMap (λ p. decodedNumbers (decode (p .0) (p .1))) pairs; stated = replicate (length pairs) 0 }
 

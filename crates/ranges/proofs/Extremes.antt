@@ -5,8 +5,8 @@
 use mathlib.Core.Path.{_≡_, refl, ap, sym, subst, _∙_}
 use mathlib.Core.Logic.{_↔_, _⊎_, inl, inr}
 use mathlib.Core.Bool.{Bool, true, false}
-use mathlib.Core.List.{List, [], _∷_, _++_, flatMap, cons-ne-nil, List·Memᴰ·head, List·Memᴰ·not-nil, List·Memᴰ·cases-cons, Memᴰ·append-right}
-use lib.Ieee.{Float, eq, nan}
+use mathlib.Core.List.{List, [], _∷_, _++_, flatMap, cons-ne-nil, head-eq-of-cons-eq, tail-eq-of-cons-eq, List·Memᴰ·head, List·Memᴰ·not-nil, List·Memᴰ·cases-cons, Memᴰ·append-right}
+use lib.Ieee.{Float, eq}
 use Rattle.laws.specs.Choose.{All, In, keep}
 use Rattle.laws.proofs.Choices.{all-in}
 use Rattle.laws.proofs.Tests.{either, never}
@@ -18,23 +18,6 @@ use Rattle.readings.specs.declared.reading.Reading.the-variants.{Percent, Grams
 use Rattle.readings.specs.Sample.{Sample, readingOf, percentIn, inZone, present}
 use Rattle.ranges.specs.Demanded.{Gives, GivesNone, Extreme}
 use Rattle.ranges.proofs.Unbeaten.{Unbeaten}
-
--- The first and the rest of a list with a value.
-firstOf : List Float → Float
-firstOf [] = nan
-firstOf (p ∷ ps) = p
-
-restOf : List Float → List Float
-restOf [] = []
-restOf (p ∷ ps) = ps
-
-same-first : {p q : Float} {ps qs : List Float} → p ∷ ps ≡ q ∷ qs → p ≡ q
-unfolding firstOf
-same-first h = ap firstOf h
-
-same-rest : {p q : Float} {ps qs : List Float} → p ∷ ps ≡ q ∷ qs → ps ≡ qs
-unfolding restOf
-same-rest h = ap restOf h
 
 -- Two words give one percentage or none.
 one-or-none : (d : Decoded) → (percentIn d ≡ []) ⊎ ((p : Float) × (percentIn d ≡ p ∷ []))
@@ -113,11 +96,11 @@ module _ (zone : Node) where
     later = ss;
     split = refl;
     within = i;
-    gives = subst (Gives s) (same-first h) g;
+    gives = subst (Gives s) (head-eq-of-cons-eq h) g;
     given = none-at-all;
   }
   giver-one s ss p (b ∷ before) u after i g h rest =
-      giver-later s ss before (b ∷ before) u (λ ts e. inside-one s ts p i g ∙ (λ k. same-first h k ∷ e k)) (rest before (same-rest h))
+      giver-later s ss before (b ∷ before) u (λ ts e. inside-one s ts p i g ∙ (λ k. head-eq-of-cons-eq h k ∷ e k)) (rest before (tail-eq-of-cons-eq h))
 
   giver : (ss : List Sample) (before : List Float) (u : Float) (after : List Float) → percentages ss ≡ before ++ (u ∷ after) → Giver ss before u
   giver [] [] u after h = absurd (cons-ne-nil _ _ (sym h ∙ none-at-all))
@@ -143,7 +126,7 @@ module _ (zone : Node) where
         split = g .split;
         inside = g .within;
         gives = g .gives;
-        unbeaten = λ s q m i k. all-in (λ p. beats p u ≡ false) (percentages ss) (b .none) (given-in ss s q m i k);
+        none-beyond = λ s q m i k. all-in (λ p. beats p u ≡ false) (percentages ss) (b .none) (given-in ss s q m i k);
         first = λ s q m i k. differ u q
             (all-in (λ p. beats u p ≡ true) (b .before) (b .first) (subst (In q) (g .given) (given-in (g .earlier) s q m i k)));
       }

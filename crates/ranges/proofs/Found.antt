@@ -2,12 +2,12 @@
 -- low and the high are the first that none is below, and the first that none is above.
 -- What would break it: A low from a sample of another zone, or the later of two equal values, would
 -- be caught here.
-use mathlib.Core.Path.{_≡_, refl, ap, sym, subst, _∙_}
+use mathlib.Core.Path.{_≡_, ap, sym, subst, _∙_}
 use mathlib.Core.Logic.{_↔_}
 use mathlib.Core.Bool.{Bool, true, false}
 use mathlib.Core.List.{List, [], _∷_}
 use Prim.Native.Nat.{ℕ}
-use lib.Ieee.{Float, nan, le, eq}
+use lib.Ieee.{Float, le, eq}
 use Rattle.laws.specs.Choose.{All}
 use Rattle.laws.proofs.Choices.{all-of}
 use Rattle.laws.proofs.Tests.{never, not-so}
@@ -18,25 +18,14 @@ use Rattle.readings.specs.Reading.{float, MOST-PERCENT}
 use Rattle.readings.specs.Sample.{Sample, samplesIn, inZone, present}
 use Rattle.readings.proofs.Values.{Within, percent-within, present-within, within-bounds, not-both-below, below-between, above-between, equal-neither}
 use Rattle.ranges.specs.declared.range.Range.{Range}
-use Rattle.ranges.specs.declared.range.ZoneRange.{ZoneRange}
-use Rattle.ranges.specs.declared.range.ZoneRange.the-variants.{Found, NoReading, Refused}
+use Rattle.ranges.specs.declared.range.ZoneRange.the-variants.{Found, NoReading}
 use Rattle.ranges.specs.Demanded.{refusalb, AcceptedRange, GivesNone, below, above, Extreme, sampleWords, readingWords}
 use Rattle.ranges.specs.Range.{lowOf, highOf, rangeOf, zoneRange}
 use Rattle.ranges.proofs.Answered.{accepted-answer}
+use Rattle.ranges.proofs.Cases.{same-range, found-not-none, none-told}
 use Rattle.ranges.proofs.Extremes.{extreme, none-iff}
 use Rattle.ranges.proofs.Unbeaten.{Unbeaten, unbeaten-is}
 use Rattle.ranges.proofs.Without.{without}
-
--- Whether an answer has a low and a high, and what they are.
-foundb : ZoneRange → Bool
-foundb (Found range) = true
-foundb NoReading = false
-foundb (Refused refusal) = false
-
-rangeIn : ZoneRange → Range
-rangeIn (Found range) = range
-rangeIn NoReading = record { low = nan; high = nan }
-rangeIn (Refused refusal) = record { low = nan; high = nan }
 
 -- A value that lies beyond another isn't equal to it.
 below-differs : (u q : Float) → below u q ≡ true → eq q u ≡ false
@@ -48,19 +37,13 @@ above-differs u q h = not-so (λ e. never h (equal-neither q u e .0))
 -- The low and the high of some percentages.
 range-unbeaten : (ps : List Float) (range : Range) → All Within ps → rangeOf ps ≡ Found range
     → Unbeaten below ps (range .low) × Unbeaten above ps (range .high)
-unfolding rangeOf lowOf highOf foundb rangeIn
-range-unbeaten [] range w h = absurd (never (ap foundb h) refl)
+unfolding rangeOf lowOf highOf
+range-unbeaten [] range w h = absurd (found-not-none (sym h))
 range-unbeaten (p ∷ ps) range w h = (
-  subst (λ (r : Range). Unbeaten below (p ∷ ps) (r .low)) (ap rangeIn h) (unbeaten-is below Within not-both-below below-between p ps w),
-  subst (λ (r : Range). Unbeaten above (p ∷ ps) (r .high)) (ap rangeIn h)
+  subst (λ (r : Range). Unbeaten below (p ∷ ps) (r .low)) (same-range h) (unbeaten-is below Within not-both-below below-between p ps w),
+  subst (λ (r : Range). Unbeaten above (p ∷ ps) (r .high)) (same-range h)
       (unbeaten-is above Within (λ q r. not-both-below r q) above-between p ps w),
 )
-
--- No percentage is present exactly when that is the answer.
-none-told : (ps : List Float) → (rangeOf ps ≡ NoReading) ↔ (ps ≡ [])
-unfolding rangeOf foundb
-none-told [] = (λ h. refl, λ h. refl)
-none-told (p ∷ ps) = (λ h. absurd (never refl (ap foundb h)), λ h. ap rangeOf h)
 
 -- An extreme lies between 0 and 100.
 pub extreme-bounds : (beyond : Float → Float → Bool) (zone : Node) (ss : List Sample) (p : Float) → Extreme beyond zone ss p

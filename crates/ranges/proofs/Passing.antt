@@ -2,16 +2,15 @@
 -- more sample adds one percentage or none, and a faulty one ends the pass at its index.
 -- What would break it: A missing reading taken for a number, or a sample of another zone taken in,
 -- would be caught at `pass-none`. The later of two equal values would be caught at `pass-some`.
-use Prim.Native.Nat.{ℕ, zero, suc, _+_, _*_, _<_, _≤_}
+use Prim.Native.Nat.{ℕ, suc, _+_, _*_, _<_, _≤_}
 use native.Mathlib.Omega.{arith}
-use native.Mathlib.Nat.{not-suc-le-zero, le-of-suc-le-suc}
 use mathlib.Core.Path.{_≡_, refl, sym, ap, _∙_, subst}
 use mathlib.Core.Bool.{Bool, true, false, cond}
 use mathlib.Core.List.{List, [], _∷_, _++_, flatMap, append-assoc, append-nil}
 use lib.ListN.{length, getD, take}
 use lib.Seq.{take-suc, take-all}
 use lib.Ieee.{Float, lt}
-use Rattle.laws.specs.Choose.{All, any, firstAt, keep}
+use Rattle.laws.specs.Choose.{All, keep}
 use Rattle.laws.proofs.Choices.{all-append, none-any, keep-append}
 use Rattle.answers.specs.Answer.{READING}
 use Rattle.answers.specs.Verdict.{ANCESTORS, verdict}
@@ -31,7 +30,9 @@ use Rattle.ranges.specs.declared.range.Range.{Range}
 use Rattle.ranges.specs.declared.range.ZoneRange.{ZoneRange}
 use Rattle.ranges.specs.declared.range.ZoneRange.the-variants.{Found, NoReading, Refused}
 use Rattle.ranges.specs.Private.Passing.{lower, higher, takenIn, passed}
-use Rattle.ranges.specs.Range.{unbeaten, lowOf, highOf, rangeOf}
+use Rattle.ranges.specs.Range.{lowOf, highOf, rangeOf}
+use Rattle.ranges.proofs.Cases.{same-range, found-not-none}
+use Rattle.ranges.proofs.Faults.{faulty-at, faulty-first}
 use Rattle.ranges.proofs.Unbeaten.{unbeaten-one, unbeaten-more}
 
 -- The low and the high of one value more.
@@ -56,36 +57,15 @@ module _ (q : Float) (qs : List Float) (p : Float) (w : All Within (q ∷ qs)) (
 abbrev pub carried : Bool → Range → ZoneRange
 carried any range = cond any (Found range) NoReading
 
--- Whether an answer has a low and a high, and which; `other` stands for those of the other answers.
-Has : ZoneRange → Type 0
-Has (Found range) = Unit {0}
-Has NoReading = ⊥
-Has (Refused refusal) = ⊥
-
-found : Range → ZoneRange → Range
-found other (Found range) = range
-found other NoReading = other
-found other (Refused refusal) = other
-
 one-more : (any : Bool) (range : Range) (ps : List Float) (p : Float) → All Within ps → Within p → carried any range ≡ rangeOf ps
     → Found (takenIn any range p) ≡ rangeOf (ps ++ (p ∷ []))
-unfolding rangeOf Has found
+unfolding rangeOf
 one-more false range [] p w v e = rw (low-one p, high-one p) refl
-one-more false range (q ∷ qs) p w v e = absurd (subst Has (sym e) tt)
-one-more true range [] p w v e = absurd (subst Has e tt)
+one-more false range (q ∷ qs) p w v e = absurd (found-not-none (sym e))
+one-more true range [] p w v e = absurd (found-not-none e)
 one-more true range (q ∷ qs) p w v e =
-    let same : range ≡ record { low = lowOf (q ∷ qs); high = highOf (q ∷ qs) } = ap (found range) e in
+    let same : range ≡ record { low = lowOf (q ∷ qs); high = highOf (q ∷ qs) } = same-range e in
     rw (same, low-more q qs p w v, high-more q qs p w v) refl
-
--- If all elements before an index fail a test and the one there passes, it is the first that does.
-first-found : {A : Type 0} (test : A → Bool) (xs : List A) (i : ℕ) (d : A) → i < length xs → All (λ x. test x ≡ false) (take i xs)
-    → test (getD xs i d) ≡ true → (any test xs ≡ true) × (firstAt test xs ≡ i)
-unfolding any firstAt
-first-found test [] i d l a h = absurd (not-suc-le-zero l)
-first-found test (x ∷ xs) zero d l a h = rw h (refl, refl)
-first-found test (x ∷ xs) (suc i) d l a h =
-    let rest = first-found test xs i d (le-of-suc-le-suc l) (a .1) h in
-    rw (a .0) (rest .0, ap suc (rest .1))
 
 -- The percentages of two lists of samples, one after the other.
 present-append : (xs ys : List Sample) → present (xs ++ ys) ≡ present xs ++ present ys
@@ -147,7 +127,7 @@ module _ (zone : Node) (ss : List Sample) where
     pub pass-stop : faultyb s ≡ true → Refused (verdict READING ANCESTORS i) ≡ passed zone ss
     unfolding passed
     pass-stop h =
-        let first = first-found faultyb ss i d there (r .sound) h in
+        let first = faulty-first ss (faulty-at ss i d there (r .sound) h) in
         rw (first .0, first .1) refl
 
   -- After the last sample the pass has its answer.

@@ -8,9 +8,11 @@ use mathlib.Core.Logic.{inl, inr}
 use mathlib.Core.Bool.{Bool, true, false, not, cond}
 use mathlib.Core.List.{List, [], _∷_, _++_, append-assoc, append-nil, List·Memᴰ·head, Memᴰ·append-right}
 use lib.ListN.{getD}
+use lib.Seq.{getD-at}
 use lib.Ieee.{Float, nan}
 use Rattle.laws.specs.Choose.{All, In, any, firstAt}
 use Rattle.laws.proofs.Choices.{all-map, all-both, all-in, all-append, any-none, none-any}
+use Rattle.laws.proofs.First.{first-split}
 use Rattle.laws.proofs.Tests.{either, never, so, not-so}
 use Rattle.ranges.specs.Range.{unbeaten}
 
@@ -22,13 +24,6 @@ pub record Unbeaten (beats : Float → Float → Bool) (ps : List Float) (u : Fl
   pub none : All (λ q. beats q u ≡ false) ps
   pub first : All (λ q. beats u q ≡ true) before
 
--- An element that passes, with none before it that does, is the one at `firstAt`.
-first-split : (test : Float → Bool) (before : List Float) (u : Float) (after : List Float) (d : Float)
-    → All (λ x. test x ≡ false) before → test u ≡ true → getD (before ++ (u ∷ after)) (firstAt test (before ++ (u ∷ after))) d ≡ u
-unfolding firstAt
-first-split test [] u after d h t = rw t refl
-first-split test (x ∷ before) u after d h t = rw (h .0) (first-split test before u after d (h .1) t)
-
 stands : (beats : Float → Float → Bool) (ps : List Float) (u : Float) → Unbeaten beats ps u → In u ps
 stands beats ps u b = subst (In u) (sym (b .split)) (Memᴰ·append-right (b .before) (List·Memᴰ·head refl))
 
@@ -36,7 +31,8 @@ stands beats ps u b = subst (In u) (sym (b .split)) (Memᴰ·append-right (b .be
 unbeaten-found : (beats : Float → Float → Bool) (ps : List Float) (u : Float) → Unbeaten beats ps u → unbeaten beats ps ≡ u
 unfolding unbeaten
 unbeaten-found beats ps u b =
-    subst (λ qs. getD qs (firstAt test qs) nan ≡ u) (sym (b .split)) (first-split test (b .before) u (b .after) nan failed passed)
+    subst (λ qs. getD qs (firstAt test qs) nan ≡ u) (sym (b .split))
+    (getD-at (b .before) u (b .after) nan _ (sym (first-split test (b .before) u (b .after) failed passed .1)))
   where
     test : Float → Bool
     test p = not (any (λ q. beats q p) ps)

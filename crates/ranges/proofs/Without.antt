@@ -14,16 +14,18 @@ use Rattle.answers.specs.Output.{wordsIn}
 use Rattle.answers.proofs.OutputLaws.{length-items}
 use Rattle.laws.specs.Choose.{All, keep}
 use Rattle.laws.proofs.Choices.{all-map, keep-all-of}
+use Rattle.laws.proofs.Parts.{Part, kept-part, part-mapped}
 use Rattle.laws.proofs.Tests.{either, never, not-none}
 use Rattle.nodes.specs.declared.node.Node.{Node}
 use Rattle.nodes.specs.Node.{insideb}
 use Rattle.nodes.specs.Words.{nodes, nodeAt, count, wordsOf}
 use Rattle.nodes.proofs.WordLaws.{length-nodes}
-use Rattle.lists.proofs.Leaving.{Part, kept-part, part-mapped, part-two-taken}
+use Rattle.lists.proofs.Leaving.{part-two-taken}
 use Rattle.lists.proofs.Pairing.{two-taken-iff}
 use Rattle.lists.proofs.Taken.{words-taken-iff}
 use Rattle.readings.specs.Reading.{MISSING, decode}
 use Rattle.readings.specs.Sample.{Sample, sampled, samplesIn, pairedb, faultIn, faultyb, percentIn, inZone, present}
+use Rattle.readings.proofs.SampleLaws.{sampled-nodes}
 use Rattle.ranges.specs.Demanded.{AcceptedRange, notMissing, sampleWords, readingWords, GivesNone}
 use Rattle.ranges.specs.Range.{zoneRange, rangeOf}
 use Rattle.ranges.proofs.Answered.{Passed, passed-answer, accepted-iff}
@@ -52,14 +54,6 @@ unfolding pairedb
 written-paired ss =
     eq-eqb (length (readingWords ss)) (2 * count (sampleWords ss)) (omega (arith, samples-length ss, readings-length ss))
 
--- With as many readings as nodes, the samples have just these nodes.
-sampled-nodes : (ns : List Node) (words : List ℕ) → length words ≡ 2 * length ns → map (λ s. s .node) (sampled ns words) ≡ ns
-unfolding sampled
-sampled-nodes [] words h = refl
-sampled-nodes (n ∷ ns) [] h = absurd (omega arith)
-sampled-nodes (n ∷ ns) (kind ∷ []) h = absurd (omega arith)
-sampled-nodes (n ∷ ns) (kind ∷ bits ∷ words) h = ap (λ ms. n ∷ ms) (sampled-nodes ns words (omega arith))
-
 paired-nodes : (samples readings : List ℕ) → pairedb samples readings ≡ true → map (λ s. s .node) (samplesIn samples readings) ≡ nodes samples
 unfolding pairedb
 paired-nodes samples readings h =
@@ -67,7 +61,7 @@ paired-nodes samples readings h =
     sampled-nodes (nodes samples) readings (omega (arith, length-nodes samples))
 
 -- What is left out gives nothing inside the zone.
-abbrev pub Idle : (zone : Node) (test : Sample → Bool) → Sample → Type 0
+abbrev Idle : (zone : Node) (test : Sample → Bool) → Sample → Type 0
 Idle zone test s = test s ≡ false → insideb (s .node) zone ≡ true → GivesNone s
 
 present-kept : (zone : Node) (test : Sample → Bool) (ss : List Sample) → All (Idle zone test) ss

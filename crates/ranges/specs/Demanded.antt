@@ -63,7 +63,7 @@ pub record Extreme (beyond : Float → Float → Bool) (zone : Node) (ss : List 
   pub split : ss ≡ earlier ++ (sample ∷ later)
   pub inside : insideb (sample .node) zone ≡ true
   pub gives : Gives sample p
-  pub unbeaten : (s : Sample) (q : Float) → In s ss → insideb (s .node) zone ≡ true → Gives s q → beyond q p ≡ false
+  pub none-beyond : (s : Sample) (q : Float) → In s ss → insideb (s .node) zone ≡ true → Gives s q → beyond q p ≡ false
   pub first : (s : Sample) (q : Float) → In s earlier → insideb (s .node) zone ≡ true → Gives s q → eq q p ≡ false
 
 -- The sample at index i has a faulty reading, and none before it has.

@@ -11,7 +11,6 @@ use Rattle.answers.specs.Verdict.{ANCESTORS, verdict, refusedb}
 use Rattle.nodes.specs.Words.{nodeAt, count}
 use Rattle.lists.specs.Two.{checkTwo}
 use Rattle.readings.specs.Sample.{samplesIn, pairedb, faultyb, inZone, present}
-use Rattle.ranges.specs.declared.range.Range.{Range}
 use Rattle.ranges.specs.declared.range.ZoneRange.{ZoneRange}
 use Rattle.ranges.specs.declared.range.ZoneRange.the-variants.{Found, NoReading, Refused}
 

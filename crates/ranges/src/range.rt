@@ -1,4 +1,4 @@
-// The low and the high over the present readings of a zone's samples.
+// The lowest and the highest lab reading in a zone.
 use answers::answer::ABSENT;
 use answers::answer::RAGGED;
 use answers::answer::READING;
@@ -92,8 +92,8 @@ fn refused_at(answer: u32, index: usize) -> ZoneRange
     })
 }
 
-// Returns the low and the high over the present readings of the samples inside `zone`, or that
-// there are none. The readings of all samples are decoded, and the first faulty one is a refusal.
+// Returns the lowest and the highest percentage that the samples inside `zone` have, or that none
+// of them has one. The readings of all samples are decoded, and the first faulty one is a refusal.
 fn pass_samples(zone: Node, samples: &[u32], readings: &[u32]) -> ZoneRange
     requires { ⌜ (length (now readings) ≡ READING-WORDS * count (now samples)) × (count (now samples) ≤ MOST-NODES) ⌝ }
     ensures { λ r. ⌜ r ≡ passed zone (samplesIn (now (samples .entry)) (now (readings .entry))) ⌝ }
@@ -124,9 +124,8 @@ fn pass_samples(zone: Node, samples: &[u32], readings: &[u32]) -> ZoneRange
     ZoneRange::NoReading
 }
 
-// Returns the low and the high, in percent, over the present readings of the samples inside the
-// zone at index `zone`. Where there are none, or the call is refused, the answer says so and has
-// neither.
+// Returns the lowest and the highest percentage that the lab found in the samples inside the zone
+// at index `zone`. Where it found none, or the call is refused, the answer says so and has neither.
 pub fn zone_range(zones: &[u32], samples: &[u32], readings: &[u32], zone: u32) -> ZoneRange
     ensures { λ r. ⌜ r ≡ zoneRange (now (zones .entry)) (now (samples .entry)) (now (readings .entry)) zone ⌝ }
 {

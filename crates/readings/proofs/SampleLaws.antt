@@ -4,20 +4,23 @@
 use Prim.Native.Nat.{ℕ, zero, suc, _+_, _*_, _<_}
 use native.Mathlib.Nat.{not-suc-le-zero}
 use native.Mathlib.Omega.{arith}
-use mathlib.Core.Path.{_≡_, refl, ap, _∙_}
-use mathlib.Core.List.{List, [], _∷_}
-use lib.ListN.{length, getD}
+use mathlib.Core.Path.{_≡_, refl, sym, ap, _∙_}
+use mathlib.Core.List.{List, [], _∷_, map}
+use lib.ListN.{length, getD, length-map}
 use Rattle.nodes.specs.declared.node.Node.{Node}
 use Rattle.nodes.specs.Words.{node}
 use Rattle.readings.specs.Sample.{Sample, READING-WORDS, sampled}
 
--- As many samples as nodes, where there are two words for each.
-pub sampled-length : (ns : List Node) (words : List ℕ) → length words ≡ READING-WORDS * length ns → length (sampled ns words) ≡ length ns
+-- Where there are two words for each node, the samples have just these nodes.
+pub sampled-nodes : (ns : List Node) (words : List ℕ) → length words ≡ READING-WORDS * length ns → map (λ s. s .node) (sampled ns words) ≡ ns
 unfolding sampled
-sampled-length [] words h = refl
-sampled-length (n ∷ ns) [] h = absurd (omega arith)
-sampled-length (n ∷ ns) (k ∷ []) h = absurd (omega arith)
-sampled-length (n ∷ ns) (k ∷ b ∷ words) h = ap suc (sampled-length ns words (omega arith))
+sampled-nodes [] words h = refl
+sampled-nodes (n ∷ ns) [] h = absurd (omega arith)
+sampled-nodes (n ∷ ns) (k ∷ []) h = absurd (omega arith)
+sampled-nodes (n ∷ ns) (k ∷ b ∷ words) h = ap (λ ms. n ∷ ms) (sampled-nodes ns words (omega arith))
+
+pub sampled-length : (ns : List Node) (words : List ℕ) → length words ≡ READING-WORDS * length ns → length (sampled ns words) ≡ length ns
+sampled-length ns words h = sym (length-map (sampled ns words) (λ s. s .node)) ∙ ap length (sampled-nodes ns words h)
 
 -- The sample at an index.
 abbrev pub sampleAt : List Node → List ℕ → ℕ → Sample

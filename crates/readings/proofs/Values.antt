@@ -21,7 +21,7 @@ use lib.Ieee.Scale.{finite, round-same}
 use borrow.Author.Tests.{ltb-true, ltb-false, lt-ltb, le-ltb, eqb-true, eq-eqb}
 use Rattle.laws.specs.Choose.{All}
 use Rattle.laws.proofs.Choices.{all-append}
-use Rattle.laws.proofs.Tests.{either, never, so, not-so, and-read, and-make, or-read, or-left, or-right, not-read}
+use Rattle.laws.proofs.Tests.{either, never, so, and-read, and-make, or-read, or-left, or-right, not-read}
 use Rattle.readings.specs.Reading.{MISSING, PERCENT, GRAMS, float, MOST-PERCENT, MOST-GRAMS, GRAMS-A-PERCENT, withinb, decode}
 use Rattle.readings.specs.Sample.{Sample, percentIn, readingOf, present}
 
@@ -129,29 +129,28 @@ minus-none : (m : ℕ) (e : ℤ) → lt (fin true m e) (fin false 0 (pos 0)) ≡
 unfolding lt
 minus-none m e h = let l = ltb-false 0 (m * up e * 1 + 0 * 1 * down e) h in omega arith
 
--- What passes `withinb` is such a float, not below zero and not above `most`.
+-- What passes `withinb` is finite, not below zero and not above `most`.
+pub within-read : (most p : Float) → withinb most p ≡ true → (finite p ≡ true) × (lt p (float 0) ≡ false) × (lt most p ≡ false)
+unfolding withinb
+within-read most p h =
+    let f = and-read (finite p) h in
+    let b = and-read (not (lt p (float 0))) (f .1) in
+    (f .0, not-read _ (b .0), not-read _ (b .1))
+
 within-amount : (most p : Float) → withinb most p ≡ true → Amount p
 unfolding withinb
 within-amount most nan h = absurd (never h refl)
 within-amount most (inf s) h = absurd (never h refl)
 within-amount most (fin false m e) h = tt
 within-amount most (fin true m e) h =
-    minus-none m e (subst (λ z. lt (fin true m e) z ≡ false) zero-is (not-read _ (and-read (not (lt (fin true m e) (float 0))) h .0)))
-
-not-above : (most p : Float) → withinb most p ≡ true → lt most p ≡ false
-unfolding withinb
-not-above most p h = not-read _ (and-read (not (lt p (float 0))) (and-read (finite p) h .1) .1)
-
-not-under : (most p : Float) → withinb most p ≡ true → lt p (float 0) ≡ false
-unfolding withinb
-not-under most p h = not-read _ (and-read (not (lt p (float 0))) (and-read (finite p) h .1) .0)
+    minus-none m e (subst (λ z. lt (fin true m e) z ≡ false) zero-is (within-read most (fin true m e) h .1))
 
 -- A value within the bounds is at least zero and at most a hundred percent.
 pub within-bounds : (p : Float) → Within p → (le (float 0) p ≡ true) × (le p MOST-PERCENT ≡ true)
 within-bounds p h =
     let a = within-amount MOST-PERCENT p h in (
-      not-lt→le (float 0) p zero-amount a (not-under MOST-PERCENT p h),
-      not-lt→le p MOST-PERCENT a percent-amount (not-above MOST-PERCENT p h),
+      not-lt→le (float 0) p zero-amount a (within-read MOST-PERCENT p h .1),
+      not-lt→le p MOST-PERCENT a percent-amount (within-read MOST-PERCENT p h .2),
     )
 
 -- And the other way round.
@@ -206,7 +205,7 @@ grams-within (inf s) h = absurd (within-amount MOST-GRAMS (inf s) h)
 grams-within (fin s m e) h =
     subst (λ z. Within (div binary32 (fin s m e) z)) (sym ten-is)
     (subst Within (sym (tenth-is s m e))
-    (tenth-within s m e (within-amount MOST-GRAMS (fin s m e) h) (subst (λ z. lt z (fin s m e) ≡ false) grams-is (not-above MOST-GRAMS (fin s m e) h))))
+    (tenth-within s m e (within-amount MOST-GRAMS (fin s m e) h) (subst (λ z. lt z (fin s m e) ≡ false) grams-is (within-read MOST-GRAMS (fin s m e) h .2))))
 
 -- Whatever two words stand for, its value in percent lies within the bounds.
 pub percent-within : (kind bits : ℕ) → All Within (percentIn (decode kind bits))
@@ -252,10 +251,6 @@ not-both-below (fin s m e) nan h = refl
 not-both-below (fin s m e) (inf true) h = absurd (never h refl)
 not-both-below (fin s m e) (inf false) h = refl
 not-both-below (fin s m e) (fin t n d) h = below-one-way s (m * up e * down d) t (n * up d * down e) h
-
--- No float is below itself.
-pub not-below-itself : (p : Float) → lt p p ≡ false
-not-below-itself p = not-so (λ h. never h (not-both-below p p h))
 
 -- If p is below q and r isn't, then p is below r.
 pub below-between : (p q r : Float) → Within p → Within q → Within r → lt p q ≡ true → lt r q ≡ false → lt p r ≡ true

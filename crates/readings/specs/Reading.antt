@@ -2,7 +2,6 @@
 -- percent. Floats are those of IEEE 754, by the library's account of them.
 use Prim.Native.Nat.{ℕ}
 use mathlib.Core.Bool.{Bool, cond, not, _&&_}
-use mathlib.Core.List.{List, [], _∷_}
 use lib.Dec.{eqb}
 use lib.IntN.{pos}
 use lib.Ieee.{Float, binary32, ofBits, ofInt, div, lt}
@@ -52,7 +51,7 @@ decode kind bits =
     (cond (eqb kind GRAMS && withinb MOST-GRAMS (ofBits binary32 bits)) (Read (Lab.Grams (ofBits binary32 bits)))
     Faulty))
 
--- A reading in percent. Grams become percent by one division by ten.
+-- A reading in percent: a value in grams is divided by ten, once.
 abbrev pub percentOf : Reading → Percentage
 percentOf (Lab.Percent p) = Share.Of p
 percentOf (Lab.Grams g) = Share.Of (div binary32 g GRAMS-A-PERCENT)

@@ -45,7 +45,7 @@ pairedb samples readings = eqb (length readings) (READING-WORDS * count samples)
 abbrev pub readingOf : Sample → Decoded
 readingOf s = decode (s .kind) (s .bits)
 
--- Whether two words stand for no reading.
+-- Whether what two words are decoded to is a fault.
 abbrev pub faultIn : Decoded → Bool
 faultIn (Read reading) = false
 faultIn Faulty = true

@@ -4,11 +4,9 @@
 -- What would break it: A low taken for a high would be caught at the first return. A first value
 -- compared with what stood there before would be caught at the second.
 use borrow.Author.Needs.{needs}
-use mathlib.Core.Path.{_≡_, refl, sym, ap, _∙_}
-use mathlib.Core.Bool.{Bool, true, false}
-use lib.Ieee.{Float}
-use Rattle.ranges.specs.declared.range.Range.{Range}
-use Rattle.ranges.specs.Private.Passing.{lower, higher, takenIn}
+use mathlib.Core.Path.{sym, ap}
+use mathlib.Core.Bool.{Bool}
+use Rattle.ranges.specs.Private.Passing.{takenIn}
 use Rattle.ranges.proofs.range.taken_in.Statement.{statement}
 use Rattle.ranges.proofs.range.taken_in.Tie as tie
 

@@ -10,18 +10,18 @@ use denote.Ref.{now}
 use native.Mathlib.Omega.{arith}
 use mathlib.Core.Path.{_≡_, refl, sym, ap, _∙_, subst}
 use mathlib.Core.Logic.{inl, inr}
-use mathlib.Core.Bool.{Bool, true, false, cond, not}
+use mathlib.Core.Bool.{Bool, true, false, cond}
 use mathlib.Core.List.{List, [], _∷_}
 use Prim.Native.Nat.{ℕ, _*_, _≤_, _<_}
-use lib.Dec.{leb, eqb}
+use lib.Dec.{leb}
 use lib.ListN.{length}
-use lib.Ieee.{Float}
 use borrow.Author.Tests.{eq-eqb, ne-eqb, le-leb, lt-leb}
 use Rattle.laws.specs.Choose.{any, firstAt}
-use Rattle.laws.proofs.Tests.{either, never, not-so}
+use Rattle.laws.proofs.Tests.{either, not-so}
 use Rattle.answers.specs.Answer.{TAKEN, RAGGED, READING, ABSENT}
 use Rattle.answers.specs.declared.verdict.Verdict.{Verdict}
-use Rattle.answers.specs.Verdict.{ANCESTORS, verdict, refusedb}
+use Rattle.answers.specs.Verdict.{ANCESTORS, verdict}
+use Rattle.answers.proofs.VerdictLaws.{refuses, accepts}
 use Rattle.nodes.specs.declared.node.Node.{Node}
 use Rattle.nodes.specs.Words.{nodeAt, count, MOST-NODES}
 use Rattle.lists.specs.Two.{checkTwo}
@@ -29,26 +29,17 @@ use Rattle.lists.proofs.Pairing.{two-taken-iff}
 use Rattle.lists.proofs.Taken.{whole-words, words-check}
 use Rattle.readings.specs.Sample.{Sample, READING-WORDS, samplesIn, pairedb, faultyb, inZone, present}
 use Rattle.ranges.specs.declared.range.ZoneRange.{ZoneRange}
-use Rattle.ranges.specs.declared.range.ZoneRange.the-variants.{Found, NoReading, Refused}
+use Rattle.ranges.specs.declared.range.ZoneRange.the-variants.{Refused}
 use Rattle.ranges.specs.Private.Passing.{passed}
 use Rattle.ranges.specs.Range.{rangeOf, zoneRange}
+use Rattle.ranges.proofs.Cases.{never-refused}
 use Rattle.ranges.proofs.range.ZoneRange.{the-type}
 use Rattle.ranges.proofs.range.zone_range.Statement.{statement}
 use Rattle.ranges.proofs.range.zone_range.Tie as tie
 
--- An answer of the first two cases isn't a refusal, and a range isn't one either.
+-- An answer of the first two cases isn't a refusal.
 no-refusal : (r : ZoneRange) (v : Verdict) → OneOf (0 ∷ 1 ∷ []) (tagOf the-type r) → r ≡ Refused v → ⊥
 no-refusal r v k e = elim (subst (λ r. OneOf (0 ∷ 1 ∷ []) (tagOf the-type r)) e k) [ inl z ↦ omega arith | inr z ↦ omega arith ]
-
-Refusal : ZoneRange → Type 0
-Refusal (Found range) = ⊥
-Refusal NoReading = ⊥
-Refusal (Refused refusal) = Unit {0}
-
-range-taken : (ps : List Float) (v : Verdict) → rangeOf ps ≡ Refused v → ⊥
-unfolding rangeOf Refusal
-range-taken [] v e = subst Refusal (sym e) tt
-range-taken (p ∷ ps) v e = subst Refusal (sym e) tt
 
 -- What a pass answers where a reading is faulty, and where none is.
 passed-faulty : (zone : Node) (ss : List Sample) → any faultyb ss ≡ true → passed zone ss ≡ Refused (verdict READING ANCESTORS (firstAt faultyb ss))
@@ -69,19 +60,15 @@ module _ (zones samples readings : List ℕ) (zone : ℕ) where
   few : checkTwo zones samples .answer ≡ TAKEN → count samples ≤ MOST-NODES
   few h = whole-words samples .0 (words-check samples .0 (two-taken-iff zones samples .0 h .1) .0) .1
 
-  -- The pass goes by the node at the zone's index.
-  placed : (r : ZoneRange) (n : Node) → r ≡ passed n ss → n ≡ nodeAt zones zone → r ≡ passed (nodeAt zones zone) ss
-  placed r n e q = e ∙ ap (λ n. passed n ss) q
-
   -- Each return, from the checks passed and the one that failed.
   at-lists : (checkTwo zones samples .answer ≡ TAKEN → ⊥) → Refused (checkTwo zones samples) ≡ answer
-  unfolding zoneRange refusedb
-  at-lists h = rw (ne-eqb _ _ h) refl
+  unfolding zoneRange
+  at-lists h = rw (refuses (checkTwo zones samples) h) refl
 
   module _ (lists : checkTwo zones samples .answer ≡ TAKEN) where
     at-pairing : (length readings ≡ READING-WORDS * count samples → ⊥) → Refused (verdict RAGGED ANCESTORS 0) ≡ answer
-    unfolding zoneRange refusedb pairedb
-    at-pairing h = rw (eq-eqb _ _ lists, ne-eqb _ _ h) refl
+    unfolding zoneRange pairedb
+    at-pairing h = rw (accepts (checkTwo zones samples) lists, ne-eqb _ _ h) refl
 
     module _ (paired : length readings ≡ READING-WORDS * count samples) where
       abbrev rest : Bool → Bool → ZoneRange
@@ -90,14 +77,14 @@ module _ (zones samples readings : List ℕ) (zone : ℕ) where
           (cond absent (Refused (verdict ABSENT ANCESTORS 0)) (rangeOf (present (inZone (nodeAt zones zone) ss))))
 
       after-pairing : answer ≡ rest (any faultyb ss) (leb (count zones) zone)
-      unfolding zoneRange refusedb pairedb
-      after-pairing = rw (eq-eqb _ _ lists, eq-eqb _ _ paired) refl
+      unfolding zoneRange pairedb
+      after-pairing = rw (accepts (checkTwo zones samples) lists, eq-eqb _ _ paired) refl
 
       at-reading : (r : ZoneRange) (v : Verdict) → r ≡ passed (nodeAt zones zone) ss → r ≡ Refused v → r ≡ answer
       at-reading r v e q =
           elim (either (any faultyb ss)) [
             | inl t ↦ e ∙ passed-faulty (nodeAt zones zone) ss t ∙ sym (after-pairing ∙ ap (λ b. rest b (leb (count zones) zone)) t)
-            | inr f ↦ absurd (range-taken _ v (sym (e ∙ passed-sound (nodeAt zones zone) ss f) ∙ q))
+            | inr f ↦ absurd (never-refused _ (sym (e ∙ passed-sound (nodeAt zones zone) ss f) ∙ q))
           ]
 
       -- A pass that isn't refused has found no faulty reading.
@@ -121,6 +108,11 @@ returns c =
     let q = c .before .before .check-two .ensures in
     ap Refused q ∙ at-lists (now (a .zones)) (now (a .samples)) (now (a .readings)) (a .zone) (λ t. c .if1 .taken (ap (λ (v : Verdict). v .answer) q ∙ t))
 
+-- Past the first check both lists are accepted.
+lists-taken : (c : tie.Else1)
+    → let a = c .before .before .before .before .before .before .args in checkTwo (now (a .zones)) (now (a .samples)) .answer ≡ TAKEN
+lists-taken c = sym (ap (λ (v : Verdict). v .answer) (c .before .before .check-two .ensures)) ∙ c .if1 .left
+
 node-count-requires : tie.Need-node-count-requires
 node-count-requires c κs = search needs
 
@@ -132,23 +124,29 @@ without-node-requires c κs = search needs
 
 returns-2 : tie.Need-returns-2
 returns-2 c =
-    let checked = c .before .before .before .before .before in
-    let a = checked .before .before .before .before .args in
+    let a = c .before .before .before .before .before .before .before .before .before .args in
     ap Refused (c .without-node .ensures)
     ∙ at-pairing (now (a .zones)) (now (a .samples)) (now (a .readings)) (a .zone)
-    (sym (ap (λ (v : Verdict). v .answer) (checked .check-two .ensures)) ∙ c .before .before .before .if1 .left) (λ e. omega arith)
+    (lists-taken (c .before .before .before)) (λ e. omega arith)
 
 node-at-requires : tie.Need-node-at-requires
 node-at-requires c κs = search needs
 
 pass-samples-requires : tie.Need-pass-samples-requires
 pass-samples-requires c κs =
-    let checked = c .before .before .before .before .before in
-    let a = checked .before .before .before .before .args in (
+    let a = c .before .before .before .before .before .before .before .before .before .args in (
       omega arith,
       few (now (a .zones)) (now (a .samples)) (now (a .readings)) (a .zone)
-          (sym (ap (λ (v : Verdict). v .answer) (checked .check-two .ensures)) ∙ c .before .before .before .if1 .left),
+          (lists-taken (c .before .before .before)),
     )
+
+-- The pass goes by the node at the zone's index.
+placed : (c : tie.After-pass-samples)
+    → let a = c .before .before .before .before .before .before .before .before .before .before .args in
+    c .pass-samples .result ≡ passed (nodeAt (now (a .zones)) (a .zone)) (samplesIn (now (a .samples)) (now (a .readings)))
+placed c =
+    let a = c .before .before .before .before .before .before .before .before .before .before .args in
+    c .pass-samples .ensures ∙ ap (λ (n : Node). passed n (samplesIn (now (a .samples)) (now (a .readings)))) (c .before .node-at .ensures)
 
 enum-told : tie.Need-enum-told
 enum-told c = search needs
@@ -156,11 +154,10 @@ enum-told c = search needs
 returns-3 : tie.Need-returns-3
 returns-3 c =
     let pairs = c .before .before .before .before in
-    let checked = pairs .before .before .before .before in
-    let a = checked .before .before .before .before .args in
+    let a = pairs .before .before .before .before .before .before .before .before .args in
     at-reading (now (a .zones)) (now (a .samples)) (now (a .readings)) (a .zone)
-    (sym (ap (λ (v : Verdict). v .answer) (checked .check-two .ensures)) ∙ pairs .before .before .if1 .left) (omega arith) _ _
-    (placed (now (a .zones)) (now (a .samples)) (now (a .readings)) (a .zone) _ _ (c .before .before .pass-samples .ensures) (c .before .before .before .node-at .ensures))
+    (lists-taken (pairs .before .before)) (omega arith) _ _
+    (placed (c .before .before))
     (c .enum-told .given .1)
 
 node-count-requires-2 : tie.Need-node-count-requires-2
@@ -173,23 +170,21 @@ returns-4 : tie.Need-returns-4
 returns-4 c =
     let pass = c .before .before .before .before in
     let pairs = pass .before .before in
-    let checked = pairs .before .before .before .before in
-    let a = checked .before .before .before .before .args in
+    let a = pairs .before .before .before .before .before .before .before .before .args in
     ap Refused (c .without-node2 .ensures)
     ∙ at-zone (now (a .zones)) (now (a .samples)) (now (a .readings)) (a .zone)
-    (sym (ap (λ (v : Verdict). v .answer) (checked .check-two .ensures)) ∙ pairs .before .before .if1 .left) (omega arith) _
-    (placed (now (a .zones)) (now (a .samples)) (now (a .readings)) (a .zone) _ _ (pass .pass-samples .ensures) (pass .before .node-at .ensures))
+    (lists-taken (pairs .before .before)) (omega arith) _
+    (placed pass)
     (c .before .before .before .match .keys2) (omega arith)
 
 returns-5 : tie.Need-returns-5
 returns-5 c =
     let pass = c .before .before .before in
     let pairs = pass .before .before in
-    let checked = pairs .before .before .before .before in
-    let a = checked .before .before .before .before .args in
+    let a = pairs .before .before .before .before .before .before .before .before .args in
     at-end (now (a .zones)) (now (a .samples)) (now (a .readings)) (a .zone)
-    (sym (ap (λ (v : Verdict). v .answer) (checked .check-two .ensures)) ∙ pairs .before .before .if1 .left) (omega arith) _
-    (placed (now (a .zones)) (now (a .samples)) (now (a .readings)) (a .zone) _ _ (pass .pass-samples .ensures) (pass .before .node-at .ensures))
+    (lists-taken (pairs .before .before)) (omega arith) _
+    (placed pass)
     (c .before .before .match .keys2) (omega arith)
 
 pub zone-range-spec : {M : Type 1} → statement M

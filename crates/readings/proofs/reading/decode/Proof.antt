@@ -5,32 +5,23 @@
 -- the return that comes too early. A missing reading with bits would be caught at the first.
 use borrow.Author.Needs.{needs}
 use mathlib.Core.Path.{_≡_, refl, sym, ap, _∙_}
-use mathlib.Core.Logic.{_⊎_, inl, inr}
+use mathlib.Core.Logic.{inl, inr}
 use mathlib.Core.Bool.{Bool, true, false, cond, not, _&&_}
 use Prim.Native.Nat.{ℕ}
 use lib.Dec.{T, eqb}
 use lib.Ieee.{Float, binary32, nanBits, ofBits}
-use lib.Ieee.Scale.{finite}
 use borrow.Author.Tests.{eq-eqb, ne-eqb}
-use Rattle.laws.proofs.Tests.{and-read, and-make, not-so}
-use Rattle.readings.specs.declared.reading.Decoded.{Decoded}
+use Rattle.laws.proofs.Tests.{and-make, and-left, and-right}
 use Rattle.readings.specs.declared.reading.Decoded.the-variants.{Read, Faulty}
 use Rattle.readings.specs.declared.reading.Reading.the-variants.{Percent, Grams, Missing}
 use Rattle.readings.specs.Reading.{MISSING, PERCENT, GRAMS, MOST-PERCENT, MOST-GRAMS, withinb, decode}
 use Rattle.readings.proofs.FloatBits.{finite-no-nan, hundred-bits, thousand-bits}
+use Rattle.readings.proofs.Values.{within-read}
 use Rattle.readings.proofs.reading.decode.Statement.{statement}
 use Rattle.readings.proofs.reading.decode.Tie as tie
 
 no-nan : (most : Float) (bits : ℕ) → withinb most (ofBits binary32 bits) ≡ true → T (not (nanBits binary32 bits))
-unfolding withinb
-no-nan most bits h = finite-no-nan bits (and-read (finite (ofBits binary32 bits)) h .0)
-
-and-first : {a : Bool} (b : Bool) → a ≡ false → (a && b) ≡ false
-and-first b p = rw p
-
-and-second : (a : Bool) {b : Bool} → b ≡ false → (a && b) ≡ false
-and-second true p = p
-and-second false p = refl
+no-nan most bits h = finite-no-nan bits (within-read most (ofBits binary32 bits) h .0)
 
 module _ (kind bits : ℕ) where
   abbrev x : Float
@@ -48,6 +39,30 @@ within : {most limit : Float} {b : Bool} (bits : ℕ) (r : Bool) → r ≡ withi
     → withinb limit (ofBits binary32 bits) ≡ b
 within bits r e t q = ap (λ m. withinb m (ofBits binary32 bits)) (sym q) ∙ sym e ∙ t
 
+-- Where the code has gone past a test, the definition's test is false.
+not-missing : (c : tie.Joined1) → let a = c .before .args in (eqb (a .kind) MISSING && eqb (a .bits) 0) ≡ false
+not-missing c =
+    let a = c .before .args in
+    elim (c .if1 .came) [ inl g ↦ and-right (eqb (a .kind) MISSING) (g .1 .left) | inr g ↦ and-left (eqb (a .bits) 0) (ne-eqb _ _ (g .left)) ]
+
+not-percent : (c : tie.Joined3)
+    → let a = c .before .before .args in (eqb (a .kind) PERCENT && withinb MOST-PERCENT (ofBits binary32 (a .bits))) ≡ false
+not-percent c =
+    let a = c .before .before .args in
+    elim (c .if3 .came) [
+      | inl g ↦ and-right (eqb (a .kind) PERCENT) (within (a .bits) _ (g .1 .ensures) (g .2 .left) hundred-bits)
+      | inr g ↦ and-left (withinb MOST-PERCENT (ofBits binary32 (a .bits))) (ne-eqb _ _ (g .left))
+    ]
+
+not-grams : (c : tie.Joined5)
+    → let a = c .before .before .before .args in (eqb (a .kind) GRAMS && withinb MOST-GRAMS (ofBits binary32 (a .bits))) ≡ false
+not-grams c =
+    let a = c .before .before .before .args in
+    elim (c .if5 .came) [
+      | inl g ↦ and-right (eqb (a .kind) GRAMS) (within (a .bits) _ (g .1 .ensures) (g .2 .left) thousand-bits)
+      | inr g ↦ and-left (withinb MOST-GRAMS (ofBits binary32 (a .bits))) (ne-eqb _ _ (g .left))
+    ]
+
 returns : tie.Need-returns
 returns c =
     let a = c .before .before .args in
@@ -64,7 +79,7 @@ returns-2 c =
     let asked = c .before .before in
     let a = asked .before .before .args in
     decided (a .kind) (a .bits) false true _
-    (elim (asked .before .if1 .came) [ inl g ↦ and-second (eqb (a .kind) MISSING) (g .1 .left) | inr g ↦ and-first (eqb (a .bits) 0) (ne-eqb _ _ (g .left)) ])
+    (not-missing (asked .before))
     (and-make (eq-eqb _ _ (asked .if3 .taken)) (within (a .bits) _ (c .before .is-within .ensures) (c .if4 .taken) hundred-bits))
     refl
 
@@ -79,26 +94,14 @@ returns-3 c =
     let asked = c .before .before in
     let a = asked .before .before .before .args in
     decided (a .kind) (a .bits) false false true
-    (elim (asked .before .before .if1 .came) [ inl g ↦ and-second (eqb (a .kind) MISSING) (g .1 .left) | inr g ↦ and-first (eqb (a .bits) 0) (ne-eqb _ _ (g .left)) ])
-    (elim (asked .before .if3 .came) [
-      | inl g ↦ and-second (eqb (a .kind) PERCENT) (within (a .bits) _ (g .1 .ensures) (g .2 .left) hundred-bits)
-      | inr g ↦ and-first (withinb MOST-PERCENT (ofBits binary32 (a .bits))) (ne-eqb _ _ (g .left))
-    ])
+    (not-missing (asked .before .before)) (not-percent (asked .before))
     (and-make (eq-eqb _ _ (asked .if5 .taken)) (within (a .bits) _ (c .before .is-within2 .ensures) (c .if6 .taken) thousand-bits))
 
 returns-4 : tie.Need-returns-4
 returns-4 c =
     let a = c .before .before .before .args in
     decided (a .kind) (a .bits) false false false
-    (elim (c .before .before .if1 .came) [ inl g ↦ and-second (eqb (a .kind) MISSING) (g .1 .left) | inr g ↦ and-first (eqb (a .bits) 0) (ne-eqb _ _ (g .left)) ])
-    (elim (c .before .if3 .came) [
-      | inl g ↦ and-second (eqb (a .kind) PERCENT) (within (a .bits) _ (g .1 .ensures) (g .2 .left) hundred-bits)
-      | inr g ↦ and-first (withinb MOST-PERCENT (ofBits binary32 (a .bits))) (ne-eqb _ _ (g .left))
-    ])
-    (elim (c .if5 .came) [
-      | inl g ↦ and-second (eqb (a .kind) GRAMS) (within (a .bits) _ (g .1 .ensures) (g .2 .left) thousand-bits)
-      | inr g ↦ and-first (withinb MOST-GRAMS (ofBits binary32 (a .bits))) (ne-eqb _ _ (g .left))
-    ])
+    (not-missing (c .before .before)) (not-percent (c .before)) (not-grams c)
 
 pub decode-spec : {M : Type 1} → statement M
 decode-spec =

@@ -4,7 +4,7 @@
 -- What would break it: Grams taken as they are, or divided by another number, would be caught at
 -- the second return. A missing reading taken for a number would be caught at the third.
 use borrow.Author.Needs.{needs}
-use mathlib.Core.Path.{_≡_, sym, ap, _∙_}
+use mathlib.Core.Path.{sym, ap, _∙_}
 use lib.Ieee.{Float, binary32, div}
 use Rattle.readings.specs.declared.reading.Percentage.the-variants.{Of}
 use Rattle.readings.specs.Reading.{percentOf}

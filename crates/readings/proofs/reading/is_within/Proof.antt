@@ -3,10 +3,9 @@
 -- comparisons are those of the definition.
 -- What would break it: A bound one off would be caught at the first return. A zero taken for a
 -- number below zero, or `most` left out, would be caught at the return after it.
-use mathlib.Core.Path.{_≡_, refl, sym, ap, _∙_}
+use mathlib.Core.Path.{_≡_, sym, ap, _∙_}
 use mathlib.Core.Bool.{Bool, true, false, not, _&&_}
 use Prim.Native.Nat.{ℕ, _%_, _≤_, _<_}
-use lib.Dec.{leb}
 use lib.Ieee.{Float, binary32, ofBits, lt}
 use lib.Ieee.Scale.{finite}
 use borrow.Author.Tests.{le-leb, lt-leb}
