@@ -37,7 +37,8 @@
  * - Nobody else writes what a call is lent before it returns, neither a thread nor a signal
  *   handler.
  * - The thread's floats are in their default mode: they are rounded to the nearest, and the
- *   smallest ones aren't taken for zero. Only the calls for ranges compute with floats.
+ *   smallest ones aren't taken for zero; otherwise a reading below zero may be taken. Only the
+ *   calls for ranges compute with floats.
  * - There is enough stack. What a call takes has a bound, a few thousand bytes; docs/SPEED.md of
  *   the repository gives it.
  */
@@ -46,7 +47,6 @@
 
 #include <stddef.h>
 #include <stdint.h>
-#include <string.h>
 
 #ifdef __cplusplus
 extern "C" {
@@ -187,8 +187,8 @@ typedef enum belfry_order {
 /* No list of the book has that tag, the book has fewer lists than asked for, or no zone has that
  * index. */
 #define BELFRY_ABSENT 16
-/* A sample's reading is of another kind, or is missing and has bits. Or its value isn't finite, is
- * below zero, or is above 100 percent or 1,000 grams per kilogram. */
+/* A sample's reading has an unknown kind, or is missing and yet has bits. Or its value is infinite,
+ * a NaN or below zero. Or it exceeds 100 percent or 1,000 grams per kilogram. */
 #define BELFRY_READING 17
 
 /* A node of a list. */
@@ -222,10 +222,14 @@ typedef struct {
     uint32_t kind, bits;
 } belfry_reading;
 
-/* Returns a reading of this kind with the bits of this value. */
+/* Returns a reading of this kind with the bits of this value. They are copied byte by byte, which C
+ * and C++ both define and which needs no library. */
 static inline belfry_reading belfry_reading_of(uint32_t kind, float value) {
     belfry_reading reading = {kind, 0};
-    memcpy(&reading.bits, &value, sizeof value);
+    const unsigned char *from = (const unsigned char *)&value;
+    unsigned char *to = (unsigned char *)&reading.bits;
+    for (size_t i = 0; i < sizeof value; i++)
+        to[i] = from[i];
     return reading;
 }
 
@@ -384,9 +388,10 @@ belfry_page belfry_list(const uint32_t *ancestors, size_t ancestor_words,
 /* Finds the low and the high of the lab readings in one zone. It reads both lists and the readings,
  * and writes nothing. `zone` is the zone's index. The readings have two words for each sample, in
  * the samples' order: a kind and the bits of a float.
- * The low and the high are over the present readings of all samples inside the zone, directly or
- * not. Grams per kilogram are divided by ten, once, so both are in percent. Of equal readings the
- * first sample's stays: where -0.0 comes before 0.0, it is the low and the high.
+ * The low and the high are the lowest and the highest reading that the zone holds. A sample counts
+ * if it is inside the zone, directly or not, and has a reading. Grams per kilogram are divided by
+ * ten, once, so both are in percent. Of equal readings the first sample's stays: of -0.0 and then
+ * 0.0 alone, -0.0 is the low and the high.
  * A missing reading is never a number. Where no sample inside the zone has a reading, the answer is
  * TAKEN and `present` is 0. Then there is no low and no high, and the zeros there are no values.
  * Answers: those of belfry_check_two. Then RAGGED with list 0, when there aren't as many readings

@@ -1,7 +1,9 @@
 """The mistakes of users that once lost pairs or hid a fault without a word, by name."""
 import unittest
 from array import array
+from collections import OrderedDict, deque
 from inspect import signature
+from types import MappingProxyType
 
 from support import INSIDE, S, Z, painted, starts, ticket, words
 
@@ -121,7 +123,7 @@ class ListsSplitAndJoinedPieceByPiece(unittest.TestCase):
 
 
 class AMissingReadingTakenForZero(unittest.TestCase):
-    """Zero was read as bare sand, and good loam was sown at the sand's rate."""
+    """A 0 in place of "no reading" sets the seed rate of a field that the lab never looked at."""
 
     def test_a_zone_without_a_reading_has_no_number(self):
         self.assertIsNone(belfry.zone_range(Z, S, [None, Percent(4.5)], 1))
@@ -142,6 +144,13 @@ class AMissingReadingTakenForZero(unittest.TestCase):
         with self.assertRaisesRegex(ValueError, "^reading 1 has a number that is no float"):
             belfry.zone_range(Z, S, [None, Grams(10 ** 400)], 0)
 
+    def test_a_lone_reading_is_not_the_readings(self):
+        for given in (None, Percent(4.5), Grams(38.0), 4.5, 0):
+            for call in (belfry.reading_words, lambda given: belfry.zone_range(Z, S, given, 0)):
+                with self.subTest(given=given, call=call):
+                    with self.assertRaisesRegex(TypeError, "^readings must be a list of Percent, "):
+                        call(given)
+
     def test_memory_of_floats_is_no_memory_of_readings(self):
         for given in (array("f", [4.5, 3.8]), array("d", [4.5, 3.8]), bytes(16)):
             with self.assertRaisesRegex(TypeError, "^readings must be a buffer of unsigned 32-bit"):
@@ -156,6 +165,45 @@ class AMissingReadingTakenForZero(unittest.TestCase):
                 belfry.zone_range(Z, S, [None, None], zone)
         with self.assertRaisesRegex(TypeError, "^zone must be a whole number, not "):
             belfry.zone_range(Z, S, [None, None], 0.0)
+
+
+class ReadingsWithoutAnOrder(unittest.TestCase):
+    """A set gave each sample the reading of any other, and a dict gave its keys as the readings."""
+
+    def test_a_set_and_a_dict_are_errors(self):
+        by_sample = {None: Percent(4.5), Percent(3.0): None}
+        for given in (set(by_sample), frozenset(by_sample), by_sample, OrderedDict(by_sample),
+                      MappingProxyType(by_sample), by_sample.keys(), set(), {}):
+            kind = type(given).__name__
+            message = f"^readings must come in the samples' order, not as {kind}$"
+            for call in (belfry.reading_words, lambda given: belfry.zone_range(Z, S, given, 0)):
+                with self.subTest(kind=kind, call=call):
+                    with self.assertRaisesRegex(TypeError, message):
+                        call(given)
+
+    def test_what_has_an_order_is_taken(self):
+        readings = [Percent(4.5), Percent(3.0)]
+        for given in (readings, tuple(readings), iter(readings), deque(readings),
+                      dict(enumerate(readings)).values(), (each for each in readings)):
+            with self.subTest(kind=type(given)):
+                self.assertEqual(belfry.zone_range(Z, S, given, 0), (3.0, 4.5))
+
+
+class AValueJudgedBeforeItIsRounded(unittest.TestCase):
+    """The float of 32 bits is judged, and not the number that it was rounded from."""
+
+    def test_what_rounds_to_a_limit_is_taken(self):
+        for given, rounded in ((Percent(100.000001), 100.0), (Grams(1000.00001), 100.0),
+                               (Percent(-1e-60), -0.0), (Grams(-1e-60), -0.0)):
+            with self.subTest(given=given):
+                found = belfry.zone_range(Z, S, [given, None], 0)
+                self.assertEqual(list(map(str, found)), [str(rounded)] * 2)
+
+    def test_what_rounds_to_a_float_beyond_is_refused(self):
+        for given in (Percent(100.00001), Grams(1000.0001), Percent(-1e-45), Percent(1e39)):
+            with self.subTest(given=given):
+                with self.assertRaisesRegex(Refused, "^17 READING, index 1: "):
+                    belfry.zone_range(Z, S, [None, given], 0)
 
 
 class APageWithRoomForNoPair(unittest.TestCase):

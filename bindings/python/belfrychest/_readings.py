@@ -1,8 +1,9 @@
 """Lab readings of organic matter, and their low and high in a zone."""
 import ctypes
 from array import array
+from collections.abc import Mapping, Set
 from dataclasses import dataclass
-from typing import Iterable, NamedTuple, Optional, Union
+from typing import Iterable, Iterator, NamedTuple, Optional, Union
 
 from ._answers import Verdict, settle, verdict_of
 from ._archive import RangeStruct, function, lent_memory, word32
@@ -48,13 +49,26 @@ def _bits(index: int, value: float) -> int:
         raise ValueError(f"reading {index} has a number that is no float") from None
 
 
+def _in_order(readings: Iterable[Reading]) -> Iterator[Reading]:
+    """Returns an iterator over readings. A set has no order, and a dict would give its keys."""
+    kind = type(readings).__name__
+    if isinstance(readings, (Set, Mapping)):
+        raise TypeError(f"readings must come in the samples' order, not as {kind}")
+    try:
+        return iter(readings)
+    except TypeError:
+        raise TypeError(
+            "readings must be a list of Percent, Grams or None, or a buffer of their words, "
+            f"not {kind}") from None
+
+
 def reading_words(readings: Iterable[Reading]) -> Words:
     """Returns the words of some readings, two for each: a kind and the bits of its value.
 
     `zone_range` takes readings as they are. To ask for many zones, make the words once.
     """
     out = array("I")
-    for index, reading in enumerate(readings):
+    for index, reading in enumerate(_in_order(readings)):
         if reading is None:
             out.extend((MISSING, 0))
         elif isinstance(reading, (Percent, Grams)):
@@ -86,12 +100,14 @@ def _verdict(found: RangeStruct, zones: Lent, samples: Lent) -> Verdict:
 
 def zone_range(zones: Buffer, samples: Buffer, readings: Union[Buffer, Iterable[Reading]],
                zone: int) -> Optional[Range]:
-    """Returns the low and the high, in percent, over the present readings of the samples inside the
-    zone at index `zone`. It returns None, and never 0, where no sample inside it has a reading.
+    """Returns the lowest and the highest reading, in percent, that the zone at index `zone` holds.
+    A sample counts if it is inside the zone, directly or not, and has a reading. Where none counts,
+    it returns None, and never 0.
 
     Each sample has a reading, in the samples' order: `Percent`, `Grams` per kilogram, or None where
     it is missing. Memory of their words will do too, as `reading_words` returns it. Grams are
-    divided by ten, once. Of equal readings the first stays.
+    divided by ten, once. Of equal readings the first stays. The thread's floats have to be in their
+    default mode: where the smallest ones are taken for zero, a reading below zero may be taken.
 
     What is wrong with the lists is refused first, and then readings that aren't as many as the
     samples, as RAGGED. READING with the sample's index comes next, for any sample, in the zone or

@@ -55,7 +55,6 @@ pub const GRAMS: u32 = 2;
 pub const MOST_PERCENT: f32 = 100.0;
 /// The greatest lab reading in grams per kilogram. The least is 0.
 pub const MOST_GRAMS: f32 = 1000.0;
-
 /// A link's word that says there is no such node.
 pub const NONE: u32 = u32::MAX;
 

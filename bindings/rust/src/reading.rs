@@ -39,11 +39,11 @@ pub struct Range {
     pub high: f32,
 }
 
-/// Returns the low and the high over the present readings of the samples inside the zone at index
-/// `zone`, directly inside or not. There is one reading for each sample. Grams per kilogram are
-/// divided by ten, once.
+/// Returns the lowest and the highest reading, in percent, that the zone at index `zone` holds. A
+/// sample counts if it is inside the zone, directly or not, and has a reading. The readings come in
+/// the samples' order, one for each. Grams per kilogram are divided by ten, once.
 ///
-/// Where no sample inside the zone has a reading, there is no range:
+/// Where no sample counts, there is no range:
 ///
 /// ```
 /// use belfrychest::{zone_range, Node, Range, Reading};

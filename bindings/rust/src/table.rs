@@ -45,8 +45,8 @@ pub enum Answer {
     /// No list of the book has that tag, the book has fewer lists than asked for, or no zone has
     /// that index.
     Absent,
-    /// A sample's reading is of another kind, or is missing and has bits. Or its value isn't
-    /// finite, is below zero, or is above 100 percent or 1,000 grams per kilogram.
+    /// A sample's reading has an unknown kind, or is missing and yet has bits. Or its value is
+    /// infinite, a NaN or below zero. Or it exceeds 100 percent or 1,000 grams per kilogram.
     Reading,
     /// An answer that this crate doesn't know, by its number.
     Unknown(u32),

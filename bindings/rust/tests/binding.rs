@@ -334,8 +334,9 @@ fn a_range_is_refused() {
     let range = |readings: &[Reading], zone| zone_range(&ZONES, &SAMPLES, readings, zone);
     let faulty = |index| Refusal { index: Some(index), ..refusal(Answer::Reading) };
     assert_eq!(range(&good, 0), Ok(Some(Range { low: 100.0, high: 100.0 })));
-    assert_eq!(range(&good, 2), Err(refusal(Answer::Absent)));
-    assert_eq!(range(&good, usize::MAX), Err(refusal(Answer::Absent)));
+    for zone in [2, u32::MAX as usize, 1 << 32, (1 << 32) + 1, usize::MAX] {
+        assert_eq!(range(&good, zone), Err(refusal(Answer::Absent)), "zone {zone}");
+    }
     assert_eq!(range(&good[1..], 0), Err(refusal(Answer::Ragged)));
     assert_eq!(range(&[], 0), Err(refusal(Answer::Ragged)));
     for value in [f32::NAN, f32::INFINITY, -f32::MIN_POSITIVE, 1000.5] {
