@@ -298,7 +298,7 @@ static void fill_readings(struct small *s) {
     static const uint32_t others[] = {0,          1,          0x80000000, 0x80000001, 0x42c80000,
                                       0x42c80001, 0x447a0000, 0x447a0001, 0x7f7fffff, 0x7f800000,
                                       0x7fc00000, 0xff800000, 0xffc00001};
-    build_readings(s->reading, MOST_SMALL);
+    build_readings(s->reading, MOST_SMALL, IN_TURN);
     for (size_t i = 0; i < MOST_SMALL; i++)
         if (below(2)) {
             float value = below(3) ? 3 : 30;
@@ -350,7 +350,7 @@ static void compare_shape(const char *name) {
     static uint8_t book[4];
     build_shape(&lists, name, BELFRY_MOST_NODES);
     build_document(&document, name, BELFRY_MOST_NODES);
-    build_readings(readings, lists.samples);
+    build_readings(readings, lists.samples, IN_TURN);
     struct input in = {
         .ancestors = lists.zone,
         .ancestor_words = BELFRY_NODE_WORDS * lists.zones,
@@ -378,7 +378,7 @@ static void compare_limit(size_t words, size_t mark_words, int nested) {
     static uint32_t list[BELFRY_NODE_WORDS * (BELFRY_MOST_NODES + 1)], mark[BELFRY_MOST_NODES + 1];
     static uint32_t readings[BELFRY_READING_WORDS * (BELFRY_MOST_NODES + 1)];
     static uint8_t book[CONTENTS_BYTES];
-    build_readings(readings, BELFRY_MOST_NODES + 1);
+    build_readings(readings, BELFRY_MOST_NODES + 1, IN_TURN);
     for (uint32_t i = 0; i < words / BELFRY_NODE_WORDS; i++) {
         uint32_t node[BELFRY_NODE_WORDS] = {5, 1 + 2 * i, nested ? UINT32_MAX - i : 2 + 2 * i,
                                             nested ? 1 + i : 1};

@@ -93,16 +93,21 @@ def sizes(shape, nodes=MOST_NODES):
     return dict(zip(("zones", "samples", "inside", "directly", "marks"), counts))
 
 
+def without_kind(measure):
+    """Returns the measure's name; a range's without the kind of its readings."""
+    return "range" if measure.startswith("range-") else measure
+
+
 def unit_of(measure):
     return {"check": "node", "range": "node", "book": "node", "links": "node",
-            "number": "mark"}.get(measure, "pair")
+            "number": "mark"}.get(without_kind(measure), "pair")
 
 
 def units(measure, shape, nodes=MOST_NODES):
     """Returns how many nodes, marks or pairs the measure's cost is shared by."""
     if measure == "print":
         return sizes(shape, min(int(nodes), PRINTED_NODES))["inside"]
-    size = sizes(shape, nodes)
+    measure, size = without_kind(measure), sizes(shape, nodes)
     both = size["zones"] + size["samples"]
     counts = {"check": both, "range": both, "book": both, "links": size["zones"],
               "number": size["marks"]}

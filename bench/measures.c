@@ -49,27 +49,38 @@ static int prepare_listing(struct measure *measure, const char *name) {
     return 0 < measure->room && measure->room <= MOST_PAIRS;
 }
 
+static int prepare_range(struct measure *measure, const char *name) {
+    static const char *const names[] = {[BELFRY_MISSING] = "range-missing",
+                                        [BELFRY_PERCENT] = "range-percent",
+                                        [BELFRY_GRAMS] = "range-grams",
+                                        [IN_TURN] = "range"};
+    for (uint32_t kind = BELFRY_MISSING; kind <= IN_TURN; kind++)
+        if (strcmp(names[kind], name) == 0) {
+            measure->kind = RANGE;
+            measure->readings = kind;
+            return 1;
+        }
+    return 0;
+}
+
 int prepare_measure(struct measure *measure, const char *name, const char *shape_name,
                     size_t nodes) {
-    static const char *const names[] = {[CHECK] = "check",
-                                        [RANGE] = "range",
-                                        [LINKS] = "links",
-                                        [NUMBER] = "number",
-                                        [BOOK] = "book"};
+    static const char *const names[] = {
+        [CHECK] = "check", [LINKS] = "links", [NUMBER] = "number", [BOOK] = "book"};
     int named = 0;
     for (enum kind kind = CHECK; kind <= BOOK; kind++)
         if (names[kind] && strcmp(names[kind], name) == 0) {
             measure->kind = kind;
             named = 1;
         }
-    if (!named && !prepare_listing(measure, name))
+    if (!named && !prepare_range(measure, name) && !prepare_listing(measure, name))
         return 0;
     if (measure->kind == NUMBER)
         return build_document(&shape, shape_name, nodes);
     if (!build_shape(&shape, shape_name, nodes))
         return 0;
     build_book();
-    build_readings(readings, shape.samples);
+    build_readings(readings, shape.samples, measure->readings);
     return 1;
 }
 

@@ -15,6 +15,7 @@ struct measure {
     enum kind kind;
     belfry_ticket ticket;
     size_t room;
+    uint32_t readings;
 };
 
 /* The shape that was prepared last, and the book of its two lists. */
@@ -25,7 +26,9 @@ extern size_t book_bytes;
 /* Prepares a measure by its name on a shape with at most `nodes` nodes in each list, or on a
    document with at most `nodes` marks; it answers 0 where there is no such measure or shape. The
    names are check, range, links, number, book, and RELATION-ORDER-ROOM with the relation inside or
-   directly, the order descendant or ancestor, and as room the pairs of a page, or all. */
+   directly, the order descendant or ancestor, and as room the pairs of a page, or all. The readings
+   of range are of each kind in turn; those of range-percent, range-grams and range-missing are of
+   one. */
 int prepare_measure(struct measure *measure, const char *name, const char *shape_name,
                     size_t nodes);
 

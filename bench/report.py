@@ -345,6 +345,24 @@ def print_pages():
                 measured(title, f"{listing}-{room}", "a pair", shapes)
 
 
+def beyond_check(code, kind, shape):
+    """Returns what a range takes for a sample beyond the check of both lists."""
+    taken = instructions(code, f"range-{kind}", shape) - instructions(code, "check", shape)
+    return f"{taken / MOST_NODES:.1f}"
+
+
+def print_one_zone():
+    progress("Ranges of one zone")
+    print("\n### Ranges of one zone")
+    say(f"One zone and {MOST_NODES:,} samples, which are all inside it or all after it, with "
+        "readings of one kind. These are the instructions for a sample beyond the check of both "
+        "lists.")
+    table(("samples", "readings", *CODES),
+          [(place, kind, *(beyond_check(code, kind, shape) for code in CODES))
+           for shape, place in (("holds-all", "inside"), ("holds-none", "after"))
+           for kind in ("percent", "grams", "missing")])
+
+
 def print_others():
     print("\n## Ranges, links, numbering, books")
     say("A range is that of the first zone, with a reading for each sample: in percent, in grams "
@@ -352,6 +370,7 @@ def print_others():
         f"shape's kind with at most {MOST_NODES:,} marks; a document of the shape `documents` has "
         "two nodes only and is left out. The book that is checked holds both lists.")
     measured("Ranges", "range", "a node")
+    print_one_zone()
     measured("Links", "links", "a node")
     measured("Numbering", "number", "a mark", NUMBERED_SHAPES)
     measured("Checking a book", "book", "a node")

@@ -97,13 +97,15 @@ uint32_t random_number(uint64_t *state) {
     return *state >> 33;
 }
 
-void build_readings(uint32_t *readings, size_t samples) {
+void build_readings(uint32_t *readings, size_t samples, uint32_t kind) {
+    static const uint32_t turns[] = {BELFRY_PERCENT, BELFRY_GRAMS, BELFRY_MISSING};
     uint64_t state = 1;
     for (size_t i = 0; i < samples; i++) {
         float grams = random_number(&state) % BELFRY_MOST_GRAMS;
-        belfry_reading reading = i % 3 == 0   ? belfry_percent(grams / 10)
-                                 : i % 3 == 1 ? belfry_grams(grams)
-                                              : belfry_no_reading();
+        uint32_t its_kind = kind == IN_TURN ? turns[i % 3] : kind;
+        belfry_reading reading = its_kind == BELFRY_PERCENT ? belfry_percent(grams / 10)
+                                 : its_kind == BELFRY_GRAMS ? belfry_grams(grams)
+                                                            : belfry_no_reading();
         memcpy(&readings[BELFRY_READING_WORDS * i], &reading, sizeof reading);
     }
 }
@@ -190,6 +192,18 @@ static void build_few_samples(struct building *b) {
     build_some(b, 16, 1);
 }
 
+static void build_holds_all(struct building *b) {
+    open_zone(b);
+    put_samples(b, b->most);
+    close_element(b);
+}
+
+static void build_holds_none(struct building *b) {
+    open_zone(b);
+    close_element(b);
+    put_samples(b, b->most);
+}
+
 const char *const shape_names[SHAPES] = {
     "flat",        "nests",     "between", "random", "eight-zones",
     "few-samples", "documents", "twice",   "fields", "side",
@@ -207,7 +221,13 @@ static int build(struct building *b, const char *name) {
             builders[i](b);
             return 1;
         }
-    return 0;
+    if (strcmp(name, "holds-all") == 0)
+        build_holds_all(b);
+    else if (strcmp(name, "holds-none") == 0)
+        build_holds_none(b);
+    else
+        return 0;
+    return 1;
 }
 
 int build_shape(struct shape *shape, const char *name, size_t nodes) {

@@ -160,7 +160,7 @@ static size_t stack_of(void (*make)(const struct code *code), const struct code 
 static void prepare(const char *shape_name) {
     build_shape(&lists, shape_name, BELFRY_MOST_NODES);
     build_document(&document, shape_name, BELFRY_MOST_NODES);
-    build_readings(readings, lists.samples);
+    build_readings(readings, lists.samples, IN_TURN);
     zone_words = BELFRY_NODE_WORDS * lists.zones;
     sample_words = BELFRY_NODE_WORDS * lists.samples;
     size_t room = BELFRY_ROW_WORDS * BELFRY_MOST_NODES;
