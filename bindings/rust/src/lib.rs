@@ -27,8 +27,8 @@
 //! lists are edited between the pages, [`next_page`] hands out a page at a time and a [`Ticket`] to
 //! go on with. [`Pieces`] does all this for lists of any length.
 //!
-//! [`zone_range`] returns the low and the high of the lab readings in a zone, or `None` where none
-//! is present: a reading that is missing is never a number.
+//! [`zone_range`] returns the low and the high of the lab readings in a zone. Where the lab has
+//! read none of its samples it returns `None`, and never 0.
 //!
 //! Lists that come as words, four for each node, are lent as they lie: [`nodes`] takes words, and
 //! [`words`] gives them. All that is unsafe is in [`raw`], the C interface as it is. Every call
