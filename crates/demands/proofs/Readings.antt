@@ -24,8 +24,8 @@ use Rattle.readings.proofs.Refused.{faulty-iff}
 use Rattle.ranges.specs.declared.range.Range.{Range}
 use Rattle.ranges.specs.declared.range.ZoneRange.{ZoneRange}
 use Rattle.ranges.specs.declared.range.ZoneRange.the-variants.{Found, NoReading, Refused}
-use Rattle.ranges.specs.Demanded.{AcceptedRange, notMissing, sampleWords, readingWords, GivesNone, below, above, Extreme, FirstFaulty}
-use Rattle.ranges.specs.Range.{zoneRange}
+use Rattle.ranges.specs.Demanded.{AcceptedRange, notMissing, sampleWords, readingWords, GivesNone, Extreme, FirstFaulty}
+use Rattle.ranges.specs.Range.{below, above, zoneRange}
 use Rattle.ranges.proofs.Answered.{accepted-iff, refusal-not-taken, lists-told, ragged-iff, reading-iff, faulty-drawn, reading-named, absent-iff}
 use Rattle.ranges.proofs.Found.{found-low, found-high, extreme-bounds, no-reading-iff, same-inside, without-outside}
 use Rattle.ranges.proofs.Without.{without-missing}

@@ -19,8 +19,8 @@ use Rattle.readings.specs.Sample.{Sample, samplesIn, inZone, present}
 use Rattle.readings.proofs.Values.{Within, percent-within, present-within, within-bounds, not-both-below, below-between, above-between, equal-neither}
 use Rattle.ranges.specs.declared.range.Range.{Range}
 use Rattle.ranges.specs.declared.range.ZoneRange.the-variants.{Found, NoReading}
-use Rattle.ranges.specs.Demanded.{refusalb, AcceptedRange, GivesNone, below, above, Extreme, sampleWords, readingWords}
-use Rattle.ranges.specs.Range.{lowOf, highOf, rangeOf, zoneRange}
+use Rattle.ranges.specs.Demanded.{refusalb, AcceptedRange, GivesNone, Extreme, sampleWords, readingWords}
+use Rattle.ranges.specs.Range.{below, above, lowOf, highOf, rangeOf, zoneRange}
 use Rattle.ranges.proofs.Answered.{accepted-answer}
 use Rattle.ranges.proofs.Cases.{same-range, found-not-none, none-told}
 use Rattle.ranges.proofs.Extremes.{extreme, none-iff}

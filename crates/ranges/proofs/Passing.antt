@@ -9,7 +9,7 @@ use mathlib.Core.Bool.{Bool, true, false, cond}
 use mathlib.Core.List.{List, [], _∷_, _++_, flatMap, append-assoc, append-nil}
 use lib.ListN.{length, getD, take}
 use lib.Seq.{take-suc, take-all}
-use lib.Ieee.{Float, lt}
+use lib.Ieee.{Float}
 use Rattle.laws.specs.Choose.{All, keep}
 use Rattle.laws.proofs.Choices.{all-append, none-any, keep-append}
 use Rattle.answers.specs.Answer.{READING}
@@ -30,7 +30,7 @@ use Rattle.ranges.specs.declared.range.Range.{Range}
 use Rattle.ranges.specs.declared.range.ZoneRange.{ZoneRange}
 use Rattle.ranges.specs.declared.range.ZoneRange.the-variants.{Found, NoReading, Refused}
 use Rattle.ranges.specs.Private.Passing.{lower, higher, takenIn, passed}
-use Rattle.ranges.specs.Range.{lowOf, highOf, rangeOf}
+use Rattle.ranges.specs.Range.{below, above, lowOf, highOf, rangeOf}
 use Rattle.ranges.proofs.Cases.{same-range, found-not-none}
 use Rattle.ranges.proofs.Faults.{faulty-at, faulty-first}
 use Rattle.ranges.proofs.Unbeaten.{unbeaten-one, unbeaten-more}
@@ -38,20 +38,20 @@ use Rattle.ranges.proofs.Unbeaten.{unbeaten-one, unbeaten-more}
 -- The low and the high of one value more.
 low-one : (p : Float) → lowOf (p ∷ []) ≡ p
 unfolding lowOf
-low-one p = unbeaten-one (λ q r. lt q r) Within not-both-below below-between p
+low-one p = unbeaten-one below Within not-both-below below-between p
 
 high-one : (p : Float) → highOf (p ∷ []) ≡ p
 unfolding highOf
-high-one p = unbeaten-one (λ q r. lt r q) Within (λ p q h. not-both-below q p h) above-between p
+high-one p = unbeaten-one above Within (λ p q h. not-both-below q p h) above-between p
 
 module _ (q : Float) (qs : List Float) (p : Float) (w : All Within (q ∷ qs)) (v : Within p) where
   low-more : lowOf (q ∷ qs ++ (p ∷ [])) ≡ lower (lowOf (q ∷ qs)) p
   unfolding lowOf
-  low-more = unbeaten-more (λ q r. lt q r) Within not-both-below below-between q qs p w v
+  low-more = unbeaten-more below Within not-both-below below-between q qs p w v
 
   high-more : highOf (q ∷ qs ++ (p ∷ [])) ≡ higher (highOf (q ∷ qs)) p
   unfolding highOf
-  high-more = unbeaten-more (λ q r. lt r q) Within (λ p q h. not-both-below q p h) above-between q qs p w v
+  high-more = unbeaten-more above Within (λ p q h. not-both-below q p h) above-between q qs p w v
 
 -- What is carried along: whether a reading is present, and then the low and the high.
 abbrev pub carried : Bool → Range → ZoneRange
@@ -159,8 +159,8 @@ module _ (zone : Node) (samples readings : List ℕ) (paired : length readings �
     at : getD all i t ≡ t
     at = sample-at (nodes samples) readings i t (subst (λ n. i < n) (sym (length-nodes samples)) there) as-many
 
-    below : i < length all
-    below = subst (λ n. i < n) (sym samples-count) there
+    in-all : i < length all
+    in-all = subst (λ n. i < n) (sym samples-count) there
 
     sound-at : (read : Reading) → decodedAt i ≡ Read read → faultyb (getD all i t) ≡ false
     sound-at read e = ap faultyb at ∙ ap faultIn e
@@ -172,19 +172,19 @@ module _ (zone : Node) (samples readings : List ℕ) (paired : length readings �
 
     pub outside-turn : (read : Reading) → decodedAt i ≡ Read read → insideb (nodeAt samples i) zone ≡ false → Reached zone all any range (i + 1)
     unfolding present inZone keep flatMap nodeAt
-    outside-turn read e h = subst (Reached zone all any range) (omega arith) (pass-none zone all any range i r t below (sound-at read e) (rw (at, h) refl))
+    outside-turn read e h = subst (Reached zone all any range) (omega arith) (pass-none zone all any range i r t in-all (sound-at read e) (rw (at, h) refl))
 
     pub missing-turn : (read : Reading) → decodedAt i ≡ Read read → insideb (nodeAt samples i) zone ≡ true → percentOf read ≡ Missing
         → Reached zone all any range (i + 1)
     missing-turn read e h m =
         subst (Reached zone all any range) (omega arith)
-        (pass-none zone all any range i r t below (sound-at read e) (gives [] h (ap percentIn e ∙ ap valuesOf m)))
+        (pass-none zone all any range i r t in-all (sound-at read e) (gives [] h (ap percentIn e ∙ ap valuesOf m)))
 
     pub percent-turn : (read : Reading) (p : Float) → decodedAt i ≡ Read read → insideb (nodeAt samples i) zone ≡ true → percentOf read ≡ Of p
         → Reached zone all true (takenIn any range p) (i + 1)
     percent-turn read p e h m =
         subst (Reached zone all true (takenIn any range p)) (omega arith)
-        (pass-some zone all any range i r t below p (sound-at read e) (gives (p ∷ []) h (ap percentIn e ∙ ap valuesOf m)))
+        (pass-some zone all any range i r t in-all p (sound-at read e) (gives (p ∷ []) h (ap percentIn e ∙ ap valuesOf m)))
 
     pub faulty-turn : decodedAt i ≡ Faulty → Refused (verdict READING ANCESTORS i) ≡ passed zone all
-    faulty-turn e = pass-stop zone all any range i r t below (ap faultyb at ∙ ap faultIn e)
+    faulty-turn e = pass-stop zone all any range i r t in-all (ap faultyb at ∙ ap faultIn e)

@@ -18,13 +18,13 @@ use Rattle.laws.proofs.Parts.{Part, kept-part, part-mapped}
 use Rattle.laws.proofs.Tests.{either, never, not-none}
 use Rattle.nodes.specs.declared.node.Node.{Node}
 use Rattle.nodes.specs.Node.{insideb}
-use Rattle.nodes.specs.Words.{nodes, nodeAt, count, wordsOf}
+use Rattle.nodes.specs.Words.{NODE-WORDS, nodes, nodeAt, count, wordsOf}
 use Rattle.nodes.proofs.WordLaws.{length-nodes}
 use Rattle.lists.proofs.Leaving.{part-two-taken}
 use Rattle.lists.proofs.Pairing.{two-taken-iff}
 use Rattle.lists.proofs.Taken.{words-taken-iff}
 use Rattle.readings.specs.Reading.{MISSING, decode}
-use Rattle.readings.specs.Sample.{Sample, sampled, samplesIn, pairedb, faultIn, faultyb, percentIn, inZone, present}
+use Rattle.readings.specs.Sample.{Sample, READING-WORDS, sampled, samplesIn, pairedb, faultIn, faultyb, percentIn, inZone, present}
 use Rattle.readings.proofs.SampleLaws.{sampled-nodes}
 use Rattle.ranges.specs.Demanded.{AcceptedRange, notMissing, sampleWords, readingWords, GivesNone}
 use Rattle.ranges.specs.Range.{zoneRange, rangeOf}
@@ -41,13 +41,13 @@ unfolding sampleWords nodes wordsIn flatMap wordsOf
 nodes-return [] = refl
 nodes-return (s ∷ ss) = ap (λ ns. s .node ∷ ns) (nodes-return ss)
 
-samples-length : (ss : List Sample) → length (sampleWords ss) ≡ 4 * length ss
+samples-length : (ss : List Sample) → length (sampleWords ss) ≡ NODE-WORDS * length ss
 unfolding sampleWords wordsOf
-samples-length ss = length-items (λ s. wordsOf (s .node)) 4 (λ s. refl) ss
+samples-length ss = length-items (λ s. wordsOf (s .node)) NODE-WORDS (λ s. refl) ss
 
-readings-length : (ss : List Sample) → length (readingWords ss) ≡ 2 * length ss
+readings-length : (ss : List Sample) → length (readingWords ss) ≡ READING-WORDS * length ss
 unfolding readingWords
-readings-length ss = length-items (λ s. s .kind ∷ s .bits ∷ []) 2 (λ s. refl) ss
+readings-length ss = length-items (λ s. s .kind ∷ s .bits ∷ []) READING-WORDS (λ s. refl) ss
 
 written-paired : (ss : List Sample) → pairedb (sampleWords ss) (readingWords ss) ≡ true
 unfolding pairedb
@@ -57,7 +57,7 @@ written-paired ss =
 paired-nodes : (samples readings : List ℕ) → pairedb samples readings ≡ true → map (λ s. s .node) (samplesIn samples readings) ≡ nodes samples
 unfolding pairedb
 paired-nodes samples readings h =
-    let e : length readings ≡ 2 * count samples = eqb-true _ _ h in
+    let e : length readings ≡ READING-WORDS * count samples = eqb-true _ _ h in
     sampled-nodes (nodes samples) readings (omega (arith, length-nodes samples))
 
 -- What is left out gives nothing inside the zone.

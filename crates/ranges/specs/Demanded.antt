@@ -5,7 +5,7 @@ use mathlib.Core.Path.{_≡_}
 use mathlib.Core.Bool.{Bool, true, false, not}
 use mathlib.Core.List.{List, [], _∷_, _++_}
 use lib.Dec.{eqb}
-use lib.Ieee.{Float, lt, eq}
+use lib.Ieee.{Float, eq}
 use lib.ListN.{length}
 use Rattle.answers.specs.Output.{wordsIn}
 use Rattle.laws.specs.Choose.{All, In, keep}
@@ -46,13 +46,6 @@ Gives s p = percentIn (readingOf s) ≡ p ∷ []
 -- The sample has no present reading.
 abbrev pub GivesNone : Sample → Type 0
 GivesNone s = percentIn (readingOf s) ≡ []
-
--- q lies below p, or above it.
-abbrev pub below : Float → Float → Bool
-below q p = lt q p
-
-abbrev pub above : Float → Float → Bool
-above q p = lt p q
 
 -- A sample inside the zone gives p. No sample inside the zone gives what lies beyond p, and none
 -- before that sample gives what equals p. `beyond` is `below` for the low and `above` for the high.

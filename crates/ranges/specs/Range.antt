@@ -14,17 +14,24 @@ use Rattle.readings.specs.Sample.{samplesIn, pairedb, faultyb, inZone, present}
 use Rattle.ranges.specs.declared.range.ZoneRange.{ZoneRange}
 use Rattle.ranges.specs.declared.range.ZoneRange.the-variants.{Found, NoReading, Refused}
 
--- The first value that no value beats.
+-- q lies below p, or above it.
+abbrev pub below : Float → Float → Bool
+below q p = lt q p
+
+abbrev pub above : Float → Float → Bool
+above q p = lt p q
+
+-- The first value that no value beats; `nan` stands for none.
 unfoldable pub unbeaten : (Float → Float → Bool) → List Float → Float
 unbeaten beats ps = getD ps (firstAt (λ p. not (any (λ q. beats q p) ps)) ps) nan
 
 -- The low: the first value that none is below.
 unfoldable pub lowOf : List Float → Float
-lowOf ps = unbeaten (λ q p. lt q p) ps
+lowOf ps = unbeaten below ps
 
 -- The high: the first value that none is above.
 unfoldable pub highOf : List Float → Float
-highOf ps = unbeaten (λ q p. lt p q) ps
+highOf ps = unbeaten above ps
 
 -- The low and the high of some percentages; where there are none, no reading is present.
 unfoldable pub rangeOf : List Float → ZoneRange

@@ -1,7 +1,7 @@
 -- Why it holds: Each test of `decode` asks for a kind and for what belongs to it. So what passes
 -- none of them has another kind, or the kind and not what belongs to it.
 -- What would break it: A fault that is taken, or a reading that is refused, would be caught here.
-use mathlib.Core.Path.{_≡_, refl, subst, sym}
+use mathlib.Core.Path.{_≡_, refl}
 use mathlib.Core.Logic.{_↔_, inl, inr}
 use mathlib.Core.Bool.{true, false, not, _&&_}
 use Prim.Native.Nat.{ℕ}
@@ -9,7 +9,7 @@ use lib.Dec.{eqb}
 use lib.Ieee.{Float, binary32, ofBits, lt}
 use lib.Ieee.Scale.{finite}
 use borrow.Author.Tests.{eq-eqb, ne-eqb, eqb-true, eqb-false}
-use Rattle.laws.proofs.Tests.{either, never, and-left, and-right, not-so}
+use Rattle.laws.proofs.Tests.{either, never, and-right, not-so}
 use Rattle.readings.specs.Reading.{MISSING, PERCENT, GRAMS, MOST-PERCENT, MOST-GRAMS, float, withinb, decode}
 use Rattle.readings.specs.Refusal.{OutOf, Unread, another-kind, missing-with-bits, percent-out, grams-out}
 use Rattle.readings.specs.Sample.{faultIn}

@@ -3,7 +3,7 @@
 -- What would break it: A zone without a reading shown as present, or a refusal shown as taken,
 -- would be caught at its return.
 use borrow.Author.Needs.{needs}
-use mathlib.Core.Path.{_≡_, sym, ap, _∙_}
+use mathlib.Core.Path.{sym, ap, _∙_}
 use Rattle.answers.specs.declared.verdict.Verdict.{Verdict}
 use Rattle.ranges.specs.declared.range.Range.{Range}
 use Rattle.belfrychest.specs.declared.range.BelfryRange.{BelfryRange}

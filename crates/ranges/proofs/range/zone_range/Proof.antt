@@ -10,18 +10,17 @@ use denote.Ref.{now}
 use native.Mathlib.Omega.{arith}
 use mathlib.Core.Path.{_≡_, refl, sym, ap, _∙_, subst}
 use mathlib.Core.Logic.{inl, inr}
-use mathlib.Core.Bool.{Bool, true, false, cond}
+use mathlib.Core.Bool.{true, false}
 use mathlib.Core.List.{List, [], _∷_}
 use Prim.Native.Nat.{ℕ, _*_, _≤_, _<_}
-use lib.Dec.{leb}
 use lib.ListN.{length}
-use borrow.Author.Tests.{eq-eqb, ne-eqb, le-leb, lt-leb}
+use borrow.Author.Tests.{eq-eqb, ne-eqb}
 use Rattle.laws.specs.Choose.{any, firstAt}
+use Rattle.laws.proofs.Choices.{any-none}
 use Rattle.laws.proofs.Tests.{either, not-so}
 use Rattle.answers.specs.Answer.{TAKEN, RAGGED, READING, ABSENT}
 use Rattle.answers.specs.declared.verdict.Verdict.{Verdict}
 use Rattle.answers.specs.Verdict.{ANCESTORS, verdict}
-use Rattle.answers.proofs.VerdictLaws.{refuses, accepts}
 use Rattle.nodes.specs.declared.node.Node.{Node}
 use Rattle.nodes.specs.Words.{nodeAt, count, MOST-NODES}
 use Rattle.lists.specs.Two.{checkTwo}
@@ -32,7 +31,9 @@ use Rattle.ranges.specs.declared.range.ZoneRange.{ZoneRange}
 use Rattle.ranges.specs.declared.range.ZoneRange.the-variants.{Refused}
 use Rattle.ranges.specs.Private.Passing.{passed}
 use Rattle.ranges.specs.Range.{rangeOf, zoneRange}
+use Rattle.ranges.proofs.Answered.{passed-answer, lists-told, ragged-iff, reading-iff, absent-iff}
 use Rattle.ranges.proofs.Cases.{never-refused}
+use Rattle.ranges.proofs.Faults.{first-faulty}
 use Rattle.ranges.proofs.range.ZoneRange.{the-type}
 use Rattle.ranges.proofs.range.zone_range.Statement.{statement}
 use Rattle.ranges.proofs.range.zone_range.Tie as tie
@@ -62,42 +63,36 @@ module _ (zones samples readings : List ℕ) (zone : ℕ) where
 
   -- Each return, from the checks passed and the one that failed.
   at-lists : (checkTwo zones samples .answer ≡ TAKEN → ⊥) → Refused (checkTwo zones samples) ≡ answer
-  unfolding zoneRange
-  at-lists h = rw (refuses (checkTwo zones samples) h) refl
+  at-lists h = sym (lists-told zones samples readings zone h)
 
   module _ (lists : checkTwo zones samples .answer ≡ TAKEN) where
     at-pairing : (length readings ≡ READING-WORDS * count samples → ⊥) → Refused (verdict RAGGED ANCESTORS 0) ≡ answer
-    unfolding zoneRange pairedb
-    at-pairing h = rw (accepts (checkTwo zones samples) lists, ne-eqb _ _ h) refl
+    unfolding pairedb
+    at-pairing h = sym (ragged-iff zones samples readings zone lists .1 (ne-eqb _ _ h))
 
-    module _ (paired : length readings ≡ READING-WORDS * count samples) where
-      abbrev rest : Bool → Bool → ZoneRange
-      rest faulty absent =
-          cond faulty (Refused (verdict READING ANCESTORS (firstAt faultyb ss)))
-          (cond absent (Refused (verdict ABSENT ANCESTORS 0)) (rangeOf (present (inZone (nodeAt zones zone) ss))))
-
-      after-pairing : answer ≡ rest (any faultyb ss) (leb (count zones) zone)
-      unfolding zoneRange pairedb
-      after-pairing = rw (accepts (checkTwo zones samples) lists, eq-eqb _ _ paired) refl
+    module _ (equal : length readings ≡ READING-WORDS * count samples) where
+      paired : pairedb samples readings ≡ true
+      unfolding pairedb
+      paired = eq-eqb _ _ equal
 
       at-reading : (r : ZoneRange) (v : Verdict) → r ≡ passed (nodeAt zones zone) ss → r ≡ Refused v → r ≡ answer
       at-reading r v e q =
           elim (either (any faultyb ss)) [
-            | inl t ↦ e ∙ passed-faulty (nodeAt zones zone) ss t ∙ sym (after-pairing ∙ ap (λ b. rest b (leb (count zones) zone)) t)
+            | inl t ↦ e ∙ passed-faulty (nodeAt zones zone) ss t ∙ sym (reading-iff zones samples readings zone (firstAt faultyb ss) .1 (lists, paired, first-faulty ss t))
             | inr f ↦ absurd (never-refused _ (sym (e ∙ passed-sound (nodeAt zones zone) ss f) ∙ q))
           ]
 
       -- A pass that isn't refused has found no faulty reading.
       module _ (r : ZoneRange) (e : r ≡ passed (nodeAt zones zone) ss) (k : OneOf (0 ∷ 1 ∷ []) (tagOf the-type r)) where
-        sound : any faultyb ss ≡ false
-        sound = not-so (λ t. no-refusal r _ k (e ∙ passed-faulty (nodeAt zones zone) ss t))
+        none : any faultyb ss ≡ false
+        none = not-so (λ t. no-refusal r _ k (e ∙ passed-faulty (nodeAt zones zone) ss t))
 
         at-zone : count zones ≤ zone → Refused (verdict ABSENT ANCESTORS 0) ≡ answer
-        at-zone h = sym (after-pairing ∙ ap (λ b. rest b (leb (count zones) zone)) sound ∙ ap (rest false) (le-leb _ _ h))
+        at-zone h = sym (absent-iff zones samples readings zone .1 (lists, paired, any-none faultyb ss none, h))
 
         at-end : zone < count zones → r ≡ answer
         at-end h =
-            e ∙ passed-sound (nodeAt zones zone) ss sound ∙ sym (after-pairing ∙ ap (λ b. rest b (leb (count zones) zone)) sound ∙ ap (rest false) (lt-leb _ _ h))
+            e ∙ passed-sound (nodeAt zones zone) ss none ∙ sym (passed-answer zones samples readings zone (lists, paired, any-none faultyb ss none, h))
 
 check-two-requires : tie.Need-check-two-requires
 check-two-requires c κs = search needs

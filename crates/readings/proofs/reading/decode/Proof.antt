@@ -1,8 +1,8 @@
 -- Function: `decode` (src/reading.rt).
 -- Why it holds: Each test is one of the definition's, and the tests come in its order. Bits that
 -- are within bounds are no NaN's, so a float can be made of them.
--- What would break it: Another kind taken for a reading, or a bound left out, would be caught at
--- the return that comes too early. A missing reading with bits would be caught at the first.
+-- What would break it: Another kind taken for a reading, or a bound left out, would be caught where
+-- the code has gone past that test. So would a missing reading with bits.
 use borrow.Author.Needs.{needs}
 use mathlib.Core.Path.{_≡_, refl, sym, ap, _∙_}
 use mathlib.Core.Logic.{inl, inr}
