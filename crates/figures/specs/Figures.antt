@@ -1,6 +1,6 @@
 -- docs/SCOPE.md, "Figures to hold against it": the cases marked [P] and some of our own, as rows of
 -- one table. Each row has its number above it.
-use Prim.Native.Nat.{ℕ, _*_}
+use Prim.Native.Nat.{ℕ, _+_, _*_}
 use mathlib.Core.Bool.{Bool, true, false, cond, _&&_}
 use mathlib.Core.List.{List, [], _∷_, _++_, map, flatMap}
 use lib.Dec.{eqb}
@@ -126,6 +126,27 @@ Z = (2, 10, 2) ∷ (3, 7, 3) ∷ []
 abbrev pub S : Nodes
 S = (4, 6, 4) ∷ (8, 9, 3) ∷ []
 
+-- Nodes as Li and Moon number them, each given as (order, size, level): the order is the start, and
+-- order and size together are the end.
+abbrev pub sized : Nodes → Nodes
+sized [] = []
+sized (n ∷ ns) = (n .0, n .0 + n .1, n .2) ∷ sized ns
+
+-- The ranges and the points of the scope's "Order and size".
+abbrev pub ranges : Nodes
+ranges = sized ((1, 8, 1) ∷ (4, 2, 2) ∷ (7, 2, 2) ∷ [])
+
+abbrev pub points : Nodes
+points = sized ((2, 0, 2) ∷ (5, 0, 3) ∷ (8, 0, 3) ∷ [])
+
+-- The scope's E, of whose zones three end at 6, and T, of whose samples one starts there and one
+-- where the outermost zone ends.
+abbrev pub E : Nodes
+E = (1, 9, 1) ∷ (2, 6, 2) ∷ (4, 6, 3) ∷ (5, 6, 4) ∷ []
+
+abbrev pub T : Nodes
+T = (3, 3, 3) ∷ (6, 6, 5) ∷ (9, 9, 2) ∷ []
+
 -- What numbering marks of document 5 shows, with an output of `room` rows: the answer, the number
 -- of rows, and the output.
 abbrev pub numbered : List ℕ → ℕ → List ℕ
@@ -226,6 +247,10 @@ range zones samples readings zone stated =
 abbrev pub R : List ℕ
 R = PERCENT ∷ 1083179008 ∷ GRAMS ∷ 1108869120 ∷ []
 
+-- Readings of T: 10, 20 and 30 percent.
+abbrev pub tenToThirty : List ℕ
+tenToThirty = PERCENT ∷ 1092616192 ∷ PERCENT ∷ 1101004800 ∷ PERCENT ∷ 1106247680 ∷ []
+
 -- Readings of S, of which the second is of kind 3, which isn't there.
 abbrev pub secondFaulty : List ℕ
 secondFaulty = PERCENT ∷ 1083179008 ∷ 3 ∷ 0 ∷ []
@@ -238,9 +263,9 @@ figures =
     one ((1, 5, 1) ∷ (5, 7, 2) ∷ []) CROSS 1
     -- 2: zones side by side are taken.
     ∷ one ((1, 5, 1) ∷ (6, 7, 1) ∷ []) TAKEN 0
-    -- 3: equal ends cross.
-    ∷ one ((1, 9, 1) ∷ (7, 9, 2) ∷ []) CROSS 1
-    -- 4: a zone inside another is taken.
+    -- 3: a zone that ends where the zone around it ends is taken.
+    ∷ one ((1, 9, 1) ∷ (7, 9, 2) ∷ []) TAKEN 0
+    -- 4: a zone that ends before the zone around it ends is taken.
     ∷ one ((1, 9, 1) ∷ (7, 8, 2) ∷ []) TAKEN 0
     -- 5: an inner level that is no deeper.
     ∷ one ((1, 9, 3) ∷ (2, 3, 3) ∷ []) DEPTH 1
@@ -373,6 +398,39 @@ figures =
     ∷ range [] S R 0 (refusal ABSENT 0)
     -- 68: JOINT comes before RAGGED.
     ∷ range ((1, 9, 1) ∷ []) ((4, 12, 2) ∷ []) [] 0 (refusal JOINT 0)
+    -- 69: ranges and points by order and size, descendant order.
+    ∷ page Inside Descendant (5 ∷ []) ranges points (done ((1, 2) ∷ (1, 5) ∷ (4, 5) ∷ (1, 8) ∷ (7, 8) ∷ []))
+    -- 70: the same in ancestor order.
+    ∷ page Inside Ancestor (5 ∷ []) ranges points (done ((1, 2) ∷ (1, 5) ∷ (1, 8) ∷ (4, 5) ∷ (7, 8) ∷ []))
+    -- 71: three zones that end at one position, and a sample there: inside, descendant order.
+    ∷ page Inside Descendant (7 ∷ []) E T (done ((1, 3) ∷ (2, 3) ∷ (1, 6) ∷ (2, 6) ∷ (4, 6) ∷ (5, 6) ∷ (1, 9) ∷ []))
+    -- 72: inside, ancestor order.
+    ∷ page Inside Ancestor (7 ∷ []) E T (done ((1, 3) ∷ (1, 6) ∷ (1, 9) ∷ (2, 3) ∷ (2, 6) ∷ (4, 6) ∷ (5, 6) ∷ []))
+    -- 73: directly inside, descendant order.
+    ∷ page Directly Descendant (3 ∷ []) E T (done ((2, 3) ∷ (5, 6) ∷ (1, 9) ∷ []))
+    -- 74: directly inside, ancestor order.
+    ∷ page Directly Ancestor (3 ∷ []) E T (done ((1, 9) ∷ (2, 3) ∷ (5, 6) ∷ []))
+    -- 75: a page that stops between two of these zones, descendant order.
+    ∷ page Inside Descendant (4 ∷ 4 ∷ []) E T (notDone ((1, 3) ∷ (2, 3) ∷ (1, 6) ∷ (2, 6) ∷ []) ++ done ((4, 6) ∷ (5, 6) ∷ (1, 9) ∷ []))
+    -- 76: the same in ancestor order.
+    ∷ page Inside Ancestor (5 ∷ 5 ∷ []) E T (notDone ((1, 3) ∷ (1, 6) ∷ (1, 9) ∷ (2, 3) ∷ (2, 6) ∷ []) ++ done ((4, 6) ∷ (5, 6) ∷ []))
+    -- 77: as in row 75, with the zone at which the page stopped removed before the next page.
+    ∷ calls Inside Descendant (call 4 E T ∷ call 4 ((1, 9, 1) ∷ (4, 6, 3) ∷ (5, 6, 4) ∷ []) T ∷ [])
+    (notDone ((1, 3) ∷ (2, 3) ∷ (1, 6) ∷ (2, 6) ∷ []) ++ done ((4, 6) ∷ (5, 6) ∷ (1, 9) ∷ []))
+    -- 78: the links of E. Of the zones that end at 6 the innermost one around a zone is its parent.
+    ∷ links E (NONE ∷ 1 ∷ NONE ∷ 0 ∷ 2 ∷ NONE ∷ 1 ∷ 3 ∷ NONE ∷ 2 ∷ NONE ∷ NONE ∷ [])
+    -- 79: the outermost zone of E holds all samples, also the one at its end: 10 to 30 percent.
+    ∷ range E T tenToThirty 0 (fromTo 1092616192 1106247680)
+    -- 80: the innermost zone holds the sample at its end alone: 20 percent.
+    ∷ range E T tenToThirty 3 (fromTo 1101004800 1101004800)
+    -- 81: nodes of two lists that end at one position, the inner one at a higher level.
+    ∷ two ((1, 9, 1) ∷ []) ((4, 9, 2) ∷ []) TAKEN
+    -- 82: the same at equal levels.
+    ∷ two ((1, 9, 1) ∷ []) ((4, 9, 1) ∷ []) JOINT
+    -- 83: nodes of two lists that have start and end in common, and not the level.
+    ∷ two ((1, 9, 1) ∷ []) ((1, 9, 2) ∷ []) JOINT
+    -- 84: an inner zone with the same end and no deeper level.
+    ∷ one ((1, 9, 2) ∷ (7, 9, 2) ∷ []) DEPTH 1
     ∷ []
 
 -- The two lists of numbers are equal.

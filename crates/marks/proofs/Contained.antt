@@ -8,6 +8,7 @@ use mathlib.Core.Logic.{_↔_, _⊎_, inl, inr, ⊎-elim}
 use mathlib.Core.Bool.{true}
 use mathlib.Core.List.{List, [], _∷_, List·Memᴰ·head, List·Memᴰ·tail, List·Memᴰ·cases-cons, List·Memᴰ·not-nil}
 use Prim.Native.Nat.{ℕ, _+_, _-_, _≤_, _<_}
+use native.Mathlib.Nat.{le-of-lt}
 use native.Mathlib.Omega.{arith}
 use lib.Dec.{leb, eqb}
 use borrow.Author.Tests.{leb-true, leb-false, eqb-true, eqb-false}
@@ -68,7 +69,7 @@ module _ (level depth position mark : ℕ) (marks : List ℕ) (y : Row) where
 -- An element that is still open at a later row contains it.
 opened-contains : (x y : Row) → Settled x y → y .node .start < x .node .end → insideb (y .node) (x .node) ≡ true
 opened-contains x y s l =
-    ⊎-elim (λ p. absurd (omega arith)) (λ p. inside-make (y .node) (x .node) (s .document) (s .start) (p .0)) (s .ends)
+    ⊎-elim (λ p. absurd (omega arith)) (λ p. inside-make (y .node) (x .node) (s .document) (s .start) (le-of-lt (p .0))) (s .ends)
 
 -- Around a row stands an element of each level above its own: one of the rows, or one that was open
 -- before them and is still open at the row.
@@ -190,7 +191,7 @@ module _ (document : ℕ) (marks : List ℕ) (taken : checkMarks marks ≡ TAKEN
       elim (settled x z x-in z-in) [
         | inl e ↦ absurd (omega (arith, ap (λ r. r .node .level) e))
         | inr s ↦ elim s [
-          | inl s ↦ ⊎-elim (λ p. absurd (omega arith)) (λ p. inside-make (z .node) (x .node) (s .document) (s .start) (p .0)) (s .ends)
+          | inl s ↦ ⊎-elim (λ p. absurd (omega arith)) (λ p. inside-make (z .node) (x .node) (s .document) (s .start) (le-of-lt (p .0))) (s .ends)
           | inr s ↦ ⊎-elim (λ p. absurd (omega arith)) (λ p. absurd (omega arith)) (s .ends)
         ]
       ]

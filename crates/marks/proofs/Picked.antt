@@ -7,6 +7,7 @@ use mathlib.Core.Logic.{_⊎_, inl, inr, ⊎-elim}
 use mathlib.Core.Bool.{false}
 use mathlib.Core.List.{List, [], _∷_, map}
 use Prim.Native.Nat.{ℕ}
+use native.Mathlib.Nat.{le-of-lt}
 use native.Mathlib.Omega.{arith}
 use lib.Dec.{eqb}
 use lib.ListN.{length}
@@ -57,7 +58,7 @@ settled-fine : (x y : Row) → Settled x y → Fine (x .node) (y .node)
 settled-fine x y s = record {
   after = after-start (y .node) (x .node) (s .document) (s .start);
   agree = λ d. ⊎-elim (λ p. agree-apart (x .node) (y .node) (apart-ahead (x .node) (y .node) p))
-      (λ p. agree-nested (x .node) (y .node) (nested-make (y .node) (x .node) (inside-make (y .node) (x .node) (s .document) (s .start) (p .0)) (p .1)))
+      (λ p. agree-nested (x .node) (y .node) (nested-make (y .node) (x .node) (inside-make (y .node) (x .node) (s .document) (s .start) (le-of-lt (p .0))) (p .1)))
       (s .ends);
 }
 

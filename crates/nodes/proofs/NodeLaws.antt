@@ -15,14 +15,14 @@ use Rattle.nodes.specs.declared.node.Node.{Node}
 use Rattle.nodes.specs.Node.{endsb, insideb, deeperb, directlyb, apartb, afterb, openb, sameb}
 use Rattle.laws.proofs.Tests.{not-so, and-read, and-make, or-read, or-left, or-right, or-none}
 
--- A node that ends within another ends before it.
-ends-before : (y x : Node) → endsb y x ≡ true → y .end < x .end
+-- A node that ends within another ends no later.
+ends-read : (y x : Node) → endsb y x ≡ true → y .end ≤ x .end
 unfolding endsb
-ends-before y x h = ltb-true _ _ h
+ends-read y x h = leb-true _ _ h
 
 ends-trans : (z y x : Node) → endsb z y ≡ true → endsb y x ≡ true → endsb z x ≡ true
 unfolding endsb
-ends-trans z y x h k = let p = ends-before z y h in let q = ends-before y x k in lt-ltb (z .end) (x .end) (omega arith)
+ends-trans z y x h k = let p = ends-read z y h in let q = ends-read y x k in le-leb (z .end) (x .end) (omega arith)
 
 -- What every layer above may use of a node inside another.
 pub record Within (y x : Node) : Type 0 where
@@ -39,18 +39,17 @@ unfolding insideb
 within y x h =
     let p = and-read (eqb (y .document) (x .document)) h in
     let q = and-read (ltb (x .start) (y .start)) (p .1) in
-    let e = ends-before y x (q .1) in
-    record { document = eqb-true _ _ (p .0); start = ltb-true _ _ (q .0); end = omega arith }
+    record { document = eqb-true _ _ (p .0); start = ltb-true _ _ (q .0); end = ends-read y x (q .1) }
 
 -- Of a later node of x's document only the end is left to compare.
 pub inside-by-end : (y x : Node) → y .document ≡ x .document → x .start < y .start → endsb y x ≡ insideb y x
 unfolding insideb
 inside-by-end y x d s = rw (eq-eqb _ _ d, lt-ltb _ _ s)
 
--- A node that starts later in x's document and ends earlier is inside x.
-pub inside-make : (y x : Node) → y .document ≡ x .document → x .start < y .start → y .end < x .end → insideb y x ≡ true
+-- A node that starts later in x's document and ends no later is inside x.
+pub inside-make : (y x : Node) → y .document ≡ x .document → x .start < y .start → y .end ≤ x .end → insideb y x ≡ true
 unfolding endsb
-inside-make y x d s e = sym (inside-by-end y x d s) ∙ lt-ltb (y .end) (x .end) e
+inside-make y x d s e = sym (inside-by-end y x d s) ∙ le-leb (y .end) (x .end) e
 
 pub inside-trans : (z y x : Node) → insideb z y ≡ true → insideb y x ≡ true → insideb z x ≡ true
 inside-trans z y x h k =

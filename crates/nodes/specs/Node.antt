@@ -8,11 +8,11 @@ use Rattle.nodes.specs.declared.node.Node.{Node}
 abbrev pub MOST-LEVELS : ℕ
 MOST-LEVELS = 64
 
--- y ends within x: before x does.
+-- y ends within x: no later than x does.
 unfoldable pub endsb : Node → Node → Bool
-endsb y x = ltb (y .end) (x .end)
+endsb y x = leb (y .end) (x .end)
 
--- y is inside x: in the same document, y starts after x starts and ends before x ends.
+-- y is inside x: in the same document, y starts after x starts and ends no later than x ends.
 unfoldable pub insideb : Node → Node → Bool
 insideb y x = eqb (y .document) (x .document) && (ltb (x .start) (y .start) && endsb y x)
 

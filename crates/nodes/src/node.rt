@@ -25,10 +25,11 @@ pub struct Node {
 pub fn ends_within(y: Node, x: Node) -> bool
     ensures { λ r. ⌜ r ≡ endsb y x ⌝ }
 {
-    y.end < x.end
+    y.end <= x.end
 }
 
-// Returns whether `y` is inside `x`: of its document, starting after it and ending before it.
+// Returns whether `y` is inside `x`: of its document, starting after `x` starts and ending no later
+// than `x` ends.
 pub fn is_inside(y: Node, x: Node) -> bool
     ensures { λ r. ⌜ r ≡ insideb y x ⌝ }
 {
