@@ -17,14 +17,14 @@ use Rattle.answers.specs.Answer.{TAKEN}
 use Rattle.laws.specs.Choose.{keep}
 use Rattle.nodes.specs.Node.{insideb}
 use Rattle.nodes.specs.Words.{nodes}
-use Rattle.laws.proofs.Choices.{all-of}
+use Rattle.laws.proofs.Choices.{all-of, keep-alike}
 use Rattle.laws.proofs.Tests.{either, never, not-so, same-test}
 use Rattle.lists.specs.Check.{checkWords}
 use Rattle.forest.specs.Follow.{followed}
 use Rattle.forest.specs.Links.{NONE, nodeIn, indices, parentOf, childOf, nextOf, siblingb}
 use Rattle.forest.proofs.FirstAndLast.{first-of, none-found}
 use Rattle.forest.proofs.Containing.{AcceptedList, accepted-list, contains-before, contains-between}
-use Rattle.forest.proofs.Following.{first-alike, keep-alike, follow-from}
+use Rattle.forest.proofs.Following.{first-alike, follow-from}
 use Rattle.forest.proofs.Parents.{parent-last, parent-before, one-document, sibling-read, sibling-make}
 
 from-zero : (m : ℕ) (b : Bool) → b ≡ (leb 0 m && b)

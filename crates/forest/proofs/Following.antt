@@ -13,23 +13,17 @@ use lib.ListN.{length}
 use borrow.Author.Tests.{leb-true, ltb-true, lt-ltb, le-ltb, le-leb, lt-leb, eq-eqb, ne-eqb}
 use Rattle.nodes.specs.declared.node.Node.{Node}
 use Rattle.laws.specs.Choose.{All, keep}
-use Rattle.laws.proofs.Choices.{keep-append, keep-none}
+use Rattle.laws.proofs.Choices.{keep-append, keep-alike, keep-none}
 use Rattle.laws.proofs.Tests.{either, and-read}
 use Rattle.forest.specs.Follow.{followed}
 use Rattle.forest.specs.Links.{NONE, upTo, firstOf, indices, nextOf, siblingb}
 use Rattle.forest.proofs.FirstAndLast.{First, none-or-not, last-or-below, all-up, first-of, none-found}
 
--- Tests that agree on the numbers find and keep the same.
-module _ (f g : ℕ → Bool) where
-  pub first-alike : (xs : List ℕ) → All (λ x. f x ≡ g x) xs → firstOf f xs ≡ firstOf g xs
-  unfolding firstOf
-  first-alike [] h = refl
-  first-alike (x ∷ xs) h = rw (h .0, first-alike xs (h .1))
-
-  pub keep-alike : (xs : List ℕ) → All (λ x. f x ≡ g x) xs → keep f xs ≡ keep g xs
-  unfolding keep
-  keep-alike [] h = refl
-  keep-alike (x ∷ xs) h = rw (h .0, keep-alike xs (h .1))
+-- Tests that agree on the numbers find the same.
+pub first-alike : (f g : ℕ → Bool) (xs : List ℕ) → All (λ x. f x ≡ g x) xs → firstOf f xs ≡ firstOf g xs
+unfolding firstOf
+first-alike f g [] h = refl
+first-alike f g (x ∷ xs) h = rw (h .0, first-alike f g xs (h .1))
 
 -- What is kept is the first that passes, and what is kept after it.
 keep-first : (test : ℕ → Bool) (n r : ℕ) → First test n r → (r ≡ NONE → ⊥)

@@ -56,6 +56,17 @@ module _ {A : Type 0} where
   pub any-same : (test : A → Bool) (xs ys : List A) → keep test xs ≡ keep test ys → any test xs ≡ any test ys
   any-same test xs ys h = any-kept test xs ∙ ap some h ∙ sym (any-kept test ys)
 
+  -- Tests that agree on all elements give `any` the same answer and keep the same elements.
+  pub any-alike : (f g : A → Bool) (xs : List A) → All (λ x. f x ≡ g x) xs → any f xs ≡ any g xs
+  unfolding any
+  any-alike f g [] h = refl
+  any-alike f g (x ∷ xs) h = rw (h .0, any-alike f g xs (h .1))
+
+  pub keep-alike : (f g : A → Bool) (xs : List A) → All (λ x. f x ≡ g x) xs → keep f xs ≡ keep g xs
+  unfolding keep
+  keep-alike f g [] h = refl
+  keep-alike f g (x ∷ xs) h = rw (h .0, keep-alike f g xs (h .1))
+
   pub keep-failed : (test : A → Bool) (x : A) (xs : List A) → test x ≡ false → keep test (x ∷ xs) ≡ keep test xs
   unfolding keep
   keep-failed test x xs h = rw h
@@ -239,10 +250,20 @@ module _ {A B : Type 0} (f : A → B) where
   map-take (suc k) [] = refl
   map-take (suc k) (x ∷ xs) = ap (λ ys. f x ∷ ys) (map-take k xs)
 
-  -- What holds of `f x` for each element x holds of all elements of the mapped list.
+  -- A function that agrees with `f` on all elements maps the list alike.
+  pub map-alike : (g : A → B) (xs : List A) → All (λ x. f x ≡ g x) xs → map f xs ≡ map g xs
+  map-alike g [] h = refl
+  map-alike g (x ∷ xs) h = rw (h .0, map-alike g xs (h .1))
+
+  -- What holds of `f x` for each element x holds of all elements of the mapped list. It is the same
+  -- with every two.
   pub all-mapped : (P : B → Type 0) (xs : List A) → All (λ x. P (f x)) xs → All P (map f xs)
   all-mapped P [] h = tt
   all-mapped P (x ∷ xs) h = (h .0, all-mapped P xs (h .1))
+
+  pub every-two-mapped : (R : B → B → Type 0) (xs : List A) → EveryTwo (λ x y. R (f x) (f y)) xs → EveryTwo R (map f xs)
+  every-two-mapped R [] h = tt
+  every-two-mapped R (x ∷ xs) h = (all-mapped (R (f x)) xs (h .0), every-two-mapped R xs (h .1))
 
   -- The element at an index of the mapped list is `f` of the element there.
   pub map-there : (xs : List A) (i : ℕ) → i < length xs → (d : A) (e : B) → getD (map f xs) i e ≡ f (getD xs i d)

@@ -5,16 +5,12 @@
 use mathlib.Core.Path.{refl, sym, subst}
 use mathlib.Core.Logic.{inl, inr}
 use mathlib.Core.Bool.{Bool}
-use mathlib.Core.List.{List, [], _∷_, map, Sublistᴰ, Sublistᴰ·slnil, Sublistᴰ·cons, Sublistᴰ·cons-cons}
+use mathlib.Core.List.{List, [], _∷_, map, Sublistᴰ·slnil, Sublistᴰ·cons, Sublistᴰ·cons-cons}
 use Prim.Native.Nat.{_≤_}
 use native.Mathlib.Omega.{arith}
 use lib.ListN.{length}
-use Rattle.laws.specs.Choose.{All, EveryTwo, keep}
+use Rattle.laws.specs.Choose.{All, EveryTwo, Part, keep}
 use Rattle.laws.proofs.Tests.{either}
-
--- xs is ys with some elements left out.
-abbrev pub Part : {A : Type 0} → List A → List A → Type 0
-Part xs ys = Sublistᴰ xs ys
 
 module _ {A : Type 0} where
   -- What holds of all elements, or of each and every later one, holds of a part.

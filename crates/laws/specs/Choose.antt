@@ -2,7 +2,7 @@
 -- stands. Also what all elements of a list, or all pairs, have in common.
 use Prim.Native.Nat.{ℕ, zero, suc}
 use mathlib.Core.Bool.{Bool, false, cond, _||_}
-use mathlib.Core.List.{List, [], _∷_, List·Memᴰ}
+use mathlib.Core.List.{List, [], _∷_, List·Memᴰ, Sublistᴰ}
 
 -- Whether some element of the list passes the test.
 unfoldable pub any {ℓ} : {A : Type ℓ} → (A → Bool) → List A → Bool
@@ -30,6 +30,10 @@ All P (x ∷ xs) = P x × All P xs
 abbrev pub EveryTwo : {A : Type 0} → (A → A → Type 0) → List A → Type 0
 EveryTwo R [] = Unit {0}
 EveryTwo R (x ∷ xs) = All (R x) xs × EveryTwo R xs
+
+-- xs is ys with some elements left out, or with none left out.
+abbrev pub Part : {A : Type 0} → List A → List A → Type 0
+Part xs ys = Sublistᴰ xs ys
 
 -- x stands somewhere in the list.
 abbrev pub In : {A : Type 0} → A → List A → Type 0

@@ -8,14 +8,15 @@ use Prim.Native.Nat.{ℕ, _%_}
 use native.Mathlib.Omega.{arith}
 use lib.ListN.{length}
 use Rattle.answers.specs.Answer.{TAKEN}
-use Rattle.laws.specs.Choose.{All}
+use Rattle.laws.specs.Choose.{All, Part}
 use Rattle.laws.proofs.Choices.{all-map}
-use Rattle.laws.proofs.Parts.{Part, part-all, part-every-two, part-fewer}
+use Rattle.laws.proofs.Parts.{part-all, part-every-two, part-fewer}
 use Rattle.nodes.specs.Words.{NODE-WORDS, nodes}
 use Rattle.nodes.proofs.WordLaws.{length-nodes}
 use Rattle.lists.specs.Check.{checkWords}
 use Rattle.lists.specs.Two.{oddsb, checkTwo}
 use Rattle.lists.proofs.Faults.{Sound}
+use Rattle.lists.proofs.Merging.{self-even}
 use Rattle.lists.proofs.Pairing.{two-taken-iff}
 use Rattle.lists.proofs.Taken.{Fine, words-taken-iff}
 
@@ -42,3 +43,9 @@ part-two-taken as′ ds as″ ds″ w p v q h =
       part-all (λ x. All (λ y. oddsb x y ≡ false) (nodes ds″)) p
           (all-map (λ x k. part-all (λ y. oddsb x y ≡ false) q k) (nodes as′) (t .2)),
     )
+
+-- And so are any two parts of one accepted list.
+pub parts-two-taken : (ws as′ ds : List ℕ) → length as′ % NODE-WORDS ≡ 0 → Part (nodes as′) (nodes ws)
+    → length ds % NODE-WORDS ≡ 0 → Part (nodes ds) (nodes ws) → checkWords ws .answer ≡ TAKEN → checkTwo as′ ds .answer ≡ TAKEN
+parts-two-taken ws as′ ds w p v q h =
+    part-two-taken ws ws as′ ds w p v q (two-taken-iff ws ws .1 (h, h, self-even (nodes ws) (words-taken-iff ws .0 h .3)))

@@ -100,10 +100,10 @@ module _ (x y : Node) where
     agree = λ d. ⊎-elim (λ s. absurd (never (rw (same-read x y s) at h) (after-self y))) (λ a. a) (even-read o d);
   }
 
-pub even-self : (x : Node) → oddsb x x ≡ false
+even-self : (x : Node) → oddsb x x ≡ false
 even-self x = even-make x x (λ d. inl (same-self x))
 
-pub even-turned : (x y : Node) → oddsb x y ≡ false → oddsb y x ≡ false
+even-turned : (x y : Node) → oddsb x y ≡ false → oddsb y x ≡ false
 even-turned x y h =
     even-make y x (λ d. elim (even-read x y h (sym d)) [
       | inl s ↦ inl (rw (same-read x y s) (same-self y))
@@ -133,6 +133,11 @@ all-even e ns h = all-map (λ n f. fine-even e n f) ns h
 -- A node that is fine with the first list may be added to the second.
 even-more : (y : Node) (xs ys : List Node) → All (Fine y) xs → Even xs ys → Even xs (y ∷ ys)
 even-more y xs ys h k = all-both (λ x f r. (even-turned y x (fine-even y x f), r)) xs h k
+
+-- No two nodes of a list are at odds where each is fine with every later one.
+pub self-even : (ns : List Node) → EveryTwo Fine ns → Even ns ns
+self-even [] h = tt
+self-even (n ∷ ns) h = ((even-self n, all-even n ns (h .0)), even-more n ns ns (h .0) (self-even ns (h .1)))
 
 -- Both lists are parts of the merge, and a pair across is one of its pairs or one and the same
 -- node.

@@ -20,7 +20,7 @@ use Rattle.laws.specs.Choose.{All}
 use Rattle.lists.proofs.Merging.{joint-iff}
 
 -- The check of two lists goes on past a list that is taken.
-list-passes : (list : ℕ) (v w : Verdict) → (cond (refusedb v) (inList list v) w .answer ≡ TAKEN) ↔ ((v .answer ≡ TAKEN) × (w .answer ≡ TAKEN))
+pub list-passes : (list : ℕ) (v w : Verdict) → (cond (refusedb v) (inList list v) w .answer ≡ TAKEN) ↔ ((v .answer ≡ TAKEN) × (w .answer ≡ TAKEN))
 unfolding refusedb
 list-passes list v w = (
   λ h. elim (either (eqb (v .answer) TAKEN)) [ inl e ↦ (eqb-true _ _ e, rw e at h) | inr e ↦ absurd (eqb-false (v .answer) TAKEN e (rw e at h)) ],
@@ -28,7 +28,7 @@ list-passes list v w = (
 )
 
 -- And past JOINT where no pair is at odds.
-joint-passes : (b : Bool) → (cond b (verdict JOINT ANCESTORS 0) taken .answer ≡ TAKEN) ↔ (b ≡ false)
+pub joint-passes : (b : Bool) → (cond b (verdict JOINT ANCESTORS 0) taken .answer ≡ TAKEN) ↔ (b ≡ false)
 joint-passes true = (λ h. absurd (omega arith), λ h. absurd (never refl h))
 joint-passes false = (λ h. refl, λ h. refl)
 

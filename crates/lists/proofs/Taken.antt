@@ -2,7 +2,7 @@
 -- ascending list each fault is a fault of one node or of one pair.
 -- What would break it: A check that looked at fewer pairs than all, or took a pair that crosses,
 -- would be caught here.
-use mathlib.Core.Path.{_≡_, refl, sym}
+use mathlib.Core.Path.{_≡_, refl, sym, subst}
 use mathlib.Core.Logic.{_↔_, _⊎_, inl, inr, ⊎-elim}
 use mathlib.Core.Bool.{true, false, cond}
 use mathlib.Core.List.{List, [], _∷_}
@@ -14,11 +14,13 @@ use borrow.Author.Tests.{ltb-true, ltb-false, eqb-true, eqb-false, lt-ltb, le-lt
 use Rattle.nodes.specs.declared.node.Node.{Node}
 use Rattle.answers.specs.Answer.{TAKEN}
 use Rattle.nodes.specs.Node.{insideb, apartb, afterb, openb}
-use Rattle.nodes.specs.Words.{NODE-WORDS, MOST-NODES, nodes, count}
+use Rattle.nodes.specs.Words.{NODE-WORDS, MOST-NODES, nodes, count, wordsOf}
 use Rattle.laws.proofs.Tests.{either, never, not-so, and-read, and-make, or-read, or-left, or-right, not-read, not-none}
 use Rattle.laws.proofs.Choices.{all-of, all-map, all-both, any-none, none-any}
 use Rattle.nodes.proofs.NodeLaws.{within, apart-read, apart-ahead, after-starts, after-trans, open-read, shut-read}
+use Rattle.nodes.proofs.WordLaws.{nodes-of-words, length-words}
 use Rattle.answers.specs.declared.verdict.Verdict.{Verdict}
+use Rattle.answers.specs.Output.{wordsIn}
 use Rattle.lists.specs.Check.{checkFrom, checkNodes, raggedb, longb, wordFault, checkWords}
 use Rattle.lists.specs.Fault.{levelb, spanb, orderb, crossb, depthb, fault}
 use Rattle.lists.specs.Two.{nestedb, agreeb}
@@ -132,7 +134,7 @@ module _ (before : List Node) (n : Node) where
       )
 
 -- A check goes on where it has found no fault.
-goes-on : (f index : ℕ) (v : Verdict)
+pub goes-on : (f index : ℕ) (v : Verdict)
     → (cond (eqb f TAKEN) v (verdict f ANCESTORS index) .answer ≡ TAKEN) ↔ ((f ≡ TAKEN) × (v .answer ≡ TAKEN))
 goes-on f index v = (
   λ h. elim (either (eqb f TAKEN)) [ inl e ↦ (eqb-true _ _ e, rw e at h) | inr e ↦ absurd (eqb-false f TAKEN e (rw e at h)) ],
@@ -198,3 +200,10 @@ words-taken-iff ws = (
       (w .0, w .1, t .0, t .1),
   λ h. words-check ws .1 (whole-words ws .1 (h .0, h .1), taken-iff (nodes ws) .1 (h .2, h .3)),
 )
+
+-- Nodes written as words are accepted where they are few enough, sound and fine with one another.
+pub written-taken : (ns : List Node) → length ns ≤ MOST-NODES → All Sound ns → EveryTwo Fine ns → checkWords (wordsIn wordsOf ns) .answer ≡ TAKEN
+written-taken ns few sound fine =
+    let long = length-words ns in
+    let same = sym (nodes-of-words ns) in
+    words-taken-iff (wordsIn wordsOf ns) .1 (omega arith, omega arith, subst (All Sound) same sound, subst (EveryTwo Fine) same fine)

@@ -142,6 +142,9 @@ module _ (document : ℕ) (marks : List ℕ) (taken : checkMarks marks ≡ TAKEN
   unfolding tableOf
   table-made = all-made document 1 0 marks (check-read marks taken .1)
 
+  spans : (x : Row) → In x (tableOf document marks) → x .node .start ≤ x .node .end
+  spans x x-in = all-in (Made document 1) (tableOf document marks) table-made x-in .span
+
   pub table-settled : EveryTwo Settled (tableOf document marks)
   unfolding tableOf
   table-settled = all-settled document 1 0 marks (check-read marks taken .1)
@@ -155,11 +158,22 @@ module _ (document : ℕ) (marks : List ℕ) (taken : checkMarks marks ≡ TAKEN
     settled : (x ≡ y) ⊎ (Settled x y ⊎ Settled y x)
     settled = every-two-in Settled (tableOf document marks) x y table-settled x-in y-in
 
+    -- No two rows end at one position.
+    pub ends-differ : x .node .end ≡ y .node .end → x ≡ y
+    ends-differ e =
+        elim settled [
+          | inl q ↦ q
+          | inr s ↦ elim s [
+            | inl s ↦ absurd (⊎-elim (λ p. omega (arith, spans y y-in)) (λ p. omega arith) (s .ends))
+            | inr s ↦ absurd (⊎-elim (λ p. omega (arith, spans x x-in)) (λ p. omega arith) (s .ends))
+          ]
+        ]
+
     -- y is inside x exactly when its first mark comes after x's opening and before x's close.
     pub inside-between : (insideb (y .node) (x .node) ≡ true) ↔ ((x .node .start < y .node .start) × (y .node .start < x .node .end))
     inside-between = (
       λ h. let w = within (y .node) (x .node) h in
-          let span = all-in (Made document 1) (tableOf document marks) table-made y-in .span in
+          let span = spans y y-in in
           elim settled [
             | inl e ↦ absurd (omega (arith, w .start, ap (λ r. r .node .start) e))
             | inr s ↦ elim s [

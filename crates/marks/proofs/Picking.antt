@@ -42,7 +42,7 @@ module _ (tag : ℕ) where
   unfolding nodesWith keep
   picked-no rs r h = picked-append rs (r ∷ []) ∙ rw (ne-eqb (r .tag) tag h) (append-nil (nodesWith tag rs))
 
-  pub picked-few : (rs : List Row) → length (nodesWith tag rs) ≤ length rs
+  picked-few : (rs : List Row) → length (nodesWith tag rs) ≤ length rs
   unfolding nodesWith keep
   picked-few [] = omega arith
   picked-few (r ∷ rs) = let h = picked-few rs in elim (either (eqb (r .tag) tag)) [ inl k ↦ rw k (omega arith) | inr k ↦ rw k (omega arith) ]

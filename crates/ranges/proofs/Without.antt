@@ -12,9 +12,9 @@ use lib.ListN.{length}
 use borrow.Author.Tests.{eqb-true, eq-eqb}
 use Rattle.answers.specs.Output.{wordsIn}
 use Rattle.answers.proofs.OutputLaws.{length-items}
-use Rattle.laws.specs.Choose.{All, keep}
+use Rattle.laws.specs.Choose.{All, Part, keep}
 use Rattle.laws.proofs.Choices.{all-map, keep-all-of}
-use Rattle.laws.proofs.Parts.{Part, kept-part, part-mapped}
+use Rattle.laws.proofs.Parts.{kept-part, part-mapped}
 use Rattle.laws.proofs.Tests.{either, never, not-none}
 use Rattle.nodes.specs.declared.node.Node.{Node}
 use Rattle.nodes.specs.Node.{insideb}

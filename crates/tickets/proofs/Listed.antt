@@ -91,6 +91,11 @@ unfolding leaders followers
 sides Descendant as′ ds p = (λ h. (h .1, h .0), λ h. (h .1, h .0))
 sides Ancestor as′ ds p = (λ h. h, λ h. h)
 
+-- Every pair consists of an ancestor out of the one list and a descendant out of the other.
+pub pair-sides : (order : Order) (as′ ds : List Node) (p : Pair)
+    → In p (everyPair order (leaders order as′ ds) (followers order as′ ds)) → In (p .ancestor) as′ × In (p .descendant) ds
+pair-sides order as′ ds p m = sides order as′ ds p .0 (every-in order (leaders order as′ ds) (followers order as′ ds) p m)
+
 -- The listing holds the pairs of an ancestor and a descendant with the relation asked for, and no
 -- others.
 pub listed-iff : (ask : Asked) (as′ ds : List Node) (p : Pair)
@@ -100,14 +105,13 @@ listed-iff ask as′ ds p =
     let xs = leaders (ask .order) as′ ds in
     let ys = followers (ask .order) as′ ds in
     let every = everyPair (ask .order) xs ys in
-    let kept = keep (askedb ask) every in
-    let met = sides (ask .order) as′ ds p in (
+    let kept = keep (askedb ask) every in (
       λ m.
           let i = all-in (λ q. In q every) kept (keep-all-of (λ q. In q every) (askedb ask) every (each-in every)) m in
-          let s = met .0 (every-in (ask .order) xs ys p i) in
+          let s = pair-sides (ask .order) as′ ds p i in
           (s .0, s .1, all-in (λ q. askedb ask q ≡ true) kept (keep-past (askedb ask) every) m),
       λ h.
-          let s = met .1 (h .0, h .1) in
+          let s = sides (ask .order) as′ ds p .1 (h .0, h .1) in
           keep-in (askedb ask) every p (Memᴰ·cast (pair-of (ask .order) p) (in-every (ask .order) (leader (ask .order) p) (follower (ask .order) p) xs ys (s .0) (s .1)))
           (h .2),
     )
