@@ -1,0 +1,132 @@
+-- Why it holds: Of two nodes in preorder the first is an ancestor of the second or ends before it.
+-- An ancestor has the other inside it, with a higher level. A node that ends before is apart.
+-- What would break it: A rule that refused a child with its parent's end would be caught here. So
+-- would an `insideb` that isn't the paper's test.
+use mathlib.Core.Path.{_≡_, refl, sym, subst}
+use mathlib.Core.Logic.{_↔_, ⊎-elim}
+use mathlib.Core.Bool.{true}
+use mathlib.Core.List.{List}
+use Prim.Native.Nat.{ℕ, _+_, _%_, _≤_, _<_}
+use native.Mathlib.Omega.{arith}
+use lib.ListN.{length, length-map}
+use Rattle.answers.specs.Answer.{TAKEN}
+use Rattle.laws.specs.Choose.{In, Part}
+use Rattle.laws.proofs.Choices.{all-in, all-map, all-mapped, each-in, every-two-map, every-two-mapped}
+use Rattle.laws.proofs.Parts.{part-all}
+use Rattle.nodes.specs.declared.node.Node.{Node}
+use Rattle.nodes.specs.Node.{insideb}
+use Rattle.nodes.specs.Words.{NODE-WORDS, MOST-NODES, nodes}
+use Rattle.nodes.proofs.NodeLaws.{within, inside-make, apart-ahead, after-start}
+use Rattle.nodes.proofs.WordLaws.{nodes-of-words}
+use Rattle.lists.specs.Check.{checkWords}
+use Rattle.lists.specs.Two.{checkTwo}
+use Rattle.lists.proofs.Faults.{Sound}
+use Rattle.lists.proofs.Leaving.{parts-two-taken}
+use Rattle.lists.proofs.Taken.{Fine, nested-make, agree-apart, agree-nested, written-taken}
+use Rattle.tickets.specs.declared.ticket.Order.{Order}
+use Rattle.tickets.specs.declared.ticket.Relation.the-variants.{Inside}
+use Rattle.tickets.specs.Listing.{Pair, relatedb, listing}
+use Rattle.tickets.specs.Ticket.{asked}
+use Rattle.tickets.proofs.Listed.{listed-iff}
+use Rattle.trees.specs.Tree.{Label, Siblings, labels, Ancestor, Numbered, nodeOf, listOf, treeWords, AncestorOf}
+use Rattle.trees.proofs.Ordered.{Placed, ancestor-below, placed, placed-order, placed-in}
+
+module _ (document : ℕ) (t : Siblings) (numbered : Numbered t) where
+  ancestor-inside : {x y : Label} → Ancestor t x y → insideb (nodeOf document y) (nodeOf document x) ≡ true
+  ancestor-inside {x} {y} a =
+      let b = ancestor-below t numbered a in
+      inside-make (nodeOf document y) (nodeOf document x) refl (b .order) (b .end)
+
+  placed-fine : (x y : Label) → Placed t x y → Fine (nodeOf document x) (nodeOf document y)
+  placed-fine x y h =
+      let e = nodeOf document x in
+      let n = nodeOf document y in
+      record {
+        after = after-start n e refl (placed-order t numbered x y h);
+        agree = λ d. ⊎-elim (λ a. agree-nested e n (nested-make n e (ancestor-inside a) (ancestor-below t numbered a .level)))
+            (λ p. agree-apart e n (apart-ahead e n p)) h;
+      }
+
+  label-sound : (x : Label) → In x (labels t) → Sound (nodeOf document x)
+  label-sound x i = let l = numbered .levels x i in record { lowest = l .0; highest = l .1; span = omega arith }
+
+  -- A numbered tree's list is accepted.
+  pub tree-taken : length (labels t) ≤ MOST-NODES → checkWords (treeWords document t) .answer ≡ TAKEN
+  unfolding treeWords listOf
+  tree-taken few =
+      written-taken (listOf document t) (omega (arith, length-map (labels t) (nodeOf document)))
+      (all-mapped (nodeOf document) Sound (labels t) (all-map label-sound (labels t) (each-in (labels t))))
+      (every-two-mapped (nodeOf document) Fine (labels t) (every-two-map placed-fine (labels t) (placed t numbered)))
+
+  tree-nodes : nodes (treeWords document t) ≡ listOf document t
+  unfolding treeWords
+  tree-nodes = nodes-of-words (listOf document t)
+
+  -- And any two parts of it are accepted together.
+  pub parts-taken : (as′ ds : List ℕ) → length as′ % NODE-WORDS ≡ 0 → Part (nodes as′) (listOf document t)
+      → length ds % NODE-WORDS ≡ 0 → Part (nodes ds) (listOf document t) → length (labels t) ≤ MOST-NODES → checkTwo as′ ds .answer ≡ TAKEN
+  parts-taken as′ ds w p v q few =
+      parts-two-taken (treeWords document t) as′ ds w (subst (Part (nodes as′)) (sym tree-nodes) p) v (subst (Part (nodes ds)) (sym tree-nodes) q)
+      (tree-taken few)
+
+  module _ (x y : Label) (x-in : In x (labels t)) (y-in : In y (labels t)) where
+    -- A node of the tree is inside another exactly when that one is its ancestor.
+    pub inside-ancestor : (insideb (nodeOf document y) (nodeOf document x) ≡ true) ↔ Ancestor t x y
+    inside-ancestor = (
+      λ h.
+          let w = within (nodeOf document y) (nodeOf document x) h in
+          ⊎-elim (λ a. a) (λ e. absurd (omega arith)) (placed-in t numbered x y x-in y-in (w .start)),
+      ancestor-inside,
+    )
+
+    -- And exactly when the order of the first lies in the range of the second, as the paper says.
+    pub inside-range : (insideb (nodeOf document y) (nodeOf document x) ≡ true) ↔ ((x .order < y .order) × (y .order ≤ x .order + x .size))
+    inside-range = (
+      λ h. let w = within (nodeOf document y) (nodeOf document x) h in (w .start, omega arith),
+      λ h. ⊎-elim ancestor-inside (λ e. absurd (omega arith)) (placed-in t numbered x y x-in y-in (h .0)),
+    )
+
+  -- The node n is that of a label of the tree.
+  record Labelled (n : Node) : Type 0 where
+    label : Label
+    label-in : In label (labels t)
+    node-is : n ≡ nodeOf document label
+
+  -- Every node of a part is.
+  part-labelled : (ns : List Node) → Part ns (listOf document t) → {n : Node} → In n ns → Labelled n
+  unfolding listOf
+  part-labelled ns p m =
+      all-in Labelled ns
+      (part-all Labelled p
+      (all-mapped (nodeOf document) Labelled (labels t) (all-map (λ x i. record { label = x; label-in = i; node-is = refl }) (labels t) (each-in (labels t))))) m
+
+  -- Of two parts, the pairs listed are exactly those of a node and one of its ancestors.
+  pub listed-ancestor : (order : Order) (as′ ds : List Node) → Part as′ (listOf document t) → Part ds (listOf document t) → (p : Pair)
+      → In p (listing (asked Inside order) as′ ds) ↔ (In (p .ancestor) as′ × In (p .descendant) ds × AncestorOf document t (p .ancestor) (p .descendant))
+  unfolding relatedb
+  listed-ancestor order as′ ds a d p =
+      let listed = listed-iff (asked Inside order) as′ ds p in (
+        λ m.
+            let h = listed .0 m in
+            let x = part-labelled as′ a (h .0) in
+            let y = part-labelled ds d (h .1) in (
+              h .0,
+              h .1,
+              record {
+                x = x .label;
+                y = y .label;
+                ancestor-is = x .node-is;
+                descendant-is = y .node-is;
+                ancestor = inside-ancestor (x .label) (y .label) (x .label-in) (y .label-in) .0
+                    (subst (λ n. insideb n (nodeOf document (x .label)) ≡ true) (y .node-is) (subst (λ n. insideb (p .descendant) n ≡ true) (x .node-is) (h .2)));
+              },
+            ),
+        λ h.
+            let r = h .2 in
+            listed .1 (
+              h .0,
+              h .1,
+              subst (λ n. insideb n (p .ancestor) ≡ true) (sym (r .descendant-is))
+                  (subst (λ n. insideb (nodeOf document (r .y)) n ≡ true) (sym (r .ancestor-is)) (ancestor-inside (r .ancestor))),
+            ),
+      )

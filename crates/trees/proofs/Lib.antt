@@ -1,0 +1,5 @@
+-- Theorems for the reader: `Ordered` says how any two nodes of a numbered tree lie. `Accepted` says
+-- that the tree's list is accepted, that inside is ancestor, and which pairs are listed.
+pub mod Accepted
+pub mod Made
+pub mod Ordered
