@@ -1,7 +1,7 @@
 -- Demand 2 for marks: numbering and writing back marks return each other, and the numbering says
 -- what contains what. `number` and `unnumber` promise these outcomes and outputs. A mark, a row or
 -- a document number that didn't come back would be caught here.
-use mathlib.Core.Path.{_≡_}
+use mathlib.Core.Path.{_≡_, ap}
 use mathlib.Core.Logic.{_↔_}
 use mathlib.Core.Bool.{true}
 use mathlib.Core.List.{List}
@@ -17,11 +17,13 @@ use Rattle.marks.specs.Back.{documentOf, Numbering, checkTable}
 use Rattle.marks.specs.Mark.{checkMarks}
 use Rattle.marks.specs.Outcome.{outcome, numberOutcome, numberOutput, unnumbered, tableMarks, unnumberOutcome, unnumberOutput, pickedWords}
 use Rattle.marks.specs.Table.{Marked, tableOf, tableWords, rows, rowFault}
-use Rattle.marks.proofs.Contained.{inside-between, directly-stands}
+use Rattle.marks.proofs.Contained.{inside-between, directly-stands, ends-differ}
 use Rattle.marks.proofs.Exact.{refused-exact}
 use Rattle.marks.proofs.Marked.{table-marked}
 use Rattle.marks.proofs.Picked.{tags-agree}
 use Rattle.marks.proofs.Returned.{number-taken, unnumber-taken, marks-return, table-returns}
+use Rattle.rules.specs.Rule.{strictb}
+use Rattle.rules.proofs.Kept.{differ-agree}
 
 -- Of accepted marks, with any document number:
 module _ (document : ℕ) (marks : List ℕ) (taken : checkMarks marks ≡ TAKEN) where
@@ -52,6 +54,15 @@ module _ (document : ℕ) (marks : List ℕ) (taken : checkMarks marks ≡ TAKEN
       → (directlyb (y .node) (x .node) ≡ true) ↔ ((insideb (y .node) (x .node) ≡ true)
       × ((z : Row) → In z (tableOf document marks) → insideb (y .node) (z .node) ≡ true → insideb (z .node) (x .node) ≡ true → ⊥))
   directly-exactly-in x y i j = directly-stands document marks taken x y i j
+
+  -- No two nodes end at the same position.
+  pub no-two-end-together : (x y : Row) → In x (tableOf document marks) → In y (tableOf document marks) → x .node .end ≡ y .node .end → x ≡ y
+  no-two-end-together x y i j e = ends-differ document marks taken x y i j e
+
+  -- So y is inside x exactly when it is strictly inside, ending before x ends.
+  pub inside-is-strictly-inside : (x y : Row) → In x (tableOf document marks) → In y (tableOf document marks)
+      → insideb (y .node) (x .node) ≡ strictb (y .node) (x .node)
+  inside-is-strictly-inside x y i j = differ-agree (x .node) (y .node) (λ e. ap (λ r. r .node) (ends-differ document marks taken x y i j e))
 
   -- The lists of any two tags are accepted together, so that pages can always be made of them.
   pub any-two-tags-are-accepted : (s t : ℕ)

@@ -28,6 +28,7 @@ use Rattle.marks.specs.Outcome.{outcomeOf, numberOutcome, numberOutput, tableMa
 use Rattle.marks.specs.Table.{closeAt, endOf, rowsFrom, tableOf, rowWords, tableWords, rows, rowIn, rowFault}
 use Rattle.forest.specs.Linked.{linksIn, linkedOf, linksOutput}
 use Rattle.forest.specs.Links.{upTo, firstOf, nodeIn, indices, innermostb, parentOf, childOf, siblingb, nextOf, linkOf, linksOf, linkWords}
+use Rattle.trees.specs.Tree.{labels, listOf, treeWords}
 use Rattle.readings.specs.Reading.{withinb, decode}
 use Rattle.readings.specs.Sample.{sampled, pairedb, inZone, present}
 use Rattle.ranges.specs.Range.{unbeaten, lowOf, highOf, rangeOf, zoneRange}
@@ -57,7 +58,7 @@ unfolding figures equalb heldb checkWords wordFault raggedb longb nodes checkNod
     openAfter strayb deepb markFault unclosedb faultFrom checkMarks outcomeOf numberOutcome numberOutput tableMarks unnumberOutcome
     unnumberOutput nodesWith pickedWords pickOutcome pickOutput closeAt endOf rowsFrom tableOf rowWords tableWords rows rowIn rowFault
     linksIn linkedOf linksOutput upTo firstOf nodeIn indices innermostb parentOf childOf siblingb nextOf linkOf linksOf linkWords
-    ofInt ofBits toBits div lt nodeAt firstAt withinb decode sampled pairedb inZone present unbeaten lowOf highOf rangeOf zoneRange
+    labels listOf treeWords ofInt ofBits toBits div lt nodeAt firstAt withinb decode sampled pairedb inZone present unbeaten lowOf highOf rangeOf zoneRange
 computed = refl
 
 -- Each row's numbers are those that docs/SCOPE.md states.

@@ -29,6 +29,8 @@ use Rattle.tickets.specs.declared.ticket.Ticket.{Ticket}
 use Rattle.tickets.specs.PairWords.{PAIR-WORDS}
 use Rattle.tickets.specs.Ticket.{keyWith, numbersOf, asked, ticketAt}
 use Rattle.pairs.specs.Calls.{Call, answer, shown}
+use Rattle.trees.specs.Example.{example}
+use Rattle.trees.specs.Tree.{Siblings, treeWords}
 use Rattle.marks.specs.Mark.{TEXT}
 use Rattle.marks.specs.Outcome.{numberOutcome, numberOutput, unnumberOutcome, unnumberOutput, pickOutcome, pickOutput}
 use Rattle.marks.specs.Table.{ROW-WORDS}
@@ -146,6 +148,11 @@ E = (1, 9, 1) ∷ (2, 6, 2) ∷ (4, 6, 3) ∷ (5, 6, 4) ∷ []
 
 abbrev pub T : Nodes
 T = (3, 3, 3) ∷ (6, 6, 5) ∷ (9, 9, 2) ∷ []
+
+-- A figure of a tree numbered by order and size: the check of its list, and the list's words.
+abbrev pub tree : Siblings → Nodes → Figure
+tree t list =
+    record { found = verdictNumbers (checkWords (treeWords 5 t)) ++ treeWords 5 t; stated = TAKEN ∷ ANCESTORS ∷ 0 ∷ words list }
 
 -- What numbering marks of document 5 shows, with an output of `room` rows: the answer, the number
 -- of rows, and the output.
@@ -431,6 +438,8 @@ figures =
     ∷ two ((1, 9, 1) ∷ []) ((1, 9, 2) ∷ []) JOINT
     -- 84: an inner zone with the same end and no deeper level.
     ∷ one ((1, 9, 2) ∷ (7, 9, 2) ∷ []) DEPTH 1
+    -- 85: the tree of the ranges and points, as one list.
+    ∷ tree example ((1, 9, 1) ∷ (2, 2, 2) ∷ (4, 6, 2) ∷ (5, 5, 3) ∷ (7, 9, 2) ∷ (8, 8, 3) ∷ [])
     ∷ []
 
 -- The two lists of numbers are equal.

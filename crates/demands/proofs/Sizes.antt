@@ -1,0 +1,63 @@
+-- Lists numbered by order and size, as Li and Moon number the nodes of a tree (docs/SCOPE.md,
+-- "Order and size"). A rule of theirs that let two nodes cross, or a node that ends where its
+-- parent ends and isn't inside it, would be caught here.
+use mathlib.Core.Path.{_≡_}
+use mathlib.Core.Logic.{_↔_}
+use mathlib.Core.Bool.{true}
+use mathlib.Core.List.{List}
+use Prim.Native.Nat.{ℕ, _+_, _%_, _≤_, _<_}
+use lib.ListN.{length}
+use Rattle.answers.specs.Answer.{TAKEN}
+use Rattle.laws.specs.Choose.{EveryTwo, In, Part}
+use Rattle.nodes.specs.Node.{insideb}
+use Rattle.nodes.specs.Words.{NODE-WORDS, MOST-NODES, nodes}
+use Rattle.lists.specs.Check.{checkWords}
+use Rattle.lists.specs.Two.{checkTwo}
+use Rattle.tickets.specs.declared.ticket.Order.{Order}
+use Rattle.tickets.specs.declared.ticket.Relation.the-variants.{Inside}
+use Rattle.tickets.specs.Listing.{Pair, listing}
+use Rattle.tickets.specs.Ticket.{asked}
+use Rattle.trees.specs.Example.{example}
+use Rattle.trees.specs.Tree.{Label, Siblings, labels, Ancestor, Numbered, nodeOf, listOf, treeWords, AncestorOf}
+use Rattle.trees.proofs.Accepted.{tree-taken, inside-ancestor, inside-range, parts-taken, listed-ancestor}
+use Rattle.trees.proofs.Made.{example-numbered}
+use Rattle.trees.proofs.Ordered.{in-order}
+
+-- Of a tree that is numbered by order and size, and lent as a list of any document:
+module _ (document : ℕ) (t : Siblings) (numbered : Numbered t) where
+  -- The list has the nodes in their order.
+  pub tree-is-in-order : EveryTwo (λ x y. x .order < y .order) (labels t)
+  tree-is-in-order = in-order t numbered
+
+  -- Where it has no more nodes than 4,096, it is accepted.
+  pub tree-is-accepted : length (labels t) ≤ MOST-NODES → checkWords (treeWords document t) .answer ≡ TAKEN
+  tree-is-accepted few = tree-taken document t numbered few
+
+  -- y is inside x exactly when x is an ancestor of y in the tree.
+  pub inside-exactly-below : (x y : Label) → In x (labels t) → In y (labels t)
+      → (insideb (nodeOf document y) (nodeOf document x) ≡ true) ↔ Ancestor t x y
+  inside-exactly-below x y i j = inside-ancestor document t numbered x y i j
+
+  -- That is when y's order lies above x's, and no higher than x's order and size together: the
+  -- paper's own test of an ancestor.
+  pub inside-as-the-paper-tests : (x y : Label) → In x (labels t) → In y (labels t)
+      → (insideb (nodeOf document y) (nodeOf document x) ≡ true) ↔ ((x .order < y .order) × (y .order ≤ x .order + x .size))
+  inside-as-the-paper-tests x y i j = inside-range document t numbered x y i j
+
+  -- Any two lists of its nodes, each with some left out, are accepted together.
+  pub lists-of-a-tree-are-accepted : length (labels t) ≤ MOST-NODES → (ancestors descendants : List ℕ)
+      → length ancestors % NODE-WORDS ≡ 0 → Part (nodes ancestors) (listOf document t)
+      → length descendants % NODE-WORDS ≡ 0 → Part (nodes descendants) (listOf document t) → checkTwo ancestors descendants .answer ≡ TAKEN
+  lists-of-a-tree-are-accepted few ancestors descendants w p v q = parts-taken document t numbered ancestors descendants w p v q few
+
+  -- Of such lists exactly those pairs are listed in which the first node is an ancestor of the
+  -- second.
+  pub pairs-are-those-of-the-tree : (order : Order) (ancestors descendants : List ℕ)
+      → Part (nodes ancestors) (listOf document t) → Part (nodes descendants) (listOf document t)
+      → (p : Pair) → In p (listing (asked Inside order) (nodes ancestors) (nodes descendants))
+      ↔ (In (p .ancestor) (nodes ancestors) × In (p .descendant) (nodes descendants) × AncestorOf document t (p .ancestor) (p .descendant))
+  pairs-are-those-of-the-tree order ancestors descendants a d p = listed-ancestor document t numbered order (nodes ancestors) (nodes descendants) a d p
+
+-- The ranges and points of the scope's figures make such a tree.
+pub example-is-numbered : Numbered example
+example-is-numbered = example-numbered
