@@ -55,7 +55,7 @@ module _ (document : ℕ) (marks : List ℕ) (taken : checkMarks marks ≡ TAKEN
       × ((z : Row) → In z (tableOf document marks) → insideb (y .node) (z .node) ≡ true → insideb (z .node) (x .node) ≡ true → ⊥))
   directly-exactly-in x y i j = directly-stands document marks taken x y i j
 
-  -- No two nodes end at the same position.
+  -- No two of their nodes end at one position.
   pub no-two-end-together : (x y : Row) → In x (tableOf document marks) → In y (tableOf document marks) → x .node .end ≡ y .node .end → x ≡ y
   no-two-end-together x y i j e = ends-differ document marks taken x y i j e
 

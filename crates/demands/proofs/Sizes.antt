@@ -10,7 +10,7 @@ use lib.ListN.{length}
 use Rattle.answers.specs.Answer.{TAKEN}
 use Rattle.laws.specs.Choose.{EveryTwo, In, Part}
 use Rattle.nodes.specs.Node.{insideb}
-use Rattle.nodes.specs.Words.{NODE-WORDS, MOST-NODES, nodes}
+use Rattle.nodes.specs.Words.{NODE-WORDS, MOST-NODES, nodes, count}
 use Rattle.lists.specs.Check.{checkWords}
 use Rattle.lists.specs.Two.{checkTwo}
 use Rattle.tickets.specs.declared.ticket.Order.{Order}
@@ -33,7 +33,7 @@ module _ (document : ℕ) (t : Siblings) (numbered : Numbered t) where
   pub tree-is-accepted : length (labels t) ≤ MOST-NODES → checkWords (treeWords document t) .answer ≡ TAKEN
   tree-is-accepted few = tree-taken document t numbered few
 
-  -- y is inside x exactly when x is an ancestor of y in the tree.
+  -- One node is inside another exactly when that one is its ancestor.
   pub inside-exactly-below : (x y : Label) → In x (labels t) → In y (labels t)
       → (insideb (nodeOf document y) (nodeOf document x) ≡ true) ↔ Ancestor t x y
   inside-exactly-below x y i j = inside-ancestor document t numbered x y i j
@@ -44,11 +44,13 @@ module _ (document : ℕ) (t : Siblings) (numbered : Numbered t) where
       → (insideb (nodeOf document y) (nodeOf document x) ≡ true) ↔ ((x .order < y .order) × (y .order ≤ x .order + x .size))
   inside-as-the-paper-tests x y i j = inside-range document t numbered x y i j
 
-  -- Any two lists of its nodes, each with some left out, are accepted together.
-  pub lists-of-a-tree-are-accepted : length (labels t) ≤ MOST-NODES → (ancestors descendants : List ℕ)
-      → length ancestors % NODE-WORDS ≡ 0 → Part (nodes ancestors) (listOf document t)
-      → length descendants % NODE-WORDS ≡ 0 → Part (nodes descendants) (listOf document t) → checkTwo ancestors descendants .answer ≡ TAKEN
-  lists-of-a-tree-are-accepted few ancestors descendants w p v q = parts-taken document t numbered ancestors descendants w p v q few
+  -- Any two lists of its nodes, with no more than 4,096 each, are accepted together, however large
+  -- the tree is.
+  pub lists-of-a-tree-are-accepted : (ancestors descendants : List ℕ)
+      → length ancestors % NODE-WORDS ≡ 0 → count ancestors ≤ MOST-NODES → Part (nodes ancestors) (listOf document t)
+      → length descendants % NODE-WORDS ≡ 0 → count descendants ≤ MOST-NODES → Part (nodes descendants) (listOf document t)
+      → checkTwo ancestors descendants .answer ≡ TAKEN
+  lists-of-a-tree-are-accepted ancestors descendants w f p v g q = parts-taken document t numbered ancestors descendants w f p v g q
 
   -- Of such lists exactly those pairs are listed in which the first node is an ancestor of the
   -- second.

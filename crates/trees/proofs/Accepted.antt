@@ -10,18 +10,17 @@ use Prim.Native.Nat.{ℕ, _+_, _%_, _≤_, _<_}
 use native.Mathlib.Omega.{arith}
 use lib.ListN.{length, length-map}
 use Rattle.answers.specs.Answer.{TAKEN}
-use Rattle.laws.specs.Choose.{In, Part}
+use Rattle.laws.specs.Choose.{All, EveryTwo, In, Part}
 use Rattle.laws.proofs.Choices.{all-in, all-map, all-mapped, each-in, every-two-map, every-two-mapped}
 use Rattle.laws.proofs.Parts.{part-all}
 use Rattle.nodes.specs.declared.node.Node.{Node}
 use Rattle.nodes.specs.Node.{insideb}
-use Rattle.nodes.specs.Words.{NODE-WORDS, MOST-NODES, nodes}
+use Rattle.nodes.specs.Words.{NODE-WORDS, MOST-NODES, nodes, count}
 use Rattle.nodes.proofs.NodeLaws.{within, inside-make, apart-ahead, after-start}
-use Rattle.nodes.proofs.WordLaws.{nodes-of-words}
 use Rattle.lists.specs.Check.{checkWords}
 use Rattle.lists.specs.Two.{checkTwo}
 use Rattle.lists.proofs.Faults.{Sound}
-use Rattle.lists.proofs.Leaving.{parts-two-taken}
+use Rattle.lists.proofs.Leaving.{some-two-taken}
 use Rattle.lists.proofs.Taken.{Fine, nested-make, agree-apart, agree-nested, written-taken}
 use Rattle.tickets.specs.declared.ticket.Order.{Order}
 use Rattle.tickets.specs.declared.ticket.Relation.the-variants.{Inside}
@@ -50,24 +49,23 @@ module _ (document : ℕ) (t : Siblings) (numbered : Numbered t) where
   label-sound : (x : Label) → In x (labels t) → Sound (nodeOf document x)
   label-sound x i = let l = numbered .levels x i in record { lowest = l .0; highest = l .1; span = omega arith }
 
+  all-sound : All Sound (listOf document t)
+  unfolding listOf
+  all-sound = all-mapped (nodeOf document) Sound (labels t) (all-map label-sound (labels t) (each-in (labels t)))
+
+  all-fine : EveryTwo Fine (listOf document t)
+  unfolding listOf
+  all-fine = every-two-mapped (nodeOf document) Fine (labels t) (every-two-map placed-fine (labels t) (placed t numbered))
+
   -- A numbered tree's list is accepted.
   pub tree-taken : length (labels t) ≤ MOST-NODES → checkWords (treeWords document t) .answer ≡ TAKEN
   unfolding treeWords listOf
-  tree-taken few =
-      written-taken (listOf document t) (omega (arith, length-map (labels t) (nodeOf document)))
-      (all-mapped (nodeOf document) Sound (labels t) (all-map label-sound (labels t) (each-in (labels t))))
-      (every-two-mapped (nodeOf document) Fine (labels t) (every-two-map placed-fine (labels t) (placed t numbered)))
+  tree-taken few = written-taken (listOf document t) (omega (arith, length-map (labels t) (nodeOf document))) all-sound all-fine
 
-  tree-nodes : nodes (treeWords document t) ≡ listOf document t
-  unfolding treeWords
-  tree-nodes = nodes-of-words (listOf document t)
-
-  -- And any two parts of it are accepted together.
-  pub parts-taken : (as′ ds : List ℕ) → length as′ % NODE-WORDS ≡ 0 → Part (nodes as′) (listOf document t)
-      → length ds % NODE-WORDS ≡ 0 → Part (nodes ds) (listOf document t) → length (labels t) ≤ MOST-NODES → checkTwo as′ ds .answer ≡ TAKEN
-  parts-taken as′ ds w p v q few =
-      parts-two-taken (treeWords document t) as′ ds w (subst (Part (nodes as′)) (sym tree-nodes) p) v (subst (Part (nodes ds)) (sym tree-nodes) q)
-      (tree-taken few)
+  -- And any two lists of its nodes are accepted together, however large the tree is.
+  pub parts-taken : (as′ ds : List ℕ) → length as′ % NODE-WORDS ≡ 0 → count as′ ≤ MOST-NODES → Part (nodes as′) (listOf document t)
+      → length ds % NODE-WORDS ≡ 0 → count ds ≤ MOST-NODES → Part (nodes ds) (listOf document t) → checkTwo as′ ds .answer ≡ TAKEN
+  parts-taken as′ ds w f p v g q = some-two-taken (listOf document t) all-sound all-fine as′ ds w f p v g q
 
   module _ (x y : Label) (x-in : In x (labels t)) (y-in : In y (labels t)) where
     -- A node of the tree is inside another exactly when that one is its ancestor.

@@ -54,7 +54,7 @@ pub record Numbered (t : Siblings) : Type 0 where
   -- Of a node y and its parent x: x has the smaller order, and y's order and size together don't
   -- pass those of x.
   pub parents : (x y : Label) → Parent x y t → (x .order < y .order) × (y .order + y .size ≤ x .order + x .size)
-  -- Of two siblings: the first one's order and size together are below the order of the second.
+  -- A sibling's order and size together are below the order of each sibling after it.
   pub siblings : (x y : Label) → Precedes x y t → x .order + x .size < y .order
   -- Levels rise from parent to child, from 1 at the lowest to 64 at the highest.
   pub rising : (x y : Label) → Parent x y t → x .level < y .level
