@@ -21,9 +21,13 @@ static void call_version(void) {
     expect("the version", belfry_version(), BELFRY_VERSION);
 }
 
+/* Checks a node that ends where the one around it ends too, and a node that starts there. */
 static void call_checks(void) {
+    const uint32_t within[] = {5, 1, 9, 1, 5, 7, 9, 2}, crossed[] = {5, 1, 5, 1, 5, 5, 7, 2};
     belfry_verdict one = belfry_check(turned, 12);
     expect_verdict("belfry_check", one, BELFRY_ORDER, 0, 1);
+    expect_verdict("belfry_check, equal ends", belfry_check(within, 8), BELFRY_TAKEN, 0, 0);
+    expect_verdict("belfry_check, from an end on", belfry_check(crossed, 8), BELFRY_CROSS, 0, 1);
 
     belfry_verdict two = belfry_check_two(zones, 8, turned, 12);
     expect_verdict("belfry_check_two", two, BELFRY_ORDER, BELFRY_DESCENDANTS, 1);

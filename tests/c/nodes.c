@@ -5,10 +5,11 @@
 
 enum { ROOM = 8 };
 
-static const belfry_node zones[] = {{5, 2, 30, 2}, {5, 3, 7, 3}, {5, 9, 20, 3}, {5, 10, 15, 4}};
+/* The last two end at one position, and the third sample too. */
+static const belfry_node zones[] = {{5, 2, 30, 2}, {5, 3, 7, 3}, {5, 9, 20, 3}, {5, 10, 20, 4}};
 /* The last one is at fault: it comes after a node that starts later. */
 static const belfry_node samples[] = {
-    {5, 4, 6, 4}, {5, 11, 12, 5}, {5, 16, 17, 4}, {5, 40, 40, 2}, {5, 39, 39, 2}};
+    {5, 4, 6, 4}, {5, 11, 12, 5}, {5, 16, 20, 5}, {5, 40, 40, 2}, {5, 39, 39, 2}};
 /* The third one is at fault: a missing reading has no bits. */
 static const belfry_reading readings[] = {{BELFRY_GRAMS, 0x42180000},
                                           {BELFRY_MISSING, 0},
@@ -19,7 +20,7 @@ static const belfry_row table[] = {{5, 1, 11, 1, 1}, {5, 2, 10, 2, 2},    {5, 3,
                                    {5, 4, 6, 4, 3},  {5, 5, 5, 5, 65536}, {5, 8, 9, 3, 3}};
 static const belfry_entry entries[] = {{2, 4}, {3, 0}, {9, 2}};
 static const belfry_node stored[] = {{5, 2, 30, 2},  {5, 3, 7, 3}, {5, 9, 20, 3},
-                                     {5, 10, 15, 4}, {5, 4, 6, 4}, {5, 11, 12, 5}};
+                                     {5, 10, 20, 4}, {5, 4, 6, 4}, {5, 11, 12, 5}};
 
 /* The same in words. */
 static uint32_t zone_words[COUNT(zones) * BELFRY_NODE_WORDS];

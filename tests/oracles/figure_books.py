@@ -8,12 +8,18 @@ Z = [(5, 2, 10, 2), (5, 3, 7, 3)]
 S = [(5, 4, 6, 4), (5, 8, 9, 3)]
 FIGURE = book((2, Z), (3, S))
 ONE = [(5, 1, 9, 1)]
+THREE = [(5, 1, 9, 1), (5, 3, 9, 2), (5, 5, 9, 3)]
 GREATEST = 4294967295
 
 
 def siblings(count, width):
     """Returns nodes of level 1 side by side in document 5, each with its end `width` later."""
     return [(5, start, start + width, 1) for start in range(1, 1 + count * (width + 1), width + 1)]
+
+
+def by_size(*nodes):
+    """Returns nodes of document 5 that are given by order, size and level."""
+    return [(5, order, order + size, level) for order, size, level in nodes]
 
 
 def nest(count):
@@ -92,6 +98,10 @@ CASES = {
     "third-list-faulty": book((2, Z), (3, S), (4, [(5, 1, 2, 1), (5, 3, 4, 1), (5, 3, 4, 1)])),
     "joint": with_node(1, (5, 8, 12, 3)),
     "same-node-in-both": book((2, Z), (3, [Z[1], S[0]])),
+    "order-and-size": book((2, by_size((1, 8, 1), (4, 2, 2), (7, 2, 2))),
+                           (3, by_size((2, 0, 2), (5, 0, 3), (8, 0, 3)))),
+    "equal-ends": book((2, THREE), (3, [(5, 6, 9, 4), (5, 7, 8, 5)])),
+    "equal-ends-at-one-level": book((2, THREE), (3, [(5, 6, 9, 3)])),
     "other-document": book((2, Z), (3, [(6, 4, 6, 4)])),
     "greatest-numbers": book((2, [(GREATEST, 4294967290, GREATEST, 1)]),
                              (3, [(GREATEST, 4294967294, 4294967294, 2)])),

@@ -22,7 +22,7 @@ NONE = 4294967295
 # Nodes and lists.
 
 def inside(y, x):
-    return y[0] == x[0] and x[1] < y[1] and y[2] < x[2]
+    return y[0] == x[0] and x[1] < y[1] and y[2] <= x[2]
 
 
 def directly(y, x):

@@ -3,6 +3,7 @@ import os
 import subprocess
 import sys
 from array import array
+from collections import Counter
 from itertools import chain
 from pathlib import Path
 
@@ -89,11 +90,31 @@ def random_marks(rng, length):
     return marks
 
 
+def by_order_and_size(table):
+    """Returns a table's nodes numbered by order and size: each ends where the last node in it
+    starts.
+    """
+    starts = [row[1] for row in table]
+    return [(document, start, max(other for other in starts if start <= other <= end), level)
+            for document, start, end, level, _ in table]
+
+
 def random_tree(rng, length=10, documents=(5, 6)):
-    """Returns the nodes of some documents, as (document, start, end, level)."""
-    tables = (model.number(document, random_marks(rng, rng.randint(0, length)))[1]
-              for document in documents)
-    return [row[:4] for table in tables for row in table]
+    """Returns the nodes of some documents, as (document, start, end, level). Every other document
+    is numbered by order and size.
+    """
+    found = []
+    for document in documents:
+        table = model.number(document, random_marks(rng, rng.randint(0, length)))[1]
+        found += by_order_and_size(table) if rng.random() < 0.5 else [row[:4] for row in table]
+    return found
+
+
+def most_around(zones, samples):
+    """Returns the most zones around one sample that end at one position."""
+    ends = Counter((sample, zone[2]) for zone in zones for sample in samples
+                   if model.inside(sample, zone))
+    return max(ends.values(), default=0)
 
 
 def some_of(rng, nodes):

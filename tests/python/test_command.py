@@ -207,7 +207,7 @@ class Places(unittest.TestCase):
         samples = [(5, 10 * i + 2, 10 * i + 5, 2) for i in range(4096)]
         samples[3000] = (5, 30002, 30012, 2)
         samples[3001] = (5, 30013, 30015, 2)
-        samples[4000] = (5, 40002, 40009, 2)
+        samples[4000] = (5, 40002, 40010, 2)
         fault = look_at(model.book((2, zones), (3, samples))).fault
         self.assertEqual(fault[:3], (Answer.JOINT, Spot(1, 3000), Spot(0, 3000)))
         zones[4095] = (5, 40949, 40960, 2)
@@ -373,14 +373,17 @@ class Picture(unittest.TestCase):
             self.assertEqual(meeting, [])
 
     def test_containing_is_seen_across(self):
-        (bars,) = self.drawn(FARM, 104)[1]
-        spans = {tuple(map(int, bar.title.split(": ")[1].split(",")[0].split(" to "))): bar
-                 for bar in bars}
-        self.assertEqual(len(spans), len(bars))
-        for (start, end), bar in spans.items():
-            around = {span for span, other in spans.items()
-                      if other.left < bar.left and bar.right < other.right}
-            self.assertEqual(around, {(a, b) for a, b in spans if a < start and end < b})
+        by_size = model.book((2, in_document((1, 9, 1), (4, 6, 2), (7, 9, 2))),
+                             (3, in_document((2, 2, 2), (5, 5, 3), (8, 9, 3))))
+        for book, document in (FARM, 104), (by_size, 5):
+            (bars,) = self.drawn(book, document)[1]
+            spans = {tuple(map(int, bar.title.split(": ")[1].split(",")[0].split(" to "))): bar
+                     for bar in bars}
+            self.assertEqual(len(spans), len(bars))
+            for (start, end), bar in spans.items():
+                around = {span for span, other in spans.items()
+                          if other.left < bar.left and bar.right <= other.right}
+                self.assertEqual(around, {(a, b) for a, b in spans if a < start and end <= b})
 
     def test_levels_and_spans_that_are_refused(self):
         zones = in_document((1, 100, 1), (3, 9, 65), (30, 20, 2), (31, 32, 0), (40, 41, 4294967295))

@@ -33,6 +33,32 @@ class Figures(unittest.TestCase):
         self.assertEqual(starts(belfry.pairs(Z, Z)), [(2, 3)])
         self.assertEqual(next(belfry.pairs(Z, S)), (Node(5, 2, 10, 2), Node(5, 4, 6, 4)))
 
+    def test_a_list_by_order_and_size(self):
+        ranges, points = (
+            in_five(*((order, order + size, level) for order, size, level in nodes))
+            for nodes in (((1, 8, 1), (4, 2, 2), (7, 2, 2)), ((2, 0, 2), (5, 0, 3), (8, 0, 3))))
+        expected = [[(1, 2), (1, 5), (4, 5), (1, 8), (7, 8)],
+                    [(1, 2), (1, 5), (1, 8), (4, 5), (7, 8)],
+                    [(1, 2), (4, 5), (7, 8)], [(1, 2), (4, 5), (7, 8)]]
+        for which, pairs in zip(LISTINGS, expected):
+            self.assertEqual(starts(belfry.pairs(ranges, points, **which)), pairs)
+            self.assertEqual(starts(belfry.pairs(ranges, points, **which, room=1)), pairs)
+
+    def test_zones_that_end_at_one_position(self):
+        zones, samples = in_five((1, 9, 1), (3, 9, 2), (5, 9, 3)), in_five((6, 8, 4), (9, 9, 4))
+        expected = [[(1, 6), (3, 6), (5, 6), (1, 9), (3, 9), (5, 9)],
+                    [(1, 6), (1, 9), (3, 6), (3, 9), (5, 6), (5, 9)],
+                    [(5, 6), (5, 9)], [(5, 6), (5, 9)]]
+        for which, pairs in zip(LISTINGS, expected):
+            self.assertEqual(starts(belfry.pairs(zones, samples, **which, room=1)), pairs)
+        self.assertEqual(belfry.links(zones + samples).tolist(), [
+            NONE, 1, NONE, 0, 2, NONE, 1, 3, NONE, 2, NONE, 4, 2, NONE, NONE])
+        readings = [Percent(4.0), Percent(2.0)]
+        self.assertEqual([belfry.zone_range(zones, samples, readings, zone) for zone in range(3)],
+                         [(2.0, 4.0)] * 3)
+        odd = in_five((7, 9, 3))
+        self.assertEqual(belfry.verdict_two(zones, odd), Verdict(Answer.JOINT, None, None))
+
     def test_pages_of_two(self):
         out = painted(17)
         first = belfry.page(Z, S, INSIDE, out)
@@ -83,7 +109,9 @@ class Figures(unittest.TestCase):
     def test_verdicts(self):
         for nodes, answer, index in (
             (((1, 5, 1), (5, 7, 2)), Answer.CROSS, 1), (((1, 5, 1), (6, 7, 1)), Answer.TAKEN, None),
-            (((1, 9, 1), (7, 9, 2)), Answer.CROSS, 1), (((1, 9, 1), (7, 8, 2)), Answer.TAKEN, None),
+            (((1, 9, 1), (7, 9, 2)), Answer.TAKEN, None),
+            (((1, 9, 1), (7, 8, 2)), Answer.TAKEN, None),
+            (((1, 9, 1), (7, 10, 2)), Answer.CROSS, 1), (((1, 9, 1), (7, 9, 1)), Answer.DEPTH, 1),
             (((1, 9, 3), (2, 3, 3)), Answer.DEPTH, 1), (((2, 2, 64),), Answer.TAKEN, None),
             (((2, 2, 65),), Answer.LEVEL, 0),
         ):

@@ -99,11 +99,12 @@ class ListsSplitAndJoinedPieceByPiece(unittest.TestCase):
         self.assert_fault(Verdict(Answer.CROSS, 0, 4096))
 
     def test_a_zone_that_crosses_the_first_one_is_found(self):
-        self.zones[4 * 4500 + END] = self.zones[END]
+        self.zones[4 * 4500 + END] = self.zones[END] + 1
         self.assert_fault(Verdict(Answer.CROSS, 0, 4500))
 
     def test_a_sample_that_crosses_another_over_the_cut_is_found(self):
         self.samples[4 * 4095 + END] = self.samples[4 * 4096 + START]
+        self.samples[4 * 4096 + END] += 1
         self.zones = self.zones[:4]
         self.assert_fault(Verdict(Answer.CROSS, 1, 4096))
 
@@ -116,8 +117,8 @@ class ListsSplitAndJoinedPieceByPiece(unittest.TestCase):
         self.assert_fault(Verdict(Answer.ORDER, 0, 4096))
 
     def test_a_zone_and_a_sample_at_odds_in_different_pieces_are_found(self):
-        """Gives the last sample the end of the first zone, and takes its own zone away."""
-        self.samples[-4 + END] = self.zones[END]
+        """Lets the last sample end past the first zone, and takes its own zone away."""
+        self.samples[-4 + END] = self.zones[END] + 1
         del self.zones[-4:]
         self.assert_fault(Verdict(Answer.JOINT))
 

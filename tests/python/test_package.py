@@ -192,14 +192,19 @@ class Readme(unittest.TestCase):
             out, err = started.communicate()
         self.assertEqual((started.returncode, out.decode(), err), (0, expected, b""))
 
+    def test_the_program_that_lists_by_order_and_size(self):
+        listing, _, _ = self.blocks("python")
+        printed, _ = self.blocks("text")
+        self.assert_prints(listing, printed)
+
     def test_the_program_that_joins_in_several_processes(self):
         """Runs it on the lists of test_mistakes."""
-        joining, _ = self.blocks("python")
+        _, joining, _ = self.blocks("python")
         self.assert_prints(joining, "9000 pairs\n")
 
     def test_the_program_that_asks_for_a_zone_without_a_reading(self):
-        _, asking = self.blocks("python")
-        [printed] = self.blocks("text")
+        _, _, asking = self.blocks("python")
+        _, printed = self.blocks("text")
         self.assert_prints(asking, printed)
 
 

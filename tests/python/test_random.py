@@ -4,11 +4,12 @@ by the archive as by the naive model.
 import random
 import unittest
 from array import array
+from collections import Counter
 from itertools import chain
 
 from support import (
-    LISTINGS, damaged, figure_books, listing, model, random_marks, random_tree, some_of, two_lists,
-    words,
+    LISTINGS, damaged, figure_books, listing, model, most_around, random_marks, random_tree,
+    some_of, two_lists, words,
 )
 
 import belfrychest as belfry
@@ -26,13 +27,15 @@ def random_reading(rng):
 
 class AgainstTheModel(unittest.TestCase):
     def test_lists(self):
-        rng, answers = random.Random(3), set()
+        rng, answers, at_one_end = random.Random(3), set(), Counter()
         for _ in range(1000):
             tree = random_tree(rng)
             zones, samples = damaged(rng, some_of(rng, tree)), damaged(rng, some_of(rng, tree))
             expected = two_lists(zones, samples)
             self.assertEqual(belfry.verdict_two(words(zones), words(samples)), expected)
             answers.add(expected.answer)
+            at_one_end[expected.answer] += most_around(zones, samples) >= 3 or any(
+                model.odds(x, y) and x[1] != y[1] and x[2] == y[2] for x in zones for y in samples)
             faulty = None if expected.list is None else (zones, samples)[expected.list]
             blamed = [] if faulty is None else faulty[expected.index:]
             part = belfry.faulty(words(zones), words(samples))
@@ -43,6 +46,8 @@ class AgainstTheModel(unittest.TestCase):
                 self.assertEqual(list(belfry.node_pairs(found)), listing(zones, samples, **which))
                 self.assertEqual(belfry.links(words(zones)), words(model.links(zones)))
         self.assertEqual(answers, {Answer.TAKEN} | set(map(Answer, range(3, 9))))
+        self.assertGreater(at_one_end[Answer.TAKEN], 40)
+        self.assertGreater(at_one_end[Answer.JOINT], 4)
 
     def test_ranges(self):
         rng, answers = random.Random(7), set()

@@ -2,6 +2,7 @@
 //! word of the output. Each function returns the answer.
 
 use crate::model::answers::{row, Answer, Verdict, Written};
+use crate::model::nodes::{nodes, NODE_WORDS};
 use crate::model::pages::{Order, Relation, Ticket};
 use crate::model::{books, links, lists, marks, pages, readings};
 use crate::paint::hold;
@@ -85,6 +86,16 @@ pub fn list(
         raw::list(ancestors, descendants, ticket, out)
     });
     page.verdict.answer
+}
+
+/// Returns all pairs that the archive lists for a ticket, of lists that it takes.
+pub fn listed(ancestors: &[u32], descendants: &[u32], ticket: raw::Ticket) -> Vec<pages::Pair> {
+    let [outer, inner] = [ancestors, descendants].map(|list| list.len() / NODE_WORDS);
+    let mut out = vec![0; pages::PAIR_WORDS * outer * inner];
+    let page = raw::list(ancestors, descendants, ticket, &mut out);
+    assert_eq!((page.verdict, page.done), (TAKEN, 1), "lists that are taken, and room for all");
+    let written = nodes(&out[..pages::PAIR_WORDS * page.count]);
+    written.chunks(2).map(|two| pages::Pair { ancestor: two[0], descendant: two[1] }).collect()
 }
 
 /// Returns what the model says of a zone's readings. The low and the high are compared by their

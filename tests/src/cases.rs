@@ -2,157 +2,241 @@
 //! the ground says, and held against the model.
 
 use crate::asking;
+use crate::ends::{clash, is_between, meet, most_around, most_at_one_end};
 use crate::ground::Ground;
 use crate::making::{books, lists, marks, readings, tickets};
 use crate::model::answers::Answer::{self, *};
 use crate::model::answers::NAME_BYTES;
-use crate::model::books::{contents_end, NUMBER_BYTES, WANTED_WORDS};
+use crate::model::books::{
+    body_nodes, check as opened, contents_end, Entry, NUMBER_BYTES, WANTED_WORDS,
+};
 use crate::model::links::LINK_WORDS;
 use crate::model::marks::{CLOSE, ROW_WORDS};
 use crate::model::nodes::{nodes, NODE_WORDS};
-use crate::model::pages::{pairs, PAIR_WORDS};
-use crate::model::readings::Range;
+use crate::model::pages::{pairs, Pair, Ticket, PAIR_WORDS};
+use crate::model::readings::{Range, MISSING, READING_WORDS};
 use crate::model::MOST;
 use crate::random::{each_case, Random};
+use crate::tally::Kind::{self, *};
 use crate::tally::Tally;
 
-/// A function, by a case of it and by the answers that it can give.
+/// A function, by a case of it, which counts itself, and by the answers that it can give. The kinds
+/// are those in which nodes end at one position.
 pub struct Function {
-    case: fn(&mut Random, Ground) -> Answer,
+    case: fn(&mut Random, Ground, &mut Tally),
     answers: &'static [Answer],
+    kinds: &'static [Kind],
 }
 
 impl Function {
-    /// Runs `cases` cases, and fails unless each answer came that the function can give.
+    /// Runs `cases` cases, and fails unless each answer came that the function can give, and each
+    /// kind of case.
     pub fn hold(&self, first_seed: u64, cases: u64, ground: Ground) {
         let mut tally = Tally::default();
-        each_case(first_seed, cases, |random| tally.count((self.case)(random, ground)));
+        each_case(first_seed, cases, |random| (self.case)(random, ground, &mut tally));
         tally.hold(self.answers);
+        tally.hold_kinds(self.kinds);
     }
 }
 
-pub const CHECK: Function =
-    Function { case: check, answers: &[Taken, Ragged, Long, Level, Span, Order, Cross, Depth] };
+/// Counts a case of one list.
+fn count_one(tally: &mut Tally, answer: Answer, list: &[u32]) {
+    tally.count(answer);
+    tally.see(Three, answer == Taken && most_at_one_end(&nodes(list)) >= 3);
+}
 
-fn check(random: &mut Random, ground: Ground) -> Answer {
-    let list = ground.lend(&lists::list(random));
-    asking::check(&list)
+pub const CHECK: Function = Function {
+    case: check,
+    answers: &[Taken, Ragged, Long, Level, Span, Order, Cross, Depth],
+    kinds: &[Three],
+};
+
+fn check(random: &mut Random, ground: Ground, tally: &mut Tally) {
+    let list = lists::list(random);
+    let answer = asking::check(&ground.lend(&list));
+    count_one(tally, answer, &list);
 }
 
 const OF_TWO_LISTS: &[Answer] = &[Taken, Ragged, Long, Level, Span, Order, Cross, Depth, Joint];
 
-pub const CHECK_TWO: Function = Function { case: check_two, answers: OF_TWO_LISTS };
-
-fn check_two(random: &mut Random, ground: Ground) -> Answer {
-    let (ancestors, descendants) = lists::two_lists(random);
-    asking::check_two(&ground.lend(&ancestors), &ground.lend(&descendants))
+/// Counts a case of two lists.
+fn count_two(tally: &mut Tally, answer: Answer, ancestors: &[u32], descendants: &[u32]) {
+    let (ancestors, descendants) = (nodes(ancestors), nodes(descendants));
+    tally.count(answer);
+    tally.see(Shared, answer == Taken && meet(&ancestors, &descendants));
+    tally.see(AtOdds, answer == Joint && clash(&ancestors, &descendants));
 }
 
-pub const FAULTY: Function = Function { case: faulty, answers: OF_TWO_LISTS };
+pub const CHECK_TWO: Function =
+    Function { case: check_two, answers: OF_TWO_LISTS, kinds: &[Shared, AtOdds] };
 
-fn faulty(random: &mut Random, ground: Ground) -> Answer {
+fn check_two(random: &mut Random, ground: Ground, tally: &mut Tally) {
     let (ancestors, descendants) = lists::two_lists(random);
-    asking::faulty(&ground.lend(&ancestors), &ground.lend(&descendants))
+    let answer = asking::check_two(&ground.lend(&ancestors), &ground.lend(&descendants));
+    count_two(tally, answer, &ancestors, &descendants);
 }
 
-pub const LIST: Function = Function { case: list, answers: OF_TWO_LISTS };
+pub const FAULTY: Function =
+    Function { case: faulty, answers: OF_TWO_LISTS, kinds: &[Shared, AtOdds] };
 
-fn list(random: &mut Random, ground: Ground) -> Answer {
+fn faulty(random: &mut Random, ground: Ground, tally: &mut Tally) {
+    let (ancestors, descendants) = lists::two_lists(random);
+    let answer = asking::faulty(&ground.lend(&ancestors), &ground.lend(&descendants));
+    count_two(tally, answer, &ancestors, &descendants);
+}
+
+pub const LIST: Function =
+    Function { case: list, answers: OF_TWO_LISTS, kinds: &[Shared, Three, AtOdds, Between] };
+
+fn list(random: &mut Random, ground: Ground, tally: &mut Tally) {
     let (ancestors, descendants) = lists::two_lists(random);
     let ticket = tickets::made_up(random, &ancestors, &descendants);
-    let pairs = pairs(asking::meaning(&ticket).relation, &nodes(&ancestors), &nodes(&descendants));
+    let asked = asking::meaning(&ticket);
+    let pairs = pairs(asked.relation, &nodes(&ancestors), &nodes(&descendants));
     let words = random.around(pairs.len() * PAIR_WORDS);
-    asking::list(
+    let answer = asking::list(
         &ground.lend(&ancestors),
         &ground.lend(&descendants),
         ticket,
         &mut ground.room(words),
-    )
+    );
+    count_two(tally, answer, &ancestors, &descendants);
+    tally.see(Three, answer == Taken && most_around(&pairs) >= 3);
+    tally.see(Between, answer == Taken && stops_between(&asked, pairs, words / PAIR_WORDS));
+}
+
+/// Tells whether a page of these pairs stops between two ancestors that end at one position.
+fn stops_between(ticket: &Ticket, mut pairs: Vec<Pair>, room: usize) -> bool {
+    pairs.retain(|pair| ticket.place.map_or(true, |place| pair.key(ticket.order) > place));
+    pairs.sort_by_key(|pair| pair.key(ticket.order));
+    0 < room && room < pairs.len() && is_between(&pairs[room - 1], &pairs[room])
 }
 
 pub const ZONE_RANGE: Function = Function {
-    case: |random, ground| zone_range(random, ground).verdict.answer,
+    case: |random, ground, tally| {
+        zone_range(random, ground, tally);
+    },
     answers: &[Taken, Ragged, Long, Level, Span, Order, Cross, Depth, Joint, Absent, Reading],
+    kinds: &[Shared, AtOdds],
 };
 
-/// Asks for a zone, and returns what the model says.
-pub fn zone_range(random: &mut Random, ground: Ground) -> Range {
+/// Asks for a zone, and returns what the model says. A case is shared where a sample with a reading
+/// ends where the zone ends.
+pub fn zone_range(random: &mut Random, ground: Ground, tally: &mut Tally) -> Range {
     let (zones, samples) = lists::two_lists(random);
     let readings = readings::readings(random, samples.len() / NODE_WORDS);
     let zone = readings::zone(random, &zones, &samples);
-    asking::zone_range(&ground.lend(&zones), &ground.lend(&samples), &ground.lend(&readings), zone)
+    let range = asking::zone_range(
+        &ground.lend(&zones),
+        &ground.lend(&samples),
+        &ground.lend(&readings),
+        zone,
+    );
+    let (answer, zones, samples) = (range.verdict.answer, nodes(&zones), nodes(&samples));
+    let is_read = |index: usize| readings[READING_WORDS * index] != MISSING;
+    tally.count(answer);
+    tally.see(AtOdds, answer == Joint && clash(&zones, &samples));
+    if answer == Taken {
+        let zone = zones[zone as usize];
+        let ends_there = |&index: &usize| meet(&[zone], &[samples[index]]);
+        tally.see(Shared, (0..samples.len()).filter(ends_there).any(is_read));
+    }
+    range
 }
 
-pub const NUMBER: Function =
-    Function { case: number, answers: &[Taken, Long, Room, Mark, Stray, Deep, Unclosed] };
+pub const NUMBER: Function = Function {
+    case: number,
+    answers: &[Taken, Long, Room, Mark, Stray, Deep, Unclosed],
+    kinds: &[],
+};
 
-fn number(random: &mut Random, ground: Ground) -> Answer {
+fn number(random: &mut Random, ground: Ground, tally: &mut Tally) {
     let (document, marks) = (random.word(), marks::marks(random));
     let needed = ROW_WORDS * marks.iter().filter(|&&mark| mark != CLOSE).count();
-    asking::number(document, &ground.lend(&marks), &mut ground.room(random.around(needed)))
+    let mut out = ground.room(random.around(needed));
+    tally.count(asking::number(document, &ground.lend(&marks), &mut out));
 }
 
 pub const UNNUMBER: Function =
-    Function { case: unnumber, answers: &[Taken, Ragged, Long, Room, Table] };
+    Function { case: unnumber, answers: &[Taken, Ragged, Long, Room, Table], kinds: &[] };
 
-fn unnumber(random: &mut Random, ground: Ground) -> Answer {
+fn unnumber(random: &mut Random, ground: Ground, tally: &mut Tally) {
     let table = marks::table(random);
     let needed = table.get(2).map_or(0, |&end| MOST.min(end as usize));
-    asking::unnumber(&ground.lend(&table), &mut ground.room(random.around(needed)))
+    let mut out = ground.room(random.around(needed));
+    tally.count(asking::unnumber(&ground.lend(&table), &mut out));
 }
 
-pub const PICK: Function = Function { case: pick, answers: &[Taken, Ragged, Long, Room] };
+pub const PICK: Function =
+    Function { case: pick, answers: &[Taken, Ragged, Long, Room], kinds: &[] };
 
-fn pick(random: &mut Random, ground: Ground) -> Answer {
+fn pick(random: &mut Random, ground: Ground, tally: &mut Tally) {
     let table = marks::table(random);
     let tag = marks::tag(random, &table);
     let needed =
         NODE_WORDS * table.chunks_exact(ROW_WORDS).filter(|row| row[NODE_WORDS] == tag).count();
-    asking::pick(&ground.lend(&table), tag, &mut ground.room(random.around(needed)))
+    let mut out = ground.room(random.around(needed));
+    tally.count(asking::pick(&ground.lend(&table), tag, &mut out));
 }
 
 pub const LINKS: Function = Function {
     case: links,
     answers: &[Taken, Ragged, Long, Level, Span, Order, Cross, Depth, Room],
+    kinds: &[Three],
 };
 
-fn links(random: &mut Random, ground: Ground) -> Answer {
+fn links(random: &mut Random, ground: Ground, tally: &mut Tally) {
     let list = lists::list(random);
     let needed = LINK_WORDS * (list.len() / NODE_WORDS);
-    asking::links(&ground.lend(&list), &mut ground.room(random.around(needed)))
+    let mut out = ground.room(random.around(needed));
+    let answer = asking::links(&ground.lend(&list), &mut out);
+    count_one(tally, answer, &list);
 }
 
-pub const BOOK_CHECK: Function =
-    Function { case: book_check, answers: &[Taken, Level, Span, Order, Cross, Depth, Contents] };
+/// Counts a case of a book.
+fn count_book(tally: &mut Tally, answer: Answer, book: &[u8]) {
+    let has_three = |entry: &Entry| most_at_one_end(&body_nodes(book, entry)) >= 3;
+    tally.count(answer);
+    tally.see(Three, answer == Taken && opened(book).entries.iter().any(has_three));
+}
 
-fn book_check(random: &mut Random, ground: Ground) -> Answer {
-    asking::book_check(&ground.lend(&books::book(random)))
+pub const BOOK_CHECK: Function = Function {
+    case: book_check,
+    answers: &[Taken, Level, Span, Order, Cross, Depth, Contents],
+    kinds: &[Three],
+};
+
+fn book_check(random: &mut Random, ground: Ground, tally: &mut Tally) {
+    let book = books::book(random);
+    let answer = asking::book_check(&ground.lend(&book));
+    count_book(tally, answer, &book);
 }
 
 pub const BOOK_BODY: Function = Function {
     case: book_body,
     answers: &[Taken, Level, Span, Order, Cross, Depth, Contents, Absent],
+    kinds: &[Three],
 };
 
-fn book_body(random: &mut Random, ground: Ground) -> Answer {
+fn book_body(random: &mut Random, ground: Ground, tally: &mut Tally) {
     let book = books::book(random);
     let tag = books::tag(random, &book);
-    asking::book_body(&ground.lend(&book), tag)
+    let answer = asking::book_body(&ground.lend(&book), tag);
+    count_book(tally, answer, &book);
 }
 
 pub const BOOK_WRITE: Function = Function {
     case: book_write,
     answers: &[Taken, Ragged, Level, Span, Order, Cross, Depth, Room, Contents],
+    kinds: &[Three],
 };
 
-fn book_write(random: &mut Random, ground: Ground) -> Answer {
-    let (entries, nodes) = books::wanted(random);
-    let needed = contents_end(entries.len() / WANTED_WORDS) + NUMBER_BYTES * nodes.len();
-    asking::book_write(
-        &ground.lend(&entries),
-        &ground.lend(&nodes),
-        &mut ground.room(random.around(needed.min(MOST))),
-    )
+fn book_write(random: &mut Random, ground: Ground, tally: &mut Tally) {
+    let (entries, words) = books::wanted(random);
+    let needed = contents_end(entries.len() / WANTED_WORDS) + NUMBER_BYTES * words.len();
+    let mut out = ground.room(random.around(needed.min(MOST)));
+    let answer = asking::book_write(&ground.lend(&entries), &ground.lend(&words), &mut out);
+    count_book(tally, answer, &out[..needed.min(out.len())]);
 }
 
 /// Checks names of numbers that have one and of numbers that have none. The output is a name's

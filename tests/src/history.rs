@@ -9,6 +9,7 @@
 //! pairs past that ticket's place.
 
 use crate::asking::meaning;
+use crate::ends::is_between;
 use crate::model::nodes::{nodes, Node};
 use crate::model::pages::{pairs, Pair, PAIR_WORDS};
 use crate::paint::Word;
@@ -50,6 +51,8 @@ pub struct History {
     pub refused: usize,
     /// How often a pair that had stood was found altered.
     pub altered: usize,
+    /// How often a page went on between two ancestors that end at one position.
+    pub between: usize,
 }
 
 impl History {
@@ -63,6 +66,7 @@ impl History {
             pages: 0,
             refused: 0,
             altered: 0,
+            between: 0,
         }
     }
 
@@ -111,6 +115,7 @@ impl History {
         let order = meaning(&self.first_ticket).order;
         let starts =
             |pair: &Pair| (pair.ancestor.document, pair.ancestor.start, pair.descendant.start);
+        let before = self.handed_out.len();
         for two in nodes(words).chunks(2) {
             let pair = Pair { ancestor: two[0], descendant: two[1] };
             assert!(lists.hold(&pair), "handed out, and not in the lists: {pair:?}");
@@ -126,6 +131,11 @@ impl History {
             self.handed_out.push(pair);
         }
         self.pages += usize::from(!words.is_empty());
+        if let (Some(last), Some(next)) =
+            (self.handed_out[..before].last(), self.handed_out.get(before))
+        {
+            self.between += usize::from(is_between(last, next));
+        }
     }
 
     /// Keeps of the pairs that stood so far those that stand in these lists too. At the first

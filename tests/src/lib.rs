@@ -3,6 +3,7 @@
 
 pub mod asking;
 pub mod cases;
+pub mod ends;
 pub mod ground;
 pub mod history;
 pub mod making;

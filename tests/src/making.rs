@@ -6,6 +6,7 @@ pub mod lists;
 pub mod marks;
 pub mod readings;
 pub mod tickets;
+pub mod trees;
 
 use crate::model::MOST;
 use crate::random::Random;

@@ -1,18 +1,41 @@
-//! How often each answer came.
+//! How often each answer came, and how often nodes ended at one position.
 
 use crate::model::answers::{Answer, NAMES};
 
-/// Fewer than this many of an answer say too little.
+/// Fewer than this many of an answer, or of a kind, say too little.
 const LEAST: u64 = 5;
+
+/// A kind of case in which nodes end at one position.
+#[derive(Clone, Copy, Debug, PartialEq, Eq)]
+pub enum Kind {
+    /// It is accepted, and a node ends where a node around it ends.
+    Shared,
+    /// It is accepted, and three nodes of a list end at one position, or three ancestors of one
+    /// descendant.
+    Three,
+    /// It is JOINT by two nodes that end at one position.
+    AtOdds,
+    /// It is a page that stops between two ancestors that end at one position.
+    Between,
+}
+
+/// The number of kinds.
+const KINDS: usize = Kind::Between as usize + 1;
 
 #[derive(Default)]
 pub struct Tally {
     counts: [u64; NAMES.len()],
+    kinds: [u64; KINDS],
 }
 
 impl Tally {
     pub fn count(&mut self, answer: Answer) {
         self.counts[answer as usize] += 1;
+    }
+
+    /// Counts a case that is of this kind, if it is.
+    pub fn see(&mut self, kind: Kind, is_of_kind: bool) {
+        self.kinds[kind as usize] += u64::from(is_of_kind);
     }
 
     /// Fails unless each of these answers came often enough, and no other came.
@@ -21,6 +44,14 @@ impl Tally {
         for (number, &count) in self.counts.iter().enumerate() {
             let right = if expected.contains(&number) { count >= LEAST } else { count == 0 };
             assert!(right, "{} came {count} times; all answers: {:?}", NAMES[number], self.counts);
+        }
+    }
+
+    /// Fails unless cases of each of these kinds came often enough.
+    pub fn hold_kinds(&self, kinds: &[Kind]) {
+        for &kind in kinds {
+            let count = self.kinds[kind as usize];
+            assert!(count >= LEAST, "{kind:?} came {count} times; all kinds: {:?}", self.kinds);
         }
     }
 }

@@ -2,12 +2,11 @@
 //! elements that are open.
 
 use belfrychest::raw::{self, Ticket};
-use outside::asking::TAKEN;
+use outside::asking::{self, TAKEN};
 use outside::making::marks::{marks, tag};
 use outside::making::tickets::FRESH;
 use outside::model::marks::{CLOSE, ROW_WORDS, TEXT};
 use outside::model::nodes::{node, Node, NODE_WORDS};
-use outside::model::pages::PAIR_WORDS;
 use outside::random::{each_case, Random};
 
 /// The marks that are made for each test, most of which are accepted.
@@ -57,7 +56,7 @@ fn by_marks(x: &Marked, y: &Marked) -> [bool; 2] {
 
 /// Tells the same by the numbers.
 fn by_numbers(x: &Node, y: &Node) -> [bool; 2] {
-    let inside = x.start < y.start && y.end < x.end;
+    let inside = x.start < y.start && y.end <= x.end;
     [inside, inside && y.level == x.level + 1]
 }
 
@@ -102,11 +101,8 @@ fn picked(table: &[u32], tag: u32) -> Vec<u32> {
 
 /// Returns the starts of all pairs that the archive lists.
 fn listed(ancestors: &[u32], descendants: &[u32], ticket: Ticket) -> Vec<[u32; 2]> {
-    let [outer, inner] = [ancestors, descendants].map(|list| list.len() / NODE_WORDS);
-    let mut out = vec![0; PAIR_WORDS * outer * inner];
-    let page = raw::list(ancestors, descendants, ticket, &mut out);
-    assert_eq!((page.verdict, page.done), (TAKEN, 1), "lists of two tags, and room for all");
-    out.chunks(PAIR_WORDS).take(page.count).map(|pair| [pair[1], pair[NODE_WORDS + 1]]).collect()
+    let pairs = asking::listed(ancestors, descendants, ticket);
+    pairs.iter().map(|pair| [pair.ancestor.start, pair.descendant.start]).collect()
 }
 
 /// Returns the starts of all pairs by the marks, in descendant order. The ancestors have the first

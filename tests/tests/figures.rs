@@ -94,6 +94,50 @@ fn pairs_come_in_both_orders_and_relations() {
     assert_eq!(listed(1, 1), [[2, 8], [3, 4]]);
 }
 
+/// Returns a list of document 5 from (order, size, level).
+fn by_order_and_size(nodes: &[[u32; 3]]) -> Vec<u32> {
+    list(
+        &nodes.iter().map(|&[order, size, level]| [order, order + size, level]).collect::<Vec<_>>(),
+    )
+}
+
+/// Tries the ranges and points of Li and Moon, of which the last range ends where the first does.
+#[test]
+fn a_list_by_order_and_size() {
+    let ranges = by_order_and_size(&[[1, 8, 1], [4, 2, 2], [7, 2, 2]]);
+    let points = by_order_and_size(&[[2, 0, 2], [5, 0, 3], [8, 0, 3]]);
+    let listed = |relation, order| page(&ranges, &points, ticket(relation, order), 6).0;
+    assert_eq!(asking::check_two(&ranges, &points), Taken);
+    assert_eq!(listed(0, 0), [[1, 2], [1, 5], [4, 5], [1, 8], [7, 8]]);
+    assert_eq!(listed(0, 1), [[1, 2], [1, 5], [1, 8], [4, 5], [7, 8]]);
+    assert_eq!(listed(1, 0), [[1, 2], [4, 5], [7, 8]]);
+    assert_eq!(listed(1, 1), [[1, 2], [4, 5], [7, 8]]);
+}
+
+/// Follows both listings of three zones that end at one position, page by page of one pair. The
+/// last sample is a text where they end, and the innermost zone is the parent of what comes after
+/// it.
+#[test]
+fn three_zones_that_end_at_one_position() {
+    let zones = list(&[[1, 9, 1], [3, 9, 2], [5, 9, 3]]);
+    let samples = list(&[[6, 8, 4], [9, 9, 4]]);
+    let by_descendant = [[1, 6], [3, 6], [5, 6], [1, 9], [3, 9], [5, 9]];
+    let by_ancestor = [[1, 6], [1, 9], [3, 6], [3, 9], [5, 6], [5, 9]];
+    for (order, pairs) in [(0, by_descendant), (1, by_ancestor)] {
+        let mut next = ticket(0, order);
+        for (place, pair) in pairs.into_iter().enumerate() {
+            let (listed, done, after) = page(&zones, &samples, next, 1);
+            assert_eq!((listed, done), (vec![pair], place + 1 == pairs.len()));
+            next = after;
+        }
+        assert_eq!(page(&zones, &samples, ticket(1, order), 6).0, [[5, 6], [5, 9]]);
+    }
+    let mut links = [0; 15];
+    assert_eq!(asking::links(&[zones, samples].concat(), &mut links), Taken);
+    assert_eq!(links[..9], [NONE, 1, NONE, 0, 2, NONE, 1, 3, NONE]);
+    assert_eq!(links[9..], [2, NONE, 4, 2, NONE, NONE]);
+}
+
 #[test]
 fn two_pages_of_room_two() {
     let (first, done, next) = page(&zones(), &samples(), ticket(0, 0), 2);
@@ -152,12 +196,14 @@ fn book_of_zones_and_samples() {
 fn lists_that_cross_or_sink() {
     draws(&[[1, 5, 1], [5, 7, 2]], Cross, 1);
     draws(&[[1, 5, 1], [6, 7, 1]], Taken, 0);
-    draws(&[[1, 9, 1], [7, 9, 2]], Cross, 1);
+    draws(&[[1, 9, 1], [7, 9, 2]], Taken, 0);
     draws(&[[1, 9, 1], [7, 8, 2]], Taken, 0);
     draws(&[[1, 9, 3], [2, 3, 3]], Depth, 1);
     draws(&[[2, 2, 64]], Taken, 0);
     draws(&[[2, 2, 65]], Level, 0);
     assert_eq!(asking::check_two(&list(&[[1, 9, 1]]), &list(&[[4, 12, 2]])), Joint);
+    assert_eq!(asking::check_two(&list(&[[1, 9, 1]]), &list(&[[4, 9, 2]])), Taken);
+    assert_eq!(asking::check_two(&list(&[[1, 9, 1]]), &list(&[[4, 9, 1]])), Joint);
 }
 
 #[test]

@@ -50,13 +50,14 @@ fn edited(random: &mut Random, lists: &Lists, all: &[Node]) -> Lists {
     lists
 }
 
-/// Alters a node a little, wherever it stands.
+/// Alters a node a little, wherever it stands, or lets it end where another node ends.
 fn alter(random: &mut Random, list: &mut [Node], other: &mut [Node]) {
     let node = random.pick(list);
-    let altered = match random.below(4) {
+    let altered = match random.below(5) {
         0 => Node { level: node.level.saturating_add(1), ..node },
         1 => Node { end: node.end.saturating_sub(1), ..node },
         2 => Node { end: node.end.saturating_add(1), ..node },
+        3 => Node { end: random.pick(list).end, ..node },
         _ => Node { start: node.start.saturating_add(1), ..node },
     };
     for same in list.iter_mut().chain(other).filter(|same| **same == node) {
@@ -100,22 +101,24 @@ fn follow(random: &mut Random, first_ticket: impl Fn(Ticket) -> Ticket) -> Histo
 }
 
 /// Follows listings of one relation and one order from fresh tickets, and then from made-up ones.
-/// Fails unless many had more than five pages, a refused call, a pair that was altered.
+/// Fails unless many had more than five pages, a refused call, a pair that was altered, and a page
+/// that went on between two ancestors that end at one position.
 fn hold(relation: u32, order: u32) {
     let fresh_seeds = SEEDS + u64::from(2 * relation + order) * (FRESH + MADE_UP);
-    let mut seen = [0; 3];
+    let mut seen = [0; 4];
     for (first_seed, listings, placed) in
         [(fresh_seeds, FRESH, 0), (fresh_seeds + FRESH, MADE_UP, 1)]
     {
         each_case(first_seed, listings, |random| {
             let history = follow(random, |made_up| Ticket { relation, order, placed, ..made_up });
-            let is_of_kind = [history.pages > 5, history.refused > 0, history.altered > 0];
+            let is_of_kind =
+                [history.pages > 5, history.refused > 0, history.altered > 0, history.between > 0];
             (0..seen.len()).for_each(|kind| seen[kind] += u64::from(is_of_kind[kind]));
         });
     }
     assert!(
         seen.iter().all(|&times| times > LEAST),
-        "histories of more than five pages, refused, altered: {seen:?}"
+        "histories of more than five pages, refused, altered, between two ancestors: {seen:?}"
     );
 }
 

@@ -4,7 +4,7 @@
 use belfrychest::raw::{self, Ticket};
 use outside::asking::{self, raw_verdict, TAKEN};
 use outside::making::books::parts;
-use outside::making::lists::{nest, texts};
+use outside::making::lists::{nest, nest_with_one_end, texts};
 use outside::making::marks::FIGURE;
 use outside::making::tickets::FRESH;
 use outside::model::answers::Answer::{self, *};
@@ -98,14 +98,32 @@ fn all_pairs(zones: &[Node], texts: &[Node], order: u32) -> Vec<u32> {
     }
 }
 
+/// Returns the longest list of texts, of which the last stands where the zones of a nest end that
+/// all end at one position.
+fn texts_up_to_the_end(zones: &[Node]) -> Vec<Node> {
+    let mut texts = texts(MOST);
+    let last = &mut texts[MOST - 1];
+    last.start = zones[0].end;
+    last.end = zones[0].end;
+    texts
+}
+
 #[test]
 fn pairs_of_the_deepest_nest_with_the_longest_list() {
-    let (zones, texts) = (nest(DEEPEST - 1), texts(MOST));
-    let (ancestors, descendants) = (words(&zones), words(&texts));
+    let (zones, one_end) = (nest(DEEPEST - 1), nest_with_one_end(DEEPEST - 1));
+    all_pairs_are_listed(&zones, &texts(MOST));
+    all_pairs_are_listed(&one_end, &texts(MOST));
+    all_pairs_are_listed(&one_end, &texts_up_to_the_end(&one_end));
+}
+
+/// Fails unless every zone is listed with every text, in both orders, with room for all of them and
+/// for one less.
+fn all_pairs_are_listed(zones: &[Node], texts: &[Node]) {
+    let (ancestors, descendants) = (words(zones), words(texts));
     let count = zones.len() * texts.len();
-    let [zone, text] = [&zones, &texts].map(|list| list[list.len() - 1].start);
+    let [zone, text] = [zones, texts].map(|list| list[list.len() - 1].start);
     for (order, first, second) in [(0, text, zone), (1, zone, text)] {
-        let expected = all_pairs(&zones, &texts, order);
+        let expected = all_pairs(zones, texts, order);
         let given = Ticket { order, ..FRESH };
         let ticket = Ticket { placed: 1, document: 5, first, second, ..given };
         let page = raw::Page { verdict: TAKEN, done: 1, count, ticket };
@@ -137,16 +155,18 @@ fn levels() {
 
 #[test]
 fn the_deepest_nest() {
-    let zones = words(&nest(DEEPEST));
-    assert_eq!(asking::check(&zones), Taken);
-    assert_eq!(asking::links(&zones, &mut [0; LINK_WORDS * DEEPEST]), Taken);
-    for (relation, order) in [(0, 0), (0, 1), (1, 0), (1, 1)] {
-        let ticket = Ticket { relation, order, ..FRESH };
-        assert_eq!(asking::list(&zones, &zones, ticket, &mut [0; 20_000]), Taken);
+    for nest in [nest, nest_with_one_end] {
+        let zones = words(&nest(DEEPEST));
+        assert_eq!(asking::check(&zones), Taken);
+        assert_eq!(asking::links(&zones, &mut [0; LINK_WORDS * DEEPEST]), Taken);
+        for (relation, order) in [(0, 0), (0, 1), (1, 0), (1, 1)] {
+            let ticket = Ticket { relation, order, ..FRESH };
+            assert_eq!(asking::list(&zones, &zones, ticket, &mut [0; 20_000]), Taken);
+        }
+        let deeper = words(&nest(DEEPEST + 1));
+        assert_eq!(asking::check(&deeper), Level);
+        assert_eq!(raw::check(&deeper).index, MOST_LEVEL);
     }
-    let deeper = words(&nest(DEEPEST + 1));
-    assert_eq!(asking::check(&deeper), Level);
-    assert_eq!(raw::check(&deeper).index, MOST_LEVEL);
 }
 
 /// Fails unless the marks are numbered into just as much room as their table needs, and back.
@@ -261,10 +281,12 @@ fn rooms_of_results() {
 
 #[test]
 fn rooms_of_pages() {
-    let (zones, texts) = (words(&nest(3)), words(&texts(4)));
-    for (room, order) in (0..13 * PAIR_WORDS).flat_map(|room| [(room, 0), (room, 1)]) {
-        let ticket = Ticket { order, ..FRESH };
-        assert_eq!(asking::list(&zones, &texts, ticket, &mut vec![0; room]), Taken);
+    let texts = words(&texts(4));
+    for zones in [nest(3), nest_with_one_end(3)].map(|nest| words(&nest)) {
+        for (room, order) in (0..13 * PAIR_WORDS).flat_map(|room| [(room, 0), (room, 1)]) {
+            let ticket = Ticket { order, ..FRESH };
+            assert_eq!(asking::list(&zones, &texts, ticket, &mut vec![0; room]), Taken);
+        }
     }
 }
 

@@ -4,9 +4,10 @@
 
 use belfrychest::raw::{self, Ticket};
 use outside::asking::{meaning, TAKEN};
+use outside::ends::is_between;
 use outside::making::lists::{any_family, some_of};
 use outside::making::tickets::FRESH;
-use outside::model::nodes::{words, Node};
+use outside::model::nodes::{nodes, words, Node};
 use outside::model::pages::{pairs, Pair, PAIR_WORDS};
 use outside::random::{each_case, Random};
 
@@ -30,9 +31,11 @@ struct Listing {
     ticket: Ticket,
     /// The pairs that all calls so far had room for.
     rooms: usize,
-    /// How many calls handed something out, and how many had no room for what was left.
+    /// How many calls handed something out, how many had no room for what was left, and how many
+    /// stopped between two ancestors that end at one position.
     pages: usize,
     without_room: usize,
+    between: usize,
 }
 
 impl Listing {
@@ -46,6 +49,7 @@ impl Listing {
             rooms: 0,
             pages: 0,
             without_room: 0,
+            between: 0,
         }
     }
 
@@ -71,6 +75,18 @@ impl Listing {
         self.ticket = page.ticket;
         self.pages += usize::from(page.count > 0);
         self.without_room += usize::from(room == 0 && !self.had_enough());
+        self.between += usize::from(page.count > 0 && !self.had_enough() && self.is_between());
+    }
+
+    /// Tells whether the listing has come to a place between two ancestors that end at one
+    /// position. Something was handed out, and something is left.
+    fn is_between(&self) -> bool {
+        let pair_at = |place: usize| {
+            let two = nodes(&self.full[place..place + PAIR_WORDS]);
+            Pair { ancestor: two[0], descendant: two[1] }
+        };
+        let place = self.handed_out.len();
+        is_between(&pair_at(place - PAIR_WORDS), &pair_at(place))
     }
 }
 
@@ -96,18 +112,25 @@ fn follow(random: &mut Random, fresh: Ticket) -> Listing {
 }
 
 /// Follows listings of one relation and one order. Fails unless many had pairs, many had three
-/// pages or more, and many had a call without room for what was left.
+/// pages or more, and many had a call without room for what was left. Many must also have had a
+/// page that stopped between two ancestors that end at one position.
 fn hold(relation: u32, order: u32) {
     let fresh = Ticket { relation, order, ..FRESH };
-    let mut seen = [0; 3];
+    let mut seen = [0; 4];
     each_case(SEEDS + u64::from(2 * relation + order) * LISTINGS, LISTINGS, |random| {
         let listing = follow(random, fresh);
-        let is_of_kind = [!listing.full.is_empty(), listing.pages >= 3, listing.without_room > 0];
+        let is_of_kind = [
+            !listing.full.is_empty(),
+            listing.pages >= 3,
+            listing.without_room > 0,
+            listing.between > 0,
+        ];
         (0..seen.len()).for_each(|kind| seen[kind] += u64::from(is_of_kind[kind]));
     });
     assert!(
         seen.iter().all(|&times| times > LEAST),
-        "listings with pairs, of three pages or more, with a call without room: {seen:?}"
+        "listings with pairs, of three pages or more, with a call without room, with a page that \
+         stopped between two ancestors: {seen:?}"
     );
 }
 

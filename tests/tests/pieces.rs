@@ -4,6 +4,7 @@
 
 use belfrychest::{nodes, words, Node, Page, Pair, Pieces, Place, Refusal, Ticket};
 use outside::asking::meaning;
+use outside::ends::{clash, is_between, meet};
 use outside::making::lists::{damage, family, some_of, two_lists};
 use outside::making::tickets::made_up;
 use outside::model::answers::Answer::{self, *};
@@ -12,7 +13,7 @@ use outside::model::lists::check_two;
 use outside::model::nodes::{self as model, NODE_WORDS};
 use outside::model::{pages, MOST};
 use outside::random::{each_case, Random};
-use outside::tally::Tally;
+use outside::tally::{Kind, Tally};
 
 /// Seeds that no other test has.
 const SEEDS: u64 = 1 << 44;
@@ -149,22 +150,30 @@ fn refusals_are_those_of_the_whole() {
         assert_eq!(cut.pieces().check(), expected, "given and expected, pieces of {}", cut.size);
         tally.count(verdict.answer);
         hidden += u64::from(is_hidden(&cut, verdict));
+        let [outer, inner] =
+            [&cut.ancestors, &cut.descendants].map(|list| model::nodes(words(list)));
+        tally.see(Kind::Shared, verdict.answer == Taken && meet(&outer, &inner));
+        tally.see(Kind::AtOdds, verdict.answer == Joint && clash(&outer, &inner));
     });
     const ANSWERS: [Answer; 7] = [Taken, Level, Span, Order, Cross, Depth, Joint];
     tally.hold(&ANSWERS);
+    tally.hold_kinds(&[Kind::Shared, Kind::AtOdds]);
     assert!(hidden > LEAST, "{hidden} faults that only two pieces show");
 }
 
 #[test]
 fn pages_are_those_of_the_whole() {
-    let mut full = 0;
+    let (mut full, mut tally) = (0, Tally::default());
     each_case(SEEDS + CASES, CASES, |random| {
         let cut = Cut::random(random);
         let ticket = cut.made_up_ticket(random);
-        let room = 1 + random.below(cut.page(ticket, MOST).pairs.len() + 2);
+        let left = cut.page(ticket, MOST).pairs;
+        let room = 1 + random.below(left.len() + 2);
         full += u64::from(cut.hold_page(ticket, room).map_or(false, |page| !page.done));
+        tally.see(Kind::Between, room < left.len() && is_between(&left[room - 1], &left[room]));
     });
     assert!(full > LEAST, "{full} pages that left something");
+    tally.hold_kinds(&[Kind::Between]);
 }
 
 #[test]

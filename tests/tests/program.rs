@@ -1,8 +1,9 @@
 //! The printing program as a process, on a thousand books: its whole standard output and its exit
 //! status against the model's text.
 
+use outside::ends::most_around;
 use outside::making::books::book;
-use outside::making::lists::{nest, texts};
+use outside::making::lists::{nest, nest_with_one_end, texts};
 use outside::model::answers::Answer::{self, *};
 use outside::model::books::bytes;
 use outside::model::nodes::Node;
@@ -69,6 +70,11 @@ fn books_with_pairs() {
 }
 
 #[test]
+fn books_with_three_ancestors_that_end_at_one_position() {
+    hold_random(30_000, 100, |pairs| pairs.map_or(false, |pairs| most_around(&pairs) >= 3));
+}
+
+#[test]
 fn books_with_a_faulty_list() {
     for (kind, answer) in [Level, Span, Order, Cross, Depth].into_iter().enumerate() {
         hold_random(2_000 + 1_000 * kind as u64, 60, |pairs| pairs == Err(answer));
@@ -106,12 +112,16 @@ fn the_books_of_the_examples() {
 }
 
 /// Tries books of one pair fewer than a page, one page, one pair more, two pages, one pair more,
-/// and 55 pages. A page has 4,096 pairs.
+/// and 55 pages. A page has 4,096 pairs. All but the last are tried as well with zones that end at
+/// one position, so that pages stop between them.
 #[test]
 fn books_of_many_pages() {
-    for (zones, samples) in [(63, 65), (32, 128), (17, 241), (32, 256), (3, 2_731), (60, 3_700)] {
-        let book = bytes(&[(2, nest(zones)), (3, texts(samples))]);
-        assert_eq!(joined(&book).map(|pairs| pairs.len()), Ok(zones * samples));
+    let sizes = [(63, 65), (32, 128), (17, 241), (32, 256), (3, 2_731), (60, 3_700)];
+    let nests = sizes.map(|(zones, samples)| (nest(zones), samples));
+    let with_one_end = sizes.map(|(zones, samples)| (nest_with_one_end(zones), samples));
+    for (zones, samples) in nests.iter().chain(&with_one_end[..5]) {
+        let book = bytes(&[(2, zones.clone()), (3, texts(*samples))]);
+        assert_eq!(joined(&book).map(|pairs| pairs.len()), Ok(zones.len() * samples));
         hold(&book);
     }
 }

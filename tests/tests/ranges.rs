@@ -14,6 +14,7 @@ use outside::model::nodes::{words, Node};
 use outside::model::readings::{GRAMS, MISSING, PERCENT, READING_WORDS};
 use outside::model::MOST;
 use outside::random::each_case;
+use outside::tally::{Kind, Tally};
 
 /// A reading as its words.
 type Words = [u32; READING_WORDS];
@@ -203,6 +204,22 @@ fn zones_in_zones() {
     answers(&zones, &samples, &inner_missing, 2, Ok(None));
 }
 
+/// Tries zones that end at one position, and a sample that ends there too. All have that sample.
+#[test]
+fn zones_that_end_at_one_position() {
+    let zones = list(&[[1, 100, 1], [10, 100, 2], [20, 100, 3]]);
+    let samples = list(&[[5, 6, 2], [12, 13, 3], [30, 40, 4], [100, 100, 4]]);
+    let percent = |bits| [PERCENT, bits];
+    let readings = [percent(40), percent(30), percent(20), percent(10)].concat();
+    for (zone, high) in [40, 30, 20].into_iter().enumerate() {
+        answers(&zones, &samples, &readings, zone as u32, Ok(Some([10, high])));
+    }
+    let last_missing = [&readings[..6], &NO_READING].concat();
+    answers(&zones, &samples, &last_missing, 2, Ok(Some([20, 20])));
+    let of_one_level = list(&[[30, 100, 3]]);
+    answers(&zones, &of_one_level, &percent(10), 0, refused(Joint));
+}
+
 /// Tries nodes that are zones and samples: none is inside itself.
 #[test]
 fn a_node_of_both_lists() {
@@ -308,11 +325,12 @@ const SEEDS: u64 = 1 << 44;
 
 #[test]
 fn zones_with_a_reading_and_without_come_often() {
-    let mut seen = [0; 2];
+    let (mut seen, mut tally) = ([0; 2], Tally::default());
     each_case(SEEDS, 10_000, |random| {
-        let range = cases::zone_range(random, Ground::Heap);
+        let range = cases::zone_range(random, Ground::Heap, &mut tally);
         let kind = usize::from(range.bounds.is_some());
         seen[kind] += u64::from(range.verdict.answer == Taken);
     });
     assert!(seen.iter().all(|&times| times > 500), "without a reading and with one: {seen:?}");
+    tally.hold_kinds(&[Kind::Shared]);
 }

@@ -43,17 +43,21 @@ const ANYWHERE: [Fault; 5] = [
 ];
 
 /// The faults that a node can have that isn't the first.
-const AFTER_THE_FIRST: [Fault; 7] = [
+const AFTER_THE_FIRST: [Fault; 8] = [
     (Order, |list, index| list[index].start = list[index - 1].start),
     (Order, |list, index| list[index].document = list[index - 1].document - 1),
-    (Cross, |list, index| list[index].end = list[0].end),
+    (Cross, |list, index| list[index].end = list[0].end + 1),
     (Cross, |list, index| list[index].end = u32::MAX),
     (Cross, |list, index| {
         list[index].start = list[index - 1].end;
-        list[index].end = list[index].end.max(list[index].start);
+        list[index].end = list[index].end.max(list[index].start + 1);
     }),
     (Depth, |list, index| list[index].level = list[0].level),
     (Depth, |list, index| list[index].level = 1),
+    (Depth, |list, index| {
+        list[index].end = list[0].end;
+        list[index].level = list[0].level;
+    }),
 ];
 
 /// Runs the test on each list of `count` nodes that has a fault at this index, with the fault's

@@ -34,5 +34,5 @@ fn lines(case: &Case) -> Vec<String> {
 
 #[test]
 fn lists() {
-    each_case(CASES, 101, lines);
+    each_case(CASES, 140, lines);
 }

@@ -127,5 +127,5 @@ fn lines(case: &Case) -> Vec<String> {
 
 #[test]
 fn marks() {
-    each_case(CASES, 116, lines);
+    each_case(CASES, 125, lines);
 }

@@ -95,5 +95,5 @@ fn lines(case: &Case) -> Vec<String> {
 
 #[test]
 fn pairs() {
-    each_case(CASES, 333, lines);
+    each_case(CASES, 417, lines);
 }

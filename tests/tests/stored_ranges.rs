@@ -29,5 +29,5 @@ fn lines(case: &Case) -> Vec<String> {
 
 #[test]
 fn ranges() {
-    each_case(CASES, 108, lines);
+    each_case(CASES, 130, lines);
 }

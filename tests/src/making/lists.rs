@@ -1,6 +1,7 @@
 //! Lists of nodes.
 
 use super::misfit;
+use super::trees::tree;
 use crate::model::lists::MOST_LEVEL;
 use crate::model::nodes::{words, Node, NODE_WORDS};
 use crate::random::Random;
@@ -15,16 +16,18 @@ const SMALL: usize = 12;
 const LARGE: usize = 80;
 
 /// Returns fewer than `size` nodes of one document that are nested or apart, with positions from 0
-/// on. Levels may jump.
+/// on. Levels may jump. In every other document a node may end where the last node inside it ends.
 fn shape(random: &mut Random, size: usize) -> Vec<Node> {
     let mut nodes: Vec<Node> = Vec::with_capacity(size);
     let mut open: Vec<usize> = Vec::with_capacity(size);
     let mut position = 0;
+    let shares_ends = random.one_in(2);
     for _ in 0..random.below(size) {
         let level =
             open.last().map_or(0, |&index| nodes[index].level) + 1 + u32::from(random.one_in(6));
         let text = Node { document: 0, start: position, end: position, level };
-        match random.below(5) {
+        let choice = random.below(5);
+        match choice {
             0 | 1 => close(&mut nodes, open.pop(), position),
             2 => nodes.push(text),
             _ => {
@@ -32,11 +35,14 @@ fn shape(random: &mut Random, size: usize) -> Vec<Node> {
                 nodes.push(text);
             }
         }
+        while shares_ends && choice <= 2 && !open.is_empty() && random.one_in(2) {
+            close(&mut nodes, open.pop(), position);
+        }
         position += 1 + if random.one_in(3) { random.small(3) } else { 0 };
     }
     while !open.is_empty() {
         close(&mut nodes, open.pop(), position);
-        position += 1;
+        position += u32::from(!shares_ends || random.one_in(2));
     }
     nodes
 }
@@ -50,7 +56,7 @@ fn close(nodes: &mut [Node], index: Option<usize>, position: u32) {
 
 /// Puts nodes of one document somewhere among the 32-bit numbers: at the beginning, at the end, at
 /// both, in the middle or all over. Their levels lie at the beginning or at the end.
-fn settle(random: &mut Random, document: u32, nodes: &mut [Node]) {
+pub(super) fn settle(random: &mut Random, document: u32, nodes: &mut [Node]) {
     let last = nodes.iter().map(|node| node.end).max().unwrap_or(0);
     let deepest = nodes.iter().map(|node| node.level).max().unwrap_or(0);
     let raised = if random.one_in(4) { MOST_LEVEL - deepest } else { 0 };
@@ -75,35 +81,45 @@ fn settle(random: &mut Random, document: u32, nodes: &mut [Node]) {
     }
 }
 
-/// Returns the nodes of some whole documents, fewer than `size` of each. Any part of them is an
-/// accepted list, and any two parts agree.
+/// Returns the nodes of some whole documents, at most `size` of each. Any part of them is an
+/// accepted list, and any two parts agree. Some documents are numbered by order and size.
 pub fn family(random: &mut Random, size: usize) -> Vec<Node> {
     let mut nodes = Vec::new();
     for document in DOCUMENTS {
-        if random.one_in(3) {
-            let mut document_nodes = shape(random, size);
-            settle(random, document, &mut document_nodes);
-            nodes.extend(document_nodes);
+        match random.below(9) {
+            0 => nodes.extend(tree(random, document, size).nodes),
+            1 | 2 => {
+                let mut document_nodes = shape(random, size);
+                settle(random, document, &mut document_nodes);
+                nodes.extend(document_nodes);
+            }
+            _ => (),
         }
     }
     nodes
 }
 
-/// Returns a nest of as many zones as there are levels, or a few less. A text lies between any two
-/// on the way in, and now and then on the way out. It is a family too.
+/// Returns a nest of as many zones as there are levels, or a few less. Each ends before the one
+/// around it ends, or three at a time or all of them end at one position. A text lies between any
+/// two on the way in. Now and then there is one on the way out, at its zone's end or right before.
+/// It is a family too.
 fn deep_family(random: &mut Random) -> Vec<Node> {
     let zones = MOST_LEVEL - random.small(4);
+    let together = random.pick(&[1, 1, 3, MOST_LEVEL + 1]);
     let text = |start: u32, level: u32| Node { document: 5, start, end: start, level };
-    let last = 4 * zones;
+    let end = |level: u32| 4 * zones - 2 * (level / together * together) + 3;
     let mut nodes = Vec::new();
     for level in 1..=zones {
-        nodes.push(Node { document: 5, start: 2 * level, end: last - 2 * level + 3, level });
+        nodes.push(Node { document: 5, start: 2 * level, end: end(level), level });
         if level < MOST_LEVEL {
             nodes.push(text(2 * level + 1, level + 1));
         }
     }
-    for level in (1..zones).rev().filter(|_| random.one_in(4)) {
-        nodes.push(text(last - 2 * level + 2, level + 1));
+    let has_room = |&level: &u32| level == zones || end(level + 1) < end(level);
+    for level in (1..=zones.min(MOST_LEVEL - 1)).rev().filter(has_room) {
+        if random.one_in(4) {
+            nodes.push(text(end(level) - random.small(2), level + 1));
+        }
     }
     nodes
 }
@@ -122,6 +138,11 @@ pub fn nest(count: usize) -> Vec<Node> {
     (0..count as u32)
         .map(|depth| Node { document: 5, start: depth, end: 10_000 - depth, level: 1 + depth })
         .collect()
+}
+
+/// Returns such zones that all end at one position.
+pub fn nest_with_one_end(count: usize) -> Vec<Node> {
+    nest(count).into_iter().map(|zone| Node { end: 10_000, ..zone }).collect()
 }
 
 /// Returns `count` texts of document 5, side by side inside all those zones.
@@ -190,14 +211,34 @@ pub fn list(random: &mut Random) -> Vec<u32> {
     mostly_sound(random, nodes)
 }
 
+/// Gives a node the level of one of another list that ends where it ends, if there is such a node.
+fn level_at_an_end(random: &mut Random, list: &mut [Node], other: &[Node]) {
+    if list.is_empty() {
+        return;
+    }
+    let index = random.below(list.len());
+    let node = &mut list[index];
+    let there =
+        |x: &&Node| x.document == node.document && x.start != node.start && x.end == node.end;
+    let ending: Vec<Node> = other.iter().filter(there).copied().collect();
+    if !ending.is_empty() {
+        node.level = random.pick(&ending).level;
+    }
+}
+
 /// Returns ancestors and descendants that are mostly accepted and mostly agree. A node may stand in
 /// both.
 pub fn two_lists(random: &mut Random) -> (Vec<u32>, Vec<u32>) {
-    let (ancestors, descendants) = if random.one_in(4) {
+    let (mut ancestors, mut descendants) = if random.one_in(4) {
         (wild(random), wild(random))
     } else {
         let all = any_family(random);
         (some_of(random, &all), some_of(random, &all))
     };
+    match random.below(12) {
+        0 => level_at_an_end(random, &mut ancestors, &descendants),
+        1 => level_at_an_end(random, &mut descendants, &ancestors),
+        _ => (),
+    }
     (mostly_sound(random, ancestors), mostly_sound(random, descendants))
 }

@@ -57,7 +57,7 @@ pub fn check(words: &[u32]) -> Verdict {
 
 /// Tells whether two nodes of one document are at odds: some of their words differ, they aren't
 /// apart, and neither is inside the other with a higher level than it.
-fn at_odds(x: &Node, y: &Node) -> bool {
+pub fn at_odds(x: &Node, y: &Node) -> bool {
     let fits_into = |inner: &Node, outer: &Node| inside(inner, outer) && inner.level > outer.level;
     x.document == y.document && x != y && !apart(x, y) && !fits_into(x, y) && !fits_into(y, x)
 }

@@ -36,7 +36,7 @@ pub fn words(nodes: &[Node]) -> Vec<u32> {
 
 /// Tells whether y is inside x.
 pub fn inside(y: &Node, x: &Node) -> bool {
-    y.document == x.document && x.start < y.start && y.end < x.end
+    y.document == x.document && x.start < y.start && y.end <= x.end
 }
 
 /// Tells whether y is directly inside x.
