@@ -4,10 +4,13 @@
  * document and start. A listing joins two lists: the ancestors (zones) and the descendants
  * (samples).
  *
- * Node y is inside node x when both are of one document, x.start < y.start and y.end < x.end. It is
- * directly inside when also y.level == x.level + 1. A node isn't inside itself, and nothing is
+ * Node y is inside node x when both are of one document, x.start < y.start and y.end <= x.end. It
+ * is directly inside when also y.level == x.level + 1. A node isn't inside itself, and nothing is
  * inside a text, which ends where it starts. docs/SCOPE.md of the repository has all the rules;
  * this header says what a caller has to know of each call.
+ *
+ * In a list that is numbered by order and size, a node's start is its order, and its end is
+ * order + size.
  *
  * What the library does can be called in two ways:
  *

@@ -89,7 +89,7 @@ HINTS = {
         "start."
     ),
     Answer.CROSS: (
-        "Let the node end before that earlier node ends, or start after it ends."
+        "Let the node end no later than that earlier node ends, or start after it ends."
     ),
     Answer.DEPTH: (
         "Give the node a higher level than every node that it is inside, by one or by more."

@@ -8,6 +8,29 @@ use crate::table::Answer;
 use crate::ticket::Order;
 
 /// A zone, a sample, or whatever a list holds.
+///
+/// A node is inside another of its document that starts earlier, and ends at the same position or
+/// later. In a list that is numbered by order and size, a node's start is its order, and its end is
+/// order + size:
+///
+/// ```
+/// use belfrychest::{listing, Node, Order, Relation};
+///
+/// let node = |[order, size, level]: [u32; 3]| Node {
+///     document: 5,
+///     start: order,
+///     end: order + size,
+///     level,
+/// };
+/// let zones = [[1, 8, 1], [4, 2, 2], [7, 2, 2]].map(node);
+/// let samples = [[2, 0, 2], [5, 0, 3], [8, 0, 3]].map(node);
+///
+/// let pairs = listing(&zones, &samples, Relation::Inside, Order::Descendant)?;
+/// let starts: Vec<_> = pairs.iter().map(|p| (p.ancestor.start, p.descendant.start)).collect();
+///
+/// assert_eq!(starts, [(1, 2), (1, 5), (4, 5), (1, 8), (7, 8)]);
+/// # Ok::<(), belfrychest::Refusal>(())
+/// ```
 #[repr(C)]
 #[derive(Clone, Copy, Debug, Default, PartialEq, Eq, Hash)]
 pub struct Node {

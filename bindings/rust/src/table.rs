@@ -79,7 +79,10 @@ pub(crate) const ROWS: &[(Answer, &str)] = &[
         "Sort the list by document and start, and let no two nodes have the same document and \
         start.",
     ),
-    (Answer::Cross, "Let the node end before that earlier node ends, or start after it ends."),
+    (
+        Answer::Cross,
+        "Let the node end no later than that earlier node ends, or start after it ends.",
+    ),
     (
         Answer::Depth,
         "Give the node a higher level than every node that it is inside, by one or by more.",

@@ -189,6 +189,25 @@ fn checks() {
     assert_eq!(check_two(&[], &siblings(MOST_NODES + 1)), Err(long(DESCENDANTS)));
 }
 
+/// Tries lists by order and size, of which the last zone ends where the first does.
+#[test]
+fn a_list_by_order_and_size() -> Result<(), Refusal> {
+    let by_size = |[order, size, level]: [u32; 3]| node(order, order + size, level);
+    let zones = [[1, 8, 1], [4, 2, 2], [7, 2, 2]].map(by_size);
+    let samples = [[2, 0, 2], [5, 0, 3], [8, 0, 3]].map(by_size);
+    let listed = |relation, order| -> Result<Vec<(u32, u32)>, Refusal> {
+        Ok(listing(&zones, &samples, relation, order)?.into_iter().map(starts).collect())
+    };
+    let by_descendant = [(1, 2), (1, 5), (4, 5), (1, 8), (7, 8)];
+    let by_ancestor = [(1, 2), (1, 5), (1, 8), (4, 5), (7, 8)];
+    assert_eq!(listed(Relation::Inside, Order::Descendant)?, by_descendant);
+    assert_eq!(listed(Relation::Inside, Order::Ancestor)?, by_ancestor);
+    assert_eq!(listed(Relation::Directly, Order::Ancestor)?, [(1, 2), (4, 5), (7, 8)]);
+    assert_eq!(check(&[node(1, 5, 1), node(5, 7, 2)]), Err(refusal_at(Answer::Cross, 0, 1)));
+    assert_eq!(check_two(&zones, &[node(5, 9, 1)]), Err(refusal(Answer::Joint)));
+    Ok(())
+}
+
 #[test]
 fn the_faulty_part_is_a_part_of_the_list_itself() {
     assert_eq!(faulty(&ZONES, &SAMPLES), None);
