@@ -1,6 +1,7 @@
 /* Whether every twin answers and writes as the archive does: on all shapes, on lists at the limits
-   and on random small lists, most of which are damaged. agree CASES says how many random ones. A
-   difference is printed and ends it with 1. */
+   and on random small lists, most of which are damaged. In many of these a node ends where the one
+   around it ends. agree CASES says how many random ones. A difference is printed and ends it with
+   1. */
 #include "codes.h"
 #include "shapes.h"
 #include <stdio.h>
@@ -28,6 +29,9 @@ struct notes {
 static struct notes expected, found;
 static uint32_t out[MOST_PAIRS * BELFRY_PAIR_WORDS];
 static unsigned long seen[ANSWERS];
+/* How often the check of two gave each answer where a zone and a sample that start at two positions
+   end at one. */
+static unsigned long seen_at_an_end[ANSWERS];
 
 static void note(struct notes *notes, uint64_t number) {
     if (notes->count == MOST_NOTES) {
@@ -204,16 +208,19 @@ static void put_node(struct small *s, size_t list, uint32_t document, uint32_t s
 }
 
 /* Grows a random forest between two positions. Each of its nodes goes to one list, to both or to
- * none, and levels may jump. */
+ * none, and levels may jump. Many nodes end at the second position, which every third time is the
+ * end of the node around them. */
 static void grow(struct small *s, uint32_t document, uint32_t from, uint32_t to, uint32_t level) {
     while (from <= to && to - from < UINT32_MAX / 2 && level <= BELFRY_MOST_LEVELS) {
-        uint32_t start = from + below(to - from + 1) / 2, end = start + below(to - start + 1);
+        uint32_t start = from + below(to - from + 1) / 2;
+        uint32_t end = below(3) ? start + below(to - start + 1) : to;
+        uint32_t last = end - (end > start && below(3));
         uint32_t lists = below(4);
         for (size_t list = 0; list < SMALL_LISTS; list++)
             if (lists >> list & 1)
                 put_node(s, list, document, start, end, level);
-        if (end - start > 1)
-            grow(s, document, start + 1, end - 1, level + 1 + below(2));
+        if (last > start)
+            grow(s, document, start + 1, last, level + 1 + below(2));
         if (end == to)
             return;
         from = end + 1;
@@ -311,6 +318,18 @@ static void fill_readings(struct small *s) {
         s->reading[BELFRY_READING_WORDS * below(MOST_SMALL)] = below(5);
 }
 
+/* Tells whether a zone and a sample of one document start at two positions and end at one. */
+static int meet_at_an_end(const struct input *in) {
+    for (size_t i = 0; i < in->ancestor_words / BELFRY_NODE_WORDS; i++)
+        for (size_t j = 0; j < in->descendant_words / BELFRY_NODE_WORDS; j++) {
+            const uint32_t *zone = &in->ancestors[BELFRY_NODE_WORDS * i];
+            const uint32_t *sample = &in->descendants[BELFRY_NODE_WORDS * j];
+            if (zone[0] == sample[0] && zone[1] != sample[1] && zone[2] == sample[2])
+                return 1;
+        }
+    return 0;
+}
+
 static void compare_random(unsigned long number) {
     static struct small s;
     fill_lists(&s);
@@ -342,6 +361,10 @@ static void compare_random(unsigned long number) {
                    .second = below(24)},
     };
     compare(&in, "random case", number);
+    if (meet_at_an_end(&in))
+        seen_at_an_end[belfry_check_two(in.ancestors, in.ancestor_words, in.descendants,
+                                        in.descendant_words)
+                           .answer]++;
 }
 
 static void compare_shape(const char *name) {
@@ -372,16 +395,19 @@ static void compare_shape(const char *name) {
     compare(&in, name, BELFRY_MOST_NODES);
 }
 
-/* Compares lists and marks of as many words as are given. Their nodes are siblings, or a nest as
- * deep as levels go. */
-static void compare_limit(size_t words, size_t mark_words, int nested) {
+/* How the nodes of a list at a limit lie: side by side, each inside the one before, or so and all
+   with one end. */
+enum lie { SIBLINGS, NEST, NEST_WITH_ONE_END };
+
+/* Compares lists and marks of as many words as are given. */
+static void compare_limit(size_t words, size_t mark_words, enum lie lie) {
     static uint32_t list[BELFRY_NODE_WORDS * (BELFRY_MOST_NODES + 1)], mark[BELFRY_MOST_NODES + 1];
     static uint32_t readings[BELFRY_READING_WORDS * (BELFRY_MOST_NODES + 1)];
     static uint8_t book[CONTENTS_BYTES];
     build_readings(readings, BELFRY_MOST_NODES + 1, IN_TURN);
     for (uint32_t i = 0; i < words / BELFRY_NODE_WORDS; i++) {
-        uint32_t node[BELFRY_NODE_WORDS] = {5, 1 + 2 * i, nested ? UINT32_MAX - i : 2 + 2 * i,
-                                            nested ? 1 + i : 1};
+        const uint32_t ends[] = {2 + 2 * i, UINT32_MAX - i, UINT32_MAX};
+        uint32_t node[BELFRY_NODE_WORDS] = {5, 1 + 2 * i, ends[lie], lie == SIBLINGS ? 1 : 1 + i};
         memcpy(&list[BELFRY_NODE_WORDS * i], node, sizeof node);
     }
     for (size_t i = 0; i < mark_words; i++)
@@ -402,8 +428,8 @@ static void compare_limit(size_t words, size_t mark_words, int nested) {
     compare(&in, "the limits", words);
 }
 
-/* Tells whether some case drew each answer that the calls compared here can give, and prints those
- * that none drew. */
+/* Tells whether some case drew each answer that the calls compared here can give, and whether zones
+ * and samples that end at one position were taken and JOINT. Prints what none drew. */
 static int are_seen(void) {
     int all = 1;
     for (uint32_t answer = 0; answer < ANSWERS; answer++)
@@ -411,6 +437,10 @@ static int are_seen(void) {
             printf("no case was answered %u\n", answer);
             all = 0;
         }
+    if (seen_at_an_end[BELFRY_TAKEN] == 0 || seen_at_an_end[BELFRY_JOINT] == 0) {
+        printf("no zone and sample that end at one position were taken, or JOINT\n");
+        all = 0;
+    }
     return all;
 }
 
@@ -423,15 +453,20 @@ int main(int argc, char **argv) {
     for (size_t i = 0; i < SHAPES; i++)
         compare_shape(shape_names[i]);
     for (size_t nodes = BELFRY_MOST_NODES; nodes <= BELFRY_MOST_NODES + 1; nodes++)
-        compare_limit(BELFRY_NODE_WORDS * nodes, nodes, 0);
-    compare_limit(BELFRY_NODE_WORDS * BELFRY_MOST_NODES + 1, BELFRY_MOST_NODES, 0);
-    for (size_t nodes = BELFRY_MOST_LEVELS; nodes <= BELFRY_MOST_LEVELS + 1; nodes++)
-        compare_limit(BELFRY_NODE_WORDS * nodes, nodes, 1);
+        compare_limit(BELFRY_NODE_WORDS * nodes, nodes, SIBLINGS);
+    compare_limit(BELFRY_NODE_WORDS * BELFRY_MOST_NODES + 1, BELFRY_MOST_NODES, SIBLINGS);
+    for (size_t nodes = BELFRY_MOST_LEVELS; nodes <= BELFRY_MOST_LEVELS + 1; nodes++) {
+        compare_limit(BELFRY_NODE_WORDS * nodes, nodes, NEST);
+        compare_limit(BELFRY_NODE_WORDS * nodes, nodes, NEST_WITH_ONE_END);
+    }
     for (unsigned long i = 0; i < cases; i++)
         compare_random(i);
-    printf("%d twins answered and wrote as the archive did: %d shapes, 5 cases at the limits, %lu "
+    printf("%d twins answered and wrote as the archive did: %d shapes, 7 cases at the limits, %lu "
            "random cases.\n",
            CODES - 1, SHAPES, cases);
+    printf("A zone and a sample end at one position in %lu random cases that were taken, and in "
+           "%lu that were JOINT.\n",
+           seen_at_an_end[BELFRY_TAKEN], seen_at_an_end[BELFRY_JOINT]);
     printf("Answers by number:");
     for (size_t i = 0; i < ANSWERS; i++)
         printf(" %zu:%lu", i, seen[i]);

@@ -32,7 +32,7 @@ static inline int push_node(struct open **top, const struct stand *s) {
         return 0;
     while (t->end < s->start)
         t--;
-    if (t->end <= end || level <= t->level)
+    if (t->end < end || level <= t->level)
         return 0;
     t++;
     t->end = end;

@@ -8,7 +8,7 @@ MOST_ROUNDS, LEAST_ROUNDS, ENOUGH_NANOSECONDS = 201, 3, 10 ** 9
 
 def all_pairs(zones, samples):
     """Tests every zone against every sample. Returns the pairs in descendant order."""
-    return [(z, s) for s in samples for z in zones if z[0] == s[0] and z[1] < s[1] and s[2] < z[2]]
+    return [(z, s) for s in samples for z in zones if z[0] == s[0] and z[1] < s[1] and s[2] <= z[2]]
 
 
 def sweep_samples(zones, samples):

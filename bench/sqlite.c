@@ -61,14 +61,14 @@ static void fill(const char *table, const uint32_t *nodes, size_t count) {
     sqlite3_finalize(insert);
 }
 
-/* Returns the query for the listing inside in an order. That a sample starts before its zone ends
- * follows from how it ends; it lets the key end the search. */
+/* Returns the query for the listing inside in an order. That a sample starts no later than its zone
+ * ends follows from how it ends; it lets the key end the search. */
 static sqlite3_stmt *query(const char *order, const char *before) {
     char text[512];
     snprintf(text, sizeof text,
              "%s SELECT z.document, z.start, z.end, z.level, s.document, s.start, s.end, s.level"
              " FROM zones z CROSS JOIN samples s"
-             " ON s.first > z.first AND s.first < z.last AND s.last < z.last ORDER BY %s",
+             " ON s.first > z.first AND s.first <= z.last AND s.last <= z.last ORDER BY %s",
              before, strcmp(order, "ancestor") == 0 ? "z.first, s.first" : "s.first, z.first");
     return prepared(text);
 }

@@ -58,7 +58,7 @@ static inline struct node *open_at(struct node *stack, struct node *top, const s
 /* Puts the node on top of what is open at it. It is CROSS or DEPTH where that doesn't allow it. */
 static inline uint32_t open_node(struct node *stack, struct node **top, const struct node *n) {
     struct node *t = open_at(stack, *top, n);
-    if (t->end <= n->end && t > stack)
+    if (t->end < n->end)
         return BELFRY_CROSS;
     if (t->level >= n->level)
         return BELFRY_DEPTH;
@@ -246,7 +246,7 @@ static inline int is_reading(const struct reading *r) {
 
 static inline int is_inside(const struct node *inner, const struct node *outer) {
     return inner->document == outer->document && outer->start < inner->start &&
-           inner->end < outer->end;
+           inner->end <= outer->end;
 }
 
 /* Takes a present reading into a range. Of equal ones the earlier stays. */
