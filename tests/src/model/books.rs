@@ -55,7 +55,7 @@ pub fn numbers(bytes: &[u8]) -> Vec<u32> {
 }
 
 /// Returns the entries of a book whose contents break no rule.
-fn contents(book: &[u8]) -> Option<Vec<Entry>> {
+pub(super) fn contents(book: &[u8]) -> Option<Vec<Entry>> {
     let numbers = numbers(book);
     let lists = *numbers.first()? as usize;
     if lists > MOST_LISTS || book.len() < contents_end(lists) {
