@@ -438,7 +438,8 @@ static int are_seen(void) {
             all = 0;
         }
     if (seen_at_an_end[BELFRY_TAKEN] == 0 || seen_at_an_end[BELFRY_JOINT] == 0) {
-        printf("no zone and sample that end at one position were taken, or JOINT\n");
+        printf("of the zones and samples that end at one position "
+               "none were taken, or none were JOINT\n");
         all = 0;
     }
     return all;

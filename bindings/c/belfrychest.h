@@ -10,7 +10,7 @@
  * this header says what a caller has to know of each call.
  *
  * In a list that is numbered by order and size, a node's start is its order, and its end is
- * order + size.
+ * order + size, which must fit 32 bits.
  *
  * What the library does can be called in two ways:
  *

@@ -5,14 +5,22 @@ import unittest
 from array import array
 
 from support import (
-    BOOK, ENTRIES, INSIDE, LISTINGS, MARKS, S, TABLE, Z, figure_books, in_five, model, painted,
-    starts, ticket, words,
+    BOOK, E, ENTRIES, INSIDE, LISTINGS, MARKS, S, T, TABLE, Z, figure_books, in_five, model,
+    painted, starts, ticket, words,
 )
 
 import belfrychest as belfry
 from belfrychest import (
-    HINTS, NONE, Answer, Grams, Node, Page, Percent, Range, Refused, Verdict,
+    HINTS, NONE, Answer, Grams, Node, Order, Page, Percent, Range, Refused, Relation, Ticket,
+    Verdict,
 )
+
+
+def page_of(ancestors, descendants, given, room):
+    """Returns the starts of a page's pairs, whether it was done, and the ticket for the next."""
+    out = painted(8 * room)
+    page = belfry.page(ancestors, descendants, given, out)
+    return starts(belfry.node_pairs(out[:8 * page.count])), page.done, page.ticket
 
 
 class Figures(unittest.TestCase):
@@ -34,9 +42,11 @@ class Figures(unittest.TestCase):
         self.assertEqual(next(belfry.pairs(Z, S)), (Node(5, 2, 10, 2), Node(5, 4, 6, 4)))
 
     def test_a_list_by_order_and_size(self):
-        ranges, points = (
+        ranges, points = ((1, 8, 1), (4, 2, 2), (7, 2, 2)), ((2, 0, 2), (5, 0, 3), (8, 0, 3))
+        ranges, points, both = (
             in_five(*((order, order + size, level) for order, size, level in nodes))
-            for nodes in (((1, 8, 1), (4, 2, 2), (7, 2, 2)), ((2, 0, 2), (5, 0, 3), (8, 0, 3))))
+            for nodes in (ranges, points, sorted(ranges + points)))
+        self.assertEqual(belfry.verdict(both), Verdict(Answer.TAKEN, None, None))
         expected = [[(1, 2), (1, 5), (4, 5), (1, 8), (7, 8)],
                     [(1, 2), (1, 5), (1, 8), (4, 5), (7, 8)],
                     [(1, 2), (4, 5), (7, 8)], [(1, 2), (4, 5), (7, 8)]]
@@ -45,19 +55,27 @@ class Figures(unittest.TestCase):
             self.assertEqual(starts(belfry.pairs(ranges, points, **which, room=1)), pairs)
 
     def test_zones_that_end_at_one_position(self):
-        zones, samples = in_five((1, 9, 1), (3, 9, 2), (5, 9, 3)), in_five((6, 8, 4), (9, 9, 4))
-        expected = [[(1, 6), (3, 6), (5, 6), (1, 9), (3, 9), (5, 9)],
-                    [(1, 6), (1, 9), (3, 6), (3, 9), (5, 6), (5, 9)],
-                    [(5, 6), (5, 9)], [(5, 6), (5, 9)]]
+        expected = [[(1, 3), (2, 3), (1, 6), (2, 6), (4, 6), (5, 6), (1, 9)],
+                    [(1, 3), (1, 6), (1, 9), (2, 3), (2, 6), (4, 6), (5, 6)],
+                    [(2, 3), (5, 6), (1, 9)], [(1, 9), (2, 3), (5, 6)]]
         for which, pairs in zip(LISTINGS, expected):
-            self.assertEqual(starts(belfry.pairs(zones, samples, **which, room=1)), pairs)
-        self.assertEqual(belfry.links(zones + samples).tolist(), [
-            NONE, 1, NONE, 0, 2, NONE, 1, 3, NONE, 2, NONE, 4, 2, NONE, NONE])
-        readings = [Percent(4.0), Percent(2.0)]
-        self.assertEqual([belfry.zone_range(zones, samples, readings, zone) for zone in range(3)],
-                         [(2.0, 4.0)] * 3)
-        odd = in_five((7, 9, 3))
-        self.assertEqual(belfry.verdict_two(zones, odd), Verdict(Answer.JOINT, None, None))
+            self.assertEqual(starts(belfry.pairs(E, T, **which)), pairs)
+            self.assertEqual(starts(belfry.pairs(E, T, **which, room=1)), pairs)
+        readings = [Percent(10.0), Percent(20.0), Percent(30.0)]
+        self.assertEqual([belfry.zone_range(E, T, readings, zone) for zone in range(4)],
+                         [(10.0, 30.0), (10.0, 20.0), (20.0, 20.0), (20.0, 20.0)])
+
+    def test_pages_that_stop_between_zones_with_one_end(self):
+        for order, room, first, second in (
+            (Order.DESCENDANT, 4, [(1, 3), (2, 3), (1, 6), (2, 6)], [(4, 6), (5, 6), (1, 9)]),
+            (Order.ANCESTOR, 5, [(1, 3), (1, 6), (1, 9), (2, 3), (2, 6)], [(4, 6), (5, 6)]),
+        ):
+            fresh = Ticket.fresh(relation=Relation.INSIDE, order=order)
+            *found, reached = page_of(E, T, fresh, room)
+            self.assertEqual(found, [first, False])
+            for zones in (E, E[:4] + E[8:]):
+                *found, _ = page_of(zones, T, reached, room)
+                self.assertEqual(found, [second, True])
 
     def test_pages_of_two(self):
         out = painted(17)
@@ -92,6 +110,8 @@ class Figures(unittest.TestCase):
 
     def test_links(self):
         self.assertEqual(belfry.links(Z).tolist(), [NONE, 1, NONE, 0, NONE, NONE])
+        self.assertEqual(belfry.links(E).tolist(),
+                         [NONE, 1, NONE, 0, 2, NONE, 1, 3, NONE, 2, NONE, NONE])
 
     def test_the_book(self):
         book = belfry.book_write(ENTRIES, Z + S)
@@ -112,8 +132,8 @@ class Figures(unittest.TestCase):
             (((1, 9, 1), (7, 9, 2)), Answer.TAKEN, None),
             (((1, 9, 1), (7, 8, 2)), Answer.TAKEN, None),
             (((1, 9, 1), (7, 10, 2)), Answer.CROSS, 1), (((1, 9, 1), (7, 9, 1)), Answer.DEPTH, 1),
-            (((1, 9, 3), (2, 3, 3)), Answer.DEPTH, 1), (((2, 2, 64),), Answer.TAKEN, None),
-            (((2, 2, 65),), Answer.LEVEL, 0),
+            (((1, 9, 3), (2, 3, 3)), Answer.DEPTH, 1), (((1, 9, 2), (7, 9, 2)), Answer.DEPTH, 1),
+            (((2, 2, 64),), Answer.TAKEN, None), (((2, 2, 65),), Answer.LEVEL, 0),
         ):
             with self.subTest(nodes=nodes):
                 only, second = (None, None) if index is None else (0, 1)
@@ -121,6 +141,15 @@ class Figures(unittest.TestCase):
                 self.assertEqual(found, Verdict(answer, only, index))
                 found = belfry.verdict_two(array("I"), in_five(*nodes))
                 self.assertEqual(found, Verdict(answer, second, index))
+
+    def test_verdicts_of_two_lists(self):
+        for node, answer in (
+            ((4, 12, 2), Answer.JOINT), ((4, 9, 1), Answer.JOINT), ((1, 9, 2), Answer.JOINT),
+            ((4, 9, 2), Answer.TAKEN),
+        ):
+            with self.subTest(node=node):
+                found = belfry.verdict_two(in_five((1, 9, 1)), in_five(node))
+                self.assertEqual(found, Verdict(answer, None, None))
 
     def test_a_list_of_the_greatest_length(self):
         most = memoryview(words(figure_books.siblings(belfry.MOST, 2)))

@@ -1,4 +1,5 @@
-//! The figures of docs/SCOPE.md, word for word, of the library and of the model alike.
+//! The figures of docs/SCOPE.md, word for word, of the library and of the model alike. Lengths are
+//! tried in `limits.rs`, and most figures of readings in `ranges.rs`.
 
 use belfrychest::raw::{self, Ticket};
 use outside::asking::{self, TAKEN};
@@ -25,6 +26,17 @@ fn zones() -> Vec<u32> {
 
 fn samples() -> Vec<u32> {
     list(&[[4, 6, 4], [8, 9, 3]])
+}
+
+/// Returns the zones that the scope calls E, of which three end at 6.
+fn zones_with_one_end() -> Vec<u32> {
+    list(&[[1, 9, 1], [2, 6, 2], [4, 6, 3], [5, 6, 4]])
+}
+
+/// Returns the samples T. The second stands where those three zones end, and the third where the
+/// first zone ends.
+fn samples_at_ends() -> Vec<u32> {
+    list(&[[3, 3, 3], [6, 6, 5], [9, 9, 2]])
 }
 
 fn ticket(relation: u32, order: u32) -> Ticket {
@@ -102,10 +114,14 @@ fn by_order_and_size(nodes: &[[u32; 3]]) -> Vec<u32> {
 }
 
 /// Tries the ranges and points of Li and Moon, of which the last range ends where the first does.
+/// All six make one list too.
 #[test]
 fn a_list_by_order_and_size() {
-    let ranges = by_order_and_size(&[[1, 8, 1], [4, 2, 2], [7, 2, 2]]);
-    let points = by_order_and_size(&[[2, 0, 2], [5, 0, 3], [8, 0, 3]]);
+    let both = [[[1, 8, 1], [4, 2, 2], [7, 2, 2]], [[2, 0, 2], [5, 0, 3], [8, 0, 3]]];
+    let mut all = both.concat();
+    all.sort_by_key(|&[order, ..]| order);
+    assert_eq!(asking::check(&by_order_and_size(&all)), Taken);
+    let [ranges, points] = both.map(|nodes| by_order_and_size(&nodes));
     let listed = |relation, order| page(&ranges, &points, ticket(relation, order), 6).0;
     assert_eq!(asking::check_two(&ranges, &points), Taken);
     assert_eq!(listed(0, 0), [[1, 2], [1, 5], [4, 5], [1, 8], [7, 8]]);
@@ -114,28 +130,45 @@ fn a_list_by_order_and_size() {
     assert_eq!(listed(1, 1), [[1, 2], [4, 5], [7, 8]]);
 }
 
-/// Follows both listings of three zones that end at one position, page by page of one pair. The
-/// last sample is a text where they end, and the innermost zone is the parent of what comes after
-/// it.
+/// Follows each listing of three zones that end at one position: all at once, and pair by pair.
 #[test]
 fn three_zones_that_end_at_one_position() {
-    let zones = list(&[[1, 9, 1], [3, 9, 2], [5, 9, 3]]);
-    let samples = list(&[[6, 8, 4], [9, 9, 4]]);
-    let by_descendant = [[1, 6], [3, 6], [5, 6], [1, 9], [3, 9], [5, 9]];
-    let by_ancestor = [[1, 6], [1, 9], [3, 6], [3, 9], [5, 6], [5, 9]];
-    for (order, pairs) in [(0, by_descendant), (1, by_ancestor)] {
-        let mut next = ticket(0, order);
-        for (place, pair) in pairs.into_iter().enumerate() {
+    let (zones, samples) = (zones_with_one_end(), samples_at_ends());
+    let listings = [
+        (0, 0, vec![[1, 3], [2, 3], [1, 6], [2, 6], [4, 6], [5, 6], [1, 9]]),
+        (0, 1, vec![[1, 3], [1, 6], [1, 9], [2, 3], [2, 6], [4, 6], [5, 6]]),
+        (1, 0, vec![[2, 3], [5, 6], [1, 9]]),
+        (1, 1, vec![[1, 9], [2, 3], [5, 6]]),
+    ];
+    for (relation, order, pairs) in listings {
+        let mut next = ticket(relation, order);
+        assert_eq!(page(&zones, &samples, next, 8).0, pairs);
+        for (place, &pair) in pairs.iter().enumerate() {
             let (listed, done, after) = page(&zones, &samples, next, 1);
             assert_eq!((listed, done), (vec![pair], place + 1 == pairs.len()));
             next = after;
         }
-        assert_eq!(page(&zones, &samples, ticket(1, order), 6).0, [[5, 6], [5, 9]]);
     }
-    let mut links = [0; 15];
-    assert_eq!(asking::links(&[zones, samples].concat(), &mut links), Taken);
-    assert_eq!(links[..9], [NONE, 1, NONE, 0, 2, NONE, 1, 3, NONE]);
-    assert_eq!(links[9..], [2, NONE, 4, 2, NONE, NONE]);
+}
+
+/// Follows two pages, of which the first stops between zones that end at one position. The second
+/// is the same if the last zone handed out is removed in between.
+#[test]
+fn pages_that_stop_between_zones_with_one_end() {
+    let (zones, samples) = (zones_with_one_end(), samples_at_ends());
+    let fewer_zones = list(&[[1, 9, 1], [4, 6, 3], [5, 6, 4]]);
+    let pages = [
+        (0, 4, vec![[1, 3], [2, 3], [1, 6], [2, 6]], vec![[4, 6], [5, 6], [1, 9]]),
+        (1, 5, vec![[1, 3], [1, 6], [1, 9], [2, 3], [2, 6]], vec![[4, 6], [5, 6]]),
+    ];
+    for (order, room, first, second) in pages {
+        let (listed, done, next) = page(&zones, &samples, ticket(0, order), room);
+        assert_eq!((listed, done), (first, false));
+        for zones in [&zones, &fewer_zones] {
+            let (listed, done, _) = page(zones, &samples, next, room);
+            assert_eq!((listed, done), (second.clone(), true));
+        }
+    }
 }
 
 #[test]
@@ -151,9 +184,9 @@ fn zones_joined_with_themselves() {
     assert_eq!(page(&zones(), &zones(), ticket(0, 0), 4).0, [[2, 3]]);
 }
 
-/// Returns what a zone of the example answers: the bits of its low and high, or none.
-fn range(readings: [u32; 4], zone: u32) -> Option<[u32; 2]> {
-    let expected = asking::zone_range(&zones(), &samples(), &readings, zone);
+/// Returns what a zone answers: the bits of its low and high, or none.
+fn range(zones: &[u32], samples: &[u32], readings: &[u32], zone: u32) -> Option<[u32; 2]> {
+    let expected = asking::zone_range(zones, samples, readings, zone);
     assert_eq!(expected.verdict.answer, Taken);
     expected.bounds.map(|bounds| bounds.map(f32::to_bits))
 }
@@ -164,11 +197,24 @@ fn range(readings: [u32; 4], zone: u32) -> Option<[u32; 2]> {
 fn a_zone_without_a_reading_has_none() {
     let [percent, grams] = [4.5_f32, 38.0].map(f32::to_bits);
     let [low, high] = [3.8_f32, 4.5].map(f32::to_bits);
-    assert_eq!(range([1, percent, 2, grams], 0), Some([low, high]));
-    assert_eq!(range([1, percent, 2, grams], 1), Some([high, high]));
-    assert_eq!(range([0, 0, 2, grams], 0), Some([low, low]));
-    assert_eq!(range([0, 0, 2, grams], 1), None);
-    assert_eq!(range([1, 0, 2, grams], 1), Some([0, 0]));
+    let of_zone = |readings: [u32; 4], zone| range(&zones(), &samples(), &readings, zone);
+    assert_eq!(of_zone([1, percent, 2, grams], 0), Some([low, high]));
+    assert_eq!(of_zone([1, percent, 2, grams], 1), Some([high, high]));
+    assert_eq!(of_zone([0, 0, 2, grams], 0), Some([low, low]));
+    assert_eq!(of_zone([0, 0, 2, grams], 1), None);
+    assert_eq!(of_zone([1, 0, 2, grams], 1), Some([0, 0]));
+}
+
+/// Gives the samples 10, 20 and 30 percent. Only the two outer zones have the first of them.
+#[test]
+fn ranges_of_zones_with_one_end() {
+    let [ten, twenty, thirty] = [10.0_f32, 20.0, 30.0].map(f32::to_bits);
+    let readings = [1, ten, 1, twenty, 1, thirty];
+    let expected = [[ten, thirty], [ten, twenty], [twenty, twenty], [twenty, twenty]];
+    for (zone, bounds) in expected.into_iter().enumerate() {
+        let found = range(&zones_with_one_end(), &samples_at_ends(), &readings, zone as u32);
+        assert_eq!(found, Some(bounds));
+    }
 }
 
 #[test]
@@ -176,6 +222,9 @@ fn links_of_the_zones() {
     let mut out = [0; 6];
     assert_eq!(asking::links(&zones(), &mut out), Taken);
     assert_eq!(out, [NONE, 1, NONE, 0, NONE, NONE]);
+    let mut out = [0; 12];
+    assert_eq!(asking::links(&zones_with_one_end(), &mut out), Taken);
+    assert_eq!(out, [NONE, 1, NONE, 0, 2, NONE, 1, 3, NONE, 2, NONE, NONE]);
 }
 
 #[test]
@@ -199,11 +248,18 @@ fn lists_that_cross_or_sink() {
     draws(&[[1, 9, 1], [7, 9, 2]], Taken, 0);
     draws(&[[1, 9, 1], [7, 8, 2]], Taken, 0);
     draws(&[[1, 9, 3], [2, 3, 3]], Depth, 1);
+    draws(&[[1, 9, 2], [7, 9, 2]], Depth, 1);
     draws(&[[2, 2, 64]], Taken, 0);
     draws(&[[2, 2, 65]], Level, 0);
-    assert_eq!(asking::check_two(&list(&[[1, 9, 1]]), &list(&[[4, 12, 2]])), Joint);
-    assert_eq!(asking::check_two(&list(&[[1, 9, 1]]), &list(&[[4, 9, 2]])), Taken);
-    assert_eq!(asking::check_two(&list(&[[1, 9, 1]]), &list(&[[4, 9, 1]])), Joint);
+}
+
+#[test]
+fn lists_that_disagree() {
+    let with = |descendant| asking::check_two(&list(&[[1, 9, 1]]), &list(&[descendant]));
+    for descendant in [[4, 12, 2], [4, 9, 1], [1, 9, 2]] {
+        assert_eq!(with(descendant), Joint, "{descendant:?}");
+    }
+    assert_eq!(with([4, 9, 2]), Taken);
 }
 
 #[test]

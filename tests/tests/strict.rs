@@ -41,6 +41,7 @@ impl Seen {
     /// Holds the library's verdict against that of the stricter rule. Tells whether both accept.
     /// They answer the same, unless the stricter rule answers CROSS or JOINT. Of what the library
     /// accepts, the stricter rule refuses exactly that in which two nodes of a list share an end.
+    /// Where two lists are checked together, the nodes of both count as one list.
     fn hold(&mut self, strict: Verdict, given: raw::Verdict, lists: &[Vec<Node>]) -> bool {
         let (same, taken) = (given == raw_verdict(strict), given == TAKEN);
         let is_earlier = (given.list, given.index) < (strict.list, strict.index);

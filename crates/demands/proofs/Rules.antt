@@ -14,7 +14,10 @@ use Rattle.nodes.specs.Node.{insideb}
 use Rattle.nodes.specs.Words.{nodes}
 use Rattle.lists.specs.Check.{checkWords}
 use Rattle.lists.specs.Two.{checkTwo}
-use Rattle.books.specs.Book.{bookVerdict}
+use Rattle.numbers.specs.Little.{numbers}
+use Rattle.contents.specs.declared.entry.Entry.{Entry}
+use Rattle.contents.specs.Contents.{contentsOf}
+use Rattle.books.specs.Book.{bodyOf, nodesOf, bookVerdict}
 use Rattle.tickets.specs.Listing.{listing}
 use Rattle.tickets.specs.Ticket.{Asked}
 use Rattle.forest.specs.Links.{linksOf}
@@ -23,21 +26,26 @@ use Rattle.rules.specs.Checks.{checkWordsBy, checkTwoBy, bookVerdictBy}
 use Rattle.rules.specs.Forest.{linksBy}
 use Rattle.rules.specs.Pairs.{listingBy}
 use Rattle.rules.proofs.Own.{own-check, own-check-two, own-book, own-listing, own-links}
-use Rattle.rules.proofs.Kept.{still-taken, two-still-taken, book-still-taken, same-listing, same-links, two-agree, newly-taken-iff}
+use Rattle.rules.proofs.Kept.{strict-taken, strict-two-taken, strict-book-taken, same-listing, same-links, book-links, two-agree, strict-taken-iff}
 
--- The checks, the listing and the links over any rule are the library's, where the rule is its own.
+-- Where the rule is the library's own:
+-- the check of a list over any rule is the library's,
 pub own-rule-own-check : (words : List ℕ) → checkWordsBy insideb words ≡ checkWords words
 own-rule-own-check words = own-check words
 
+-- so is the check of two lists,
 pub own-rule-own-check-of-two : (ancestors descendants : List ℕ) → checkTwoBy insideb ancestors descendants ≡ checkTwo ancestors descendants
 own-rule-own-check-of-two ancestors descendants = own-check-two ancestors descendants
 
+-- so is the check of a book,
 pub own-rule-own-book : (book : List ℕ) → bookVerdictBy insideb book ≡ bookVerdict book
 own-rule-own-book book = own-book book
 
+-- so is the listing,
 pub own-rule-own-listing : (ask : Asked) (ancestors descendants : List Node) → listingBy insideb ask ancestors descendants ≡ listing ask ancestors descendants
 own-rule-own-listing ask ancestors descendants = own-listing ask ancestors descendants
 
+-- and so are the links.
 pub own-rule-own-links : (list : List Node) → linksBy insideb list ≡ linksOf list
 own-rule-own-links list = own-links list
 
@@ -45,7 +53,7 @@ own-rule-own-links list = own-links list
 module _ (words : List ℕ) (accepted : checkWordsBy strictb words .answer ≡ TAKEN) where
   -- It is accepted,
   pub strict-list-is-accepted : checkWords words .answer ≡ TAKEN
-  strict-list-is-accepted = still-taken words accepted
+  strict-list-is-accepted = strict-taken words accepted
 
   -- and has the same links by both rules.
   pub strict-list-has-its-links : linksOf (nodes words) ≡ linksBy strictb (nodes words)
@@ -55,9 +63,9 @@ module _ (words : List ℕ) (accepted : checkWordsBy strictb words .answer ≡ T
 module _ (ancestors descendants : List ℕ) (accepted : checkTwoBy strictb ancestors descendants .answer ≡ TAKEN) where
   -- They are accepted together,
   pub strict-lists-are-accepted : checkTwo ancestors descendants .answer ≡ TAKEN
-  strict-lists-are-accepted = two-still-taken ancestors descendants accepted
+  strict-lists-are-accepted = strict-two-taken ancestors descendants accepted
 
-  -- both rules say the same of each ancestor and each descendant,
+  -- both rules say the same of whether a descendant is inside an ancestor,
   pub rules-agree : (x y : Node) → In x (nodes ancestors) → In y (nodes descendants) → insideb y x ≡ strictb y x
   rules-agree x y i j = two-agree ancestors descendants accepted x y i j
 
@@ -65,12 +73,25 @@ module _ (ancestors descendants : List ℕ) (accepted : checkTwoBy strictb ances
   pub strict-lists-have-their-pairs : (ask : Asked) → listing ask (nodes ancestors) (nodes descendants) ≡ listingBy strictb ask (nodes ancestors) (nodes descendants)
   strict-lists-have-their-pairs ask = same-listing ancestors descendants accepted ask
 
--- A book that the stricter rule accepts is accepted.
-pub strict-book-is-accepted : (book : List ℕ) → bookVerdictBy strictb book .answer ≡ TAKEN → bookVerdict book .answer ≡ TAKEN
-strict-book-is-accepted book accepted = book-still-taken book accepted
+-- Of a book that the stricter rule accepts:
+module _ (book : List ℕ) (accepted : bookVerdictBy strictb book .answer ≡ TAKEN) where
+  -- It is accepted,
+  pub strict-book-is-accepted : bookVerdict book .answer ≡ TAKEN
+  strict-book-is-accepted = strict-book-taken book accepted
+
+  -- and each of its lists has the same links by both rules.
+  pub strict-book-has-its-links : (e : Entry) → In e (contentsOf book) → linksOf (nodesOf book e) ≡ linksBy strictb (nodesOf book e)
+  strict-book-has-its-links e i = book-links book accepted e i
+
+-- Any two lists of a book that the stricter rule accepts together have the same pairs by both
+-- rules.
+pub strict-book-has-its-pairs : (book : List ℕ) (e f : Entry) → checkTwoBy strictb (numbers (bodyOf book e)) (numbers (bodyOf book f)) .answer ≡ TAKEN
+    → (ask : Asked) → listing ask (nodesOf book e) (nodesOf book f) ≡ listingBy strictb ask (nodesOf book e) (nodesOf book f)
+unfolding nodesOf
+strict-book-has-its-pairs book e f accepted ask = same-listing (numbers (bodyOf book e)) (numbers (bodyOf book f)) accepted ask
 
 -- The stricter rule accepts exactly the accepted lists in which each node that is inside another
--- also ends before it.
-pub accepted-by-the-strict-rule : (words : List ℕ) → (checkWordsBy strictb words .answer ≡ TAKEN)
+-- ends before that one ends.
+pub accepted-by-the-stricter-rule : (words : List ℕ) → (checkWordsBy strictb words .answer ≡ TAKEN)
     ↔ ((checkWords words .answer ≡ TAKEN) × ((x y : Node) → In x (nodes words) → In y (nodes words) → insideb y x ≡ true → y .end < x .end))
-accepted-by-the-strict-rule words = newly-taken-iff words
+accepted-by-the-stricter-rule words = strict-taken-iff words

@@ -9,7 +9,7 @@ use Prim.Native.Nat.{ℕ, _+_, _%_, _≤_, _<_}
 use lib.ListN.{length}
 use Rattle.answers.specs.Answer.{TAKEN}
 use Rattle.laws.specs.Choose.{EveryTwo, In, Part}
-use Rattle.nodes.specs.Node.{insideb}
+use Rattle.nodes.specs.Node.{insideb, directlyb}
 use Rattle.nodes.specs.Words.{NODE-WORDS, MOST-NODES, nodes, count}
 use Rattle.lists.specs.Check.{checkWords}
 use Rattle.lists.specs.Two.{checkTwo}
@@ -18,18 +18,17 @@ use Rattle.tickets.specs.declared.ticket.Relation.the-variants.{Inside}
 use Rattle.tickets.specs.Listing.{Pair, listing}
 use Rattle.tickets.specs.Ticket.{asked}
 use Rattle.trees.specs.Example.{example}
-use Rattle.trees.specs.Tree.{Label, Siblings, labels, Ancestor, Numbered, nodeOf, listOf, treeWords, AncestorOf}
-use Rattle.trees.proofs.Accepted.{tree-taken, inside-ancestor, inside-range, parts-taken, listed-ancestor}
+use Rattle.trees.specs.Tree.{Label, Siblings, labels, Parent, Ancestor, Numbered, nodeOf, listOf, treeWords, AncestorOf}
+use Rattle.trees.proofs.Accepted.{list-in-order, tree-taken, inside-ancestor, inside-range, directly-parent, parts-taken, listed-ancestor}
 use Rattle.trees.proofs.Made.{example-numbered}
-use Rattle.trees.proofs.Ordered.{in-order}
 
 -- Of a tree that is numbered by order and size, and lent as a list of any document:
 module _ (document : ℕ) (t : Siblings) (numbered : Numbered t) where
   -- The list has the nodes in their order.
-  pub tree-is-in-order : EveryTwo (λ x y. x .order < y .order) (labels t)
-  tree-is-in-order = in-order t numbered
+  pub tree-is-in-order : EveryTwo (λ m n. m .start < n .start) (listOf document t)
+  tree-is-in-order = list-in-order document t numbered
 
-  -- Where it has no more nodes than 4,096, it is accepted.
+  -- If it has at most 4,096 nodes, it is accepted.
   pub tree-is-accepted : length (labels t) ≤ MOST-NODES → checkWords (treeWords document t) .answer ≡ TAKEN
   tree-is-accepted few = tree-taken document t numbered few
 
@@ -44,8 +43,14 @@ module _ (document : ℕ) (t : Siblings) (numbered : Numbered t) where
       → (insideb (nodeOf document y) (nodeOf document x) ≡ true) ↔ ((x .order < y .order) × (y .order ≤ x .order + x .size))
   inside-as-the-paper-tests x y i j = inside-range document t numbered x y i j
 
-  -- Any two lists of its nodes, with no more than 4,096 each, are accepted together, however large
-  -- the tree is.
+  -- Where each level is one above the parent's, one node is directly inside another exactly when
+  -- that one is its parent.
+  pub directly-exactly-a-child : ((x y : Label) → Parent x y t → y .level ≡ x .level + 1)
+      → (x y : Label) → In x (labels t) → In y (labels t) → (directlyb (nodeOf document y) (nodeOf document x) ≡ true) ↔ Parent x y t
+  directly-exactly-a-child even x y i j = directly-parent document t numbered even x y i j
+
+  -- Any two lists of some of its nodes, in their order and with at most 4,096 each, are accepted
+  -- together, however large the tree is.
   pub lists-of-a-tree-are-accepted : (ancestors descendants : List ℕ)
       → length ancestors % NODE-WORDS ≡ 0 → count ancestors ≤ MOST-NODES → Part (nodes ancestors) (listOf document t)
       → length descendants % NODE-WORDS ≡ 0 → count descendants ≤ MOST-NODES → Part (nodes descendants) (listOf document t)

@@ -1,6 +1,6 @@
 -- docs/SCOPE.md, "Figures to hold against it": the cases marked [P] and some of our own, as rows of
 -- one table. Each row has its number above it.
-use Prim.Native.Nat.{ℕ, _+_, _*_}
+use Prim.Native.Nat.{ℕ, _*_}
 use mathlib.Core.Bool.{Bool, true, false, cond, _&&_}
 use mathlib.Core.List.{List, [], _∷_, _++_, map, flatMap}
 use lib.Dec.{eqb}
@@ -29,8 +29,8 @@ use Rattle.tickets.specs.declared.ticket.Ticket.{Ticket}
 use Rattle.tickets.specs.PairWords.{PAIR-WORDS}
 use Rattle.tickets.specs.Ticket.{keyWith, numbersOf, asked, ticketAt}
 use Rattle.pairs.specs.Calls.{Call, answer, shown}
-use Rattle.trees.specs.Example.{example}
-use Rattle.trees.specs.Tree.{Siblings, treeWords}
+use Rattle.trees.specs.Example.{label, example}
+use Rattle.trees.specs.Tree.{Label, Siblings, nodeOf, treeWords}
 use Rattle.marks.specs.Mark.{TEXT}
 use Rattle.marks.specs.Outcome.{numberOutcome, numberOutput, unnumberOutcome, unnumberOutput, pickOutcome, pickOutput}
 use Rattle.marks.specs.Table.{ROW-WORDS}
@@ -128,18 +128,17 @@ Z = (2, 10, 2) ∷ (3, 7, 3) ∷ []
 abbrev pub S : Nodes
 S = (4, 6, 4) ∷ (8, 9, 3) ∷ []
 
--- Nodes as Li and Moon number them, each given as (order, size, level): the order is the start, and
--- order and size together are the end.
-abbrev pub sized : Nodes → Nodes
+-- The nodes of labels, each a label of order, size and level.
+abbrev pub sized : List Label → Nodes
 sized [] = []
-sized (n ∷ ns) = (n .0, n .0 + n .1, n .2) ∷ sized ns
+sized (x ∷ xs) = (nodeOf 5 x .start, nodeOf 5 x .end, nodeOf 5 x .level) ∷ sized xs
 
--- The ranges and the points of the scope's "Order and size".
+-- The scope's ranges and points, numbered by order and size.
 abbrev pub ranges : Nodes
-ranges = sized ((1, 8, 1) ∷ (4, 2, 2) ∷ (7, 2, 2) ∷ [])
+ranges = sized (label 1 8 1 ∷ label 4 2 2 ∷ label 7 2 2 ∷ [])
 
 abbrev pub points : Nodes
-points = sized ((2, 0, 2) ∷ (5, 0, 3) ∷ (8, 0, 3) ∷ [])
+points = sized (label 2 0 2 ∷ label 5 0 3 ∷ label 8 0 3 ∷ [])
 
 -- The scope's E, of whose zones three end at 6, and T, of whose samples one starts there and one
 -- where the outermost zone ends.

@@ -21,7 +21,7 @@ use Rattle.lists.proofs.Merging.{Even, self-even}
 use Rattle.lists.proofs.Pairing.{two-taken-iff}
 use Rattle.lists.proofs.Taken.{Fine, words-taken-iff}
 
--- Of nodes none of which is at odds with one of some others, that holds with some left out too.
+-- Two lists without nodes at odds have none either where nodes are left out.
 part-even : {xs ys xs′ ys′ : List Node} → Part xs′ xs → Part ys′ ys → Even xs ys → Even xs′ ys′
 part-even {xs} {ys} {xs′} {ys′} p q h =
     part-all (λ x. All (λ y. oddsb x y ≡ false) ys′) p (all-map (λ x k. part-all (λ y. oddsb x y ≡ false) q k) xs h)
@@ -29,7 +29,7 @@ part-even {xs} {ys} {xs′} {ys′} p q h =
 -- Of nodes without a fault, however many they are:
 module _ (ns : List Node) (sound : All Sound ns) (fine : EveryTwo Fine ns) where
   -- A list of some of them is accepted, where it isn't too long.
-  pub some-taken : (vs : List ℕ) → length vs % NODE-WORDS ≡ 0 → count vs ≤ MOST-NODES → Part (nodes vs) ns → checkWords vs .answer ≡ TAKEN
+  some-taken : (vs : List ℕ) → length vs % NODE-WORDS ≡ 0 → count vs ≤ MOST-NODES → Part (nodes vs) ns → checkWords vs .answer ≡ TAKEN
   some-taken vs whole few part = words-taken-iff vs .1 (whole, few, part-all Sound part sound, part-every-two Fine part fine)
 
   -- And any two such lists are accepted together.

@@ -1,7 +1,8 @@
 -- Theorems for the reader. `Taken` reads a taken list pair by pair, `InBytes` a list that lies in
 -- bytes, `Merging` a merge and `Pairing` two lists. `Refused` names the words and nodes that refuse
 -- them, and `Drawn` bounds their answers. `Containers` bounds the nodes that contain one. `Leaving`
--- says that accepted lists with nodes left out are accepted. `Only` says that no second answer
+-- says that accepted lists with nodes left out are accepted, and any two such parts of one list
+-- together. `Only` says that no second answer
 -- satisfies a public contract.
 -- Laws for the code. `Faults` reads the tests one by one. `WalkLaws` says what the chain of open
 -- nodes does, `Steps` what each return of a step says. `Keeping` says why the chain stands for all

@@ -1,8 +1,8 @@
 -- Why it holds: Each test of two nodes is a test of their numbers, and becomes here the facts about
 -- those numbers. Only here is `insideb` opened, so a changed test is proved again here and nowhere
 -- else.
--- What would break it: A test of other numbers, or one that took equal numbers where the scope does
--- not, would be caught here.
+-- What would break it: A test of other numbers, or one that treats equal numbers otherwise than
+-- the scope does, would be caught here.
 use mathlib.Core.Path.{_≡_, refl, sym, _∙_}
 use mathlib.Core.Logic.{_⊎_, inl, inr, ⊎-elim}
 use mathlib.Core.Bool.{true, false}

@@ -1,7 +1,7 @@
 -- Why it holds: The two rules differ only on nodes of a document that end at one position. Where
--- the strict rule finds no fault, two such nodes are identical, and no node is inside itself.
--- What would break it: If the library refused what the strict rule takes, or gave it other pairs or
--- links, that would be caught here.
+-- the stricter rule finds no fault, two such nodes are identical, and no node is inside itself.
+-- What would break it: If the library refused what the stricter rule takes, or gave it other pairs
+-- or links, that would be caught here.
 use mathlib.Core.Path.{_≡_, refl, sym, ap, subst, _∙_}
 use mathlib.Core.Logic.{_↔_, inl, inr, ⊎-elim}
 use mathlib.Core.Bool.{true, false, not, _&&_}
@@ -26,6 +26,7 @@ use Rattle.lists.specs.Two.{oddsb, checkTwo}
 use Rattle.lists.proofs.Faults.{skip, span-sound}
 use Rattle.lists.proofs.Pairing.{list-passes, joint-passes, two-taken-iff}
 use Rattle.lists.proofs.Taken.{goes-on, words-check, words-taken-iff}
+use Rattle.contents.specs.declared.entry.Entry.{Entry}
 use Rattle.contents.specs.Contents.{contentsOf, contentsFault}
 use Rattle.books.specs.Book.{nodesOf, checkBodies, checkParts, bookVerdict}
 use Rattle.tickets.specs.Listing.{listing}
@@ -105,38 +106,40 @@ module _ (ns : List Node) (h : checkNodesBy strictb ns .answer ≡ TAKEN) where
         | inr k ↦ elim k [ inl f ↦ f | inr f ↦ turned y x f ]
       ]
 
+  rules-agree : (x y : Node) → In x ns → In y ns → insideb y x ≡ strictb y x
+  rules-agree x y m n = agreed x y (nodes-differ x y m n)
+
   nodes-taken : checkNodes ns .answer ≡ TAKEN
-  nodes-taken =
-      subst (λ (v : Verdict). v .answer ≡ TAKEN)
-      (sym (nodes-agree insideb strictb ns (λ x y m n. agreed x y (nodes-differ x y m n))) ∙ own-nodes ns) h
+  nodes-taken = subst (λ (v : Verdict). v .answer ≡ TAKEN) (sym (nodes-agree insideb strictb ns rules-agree) ∙ own-nodes ns) h
+
+  nodes-links : linksOf ns ≡ linksBy strictb ns
+  nodes-links = sym (own-links ns) ∙ links-agree insideb strictb ns rules-agree
 
 module _ (words : List ℕ) (h : checkWordsBy strictb words .answer ≡ TAKEN) where
   words-read : (wordFault words ≡ TAKEN) × (checkNodesBy strictb (nodes words) .answer ≡ TAKEN)
   unfolding checkWordsBy
   words-read = goes-on (wordFault words) 0 (checkNodesBy strictb (nodes words)) .0 h
 
-  -- What the strict rule takes, the library takes.
-  pub still-taken : checkWords words .answer ≡ TAKEN
-  still-taken = words-check words .1 (words-read .0, nodes-taken (nodes words) (words-read .1))
-
-  words-agree : (x y : Node) → In x (nodes words) → In y (nodes words) → insideb y x ≡ strictb y x
-  words-agree x y m n = agreed x y (nodes-differ (nodes words) (words-read .1) x y m n)
+  -- What the stricter rule takes, the library takes.
+  pub strict-taken : checkWords words .answer ≡ TAKEN
+  strict-taken = words-check words .1 (words-read .0, nodes-taken (nodes words) (words-read .1))
 
   -- And the links are the same.
   pub same-links : linksOf (nodes words) ≡ linksBy strictb (nodes words)
-  same-links = sym (own-links (nodes words)) ∙ links-agree insideb strictb (nodes words) words-agree
+  same-links = nodes-links (nodes words) (words-read .1)
 
--- The strict rule takes exactly those lists that the library takes and in which each node inside
+-- The stricter rule takes exactly those lists that the library takes and in which each node inside
 -- another ends before it.
-pub newly-taken-iff : (words : List ℕ) → (checkWordsBy strictb words .answer ≡ TAKEN) ↔ ((checkWords words .answer ≡ TAKEN)
+pub strict-taken-iff : (words : List ℕ) → (checkWordsBy strictb words .answer ≡ TAKEN) ↔ ((checkWords words .answer ≡ TAKEN)
     × ((x y : Node) → In x (nodes words) → In y (nodes words) → insideb y x ≡ true → y .end < x .end))
-newly-taken-iff words = (
-  λ h. (still-taken words h, λ x y m n i. strict-inside y x (sym (words-agree words h x y m n) ∙ i) .1),
+strict-taken-iff words = (
+  λ h. (strict-taken words h, λ x y m n i. strict-inside y x (sym (rules-agree (nodes words) (words-read words h .1) x y m n) ∙ i) .1),
   λ h. subst (λ (v : Verdict). v .answer ≡ TAKEN)
       (sym (own-check words) ∙ check-agrees insideb strictb words (λ x y m n. ends-agree x y (h .1 x y m n))) (h .0),
 )
 
--- Two nodes that aren't at odds by the strict rule, and don't end before they start, differ so too.
+-- Two nodes that aren't at odds by the stricter rule, and don't end before they start, differ so
+-- too.
 even-differ : (x y : Node) → x .start ≤ x .end → y .start ≤ y .end → oddsBy strictb x y ≡ false → Differ x y
 unfolding oddsBy nestedBy
 even-differ x y u v o d e =
@@ -162,16 +165,16 @@ module _ (as′ ds : List ℕ) (h : checkTwoBy strictb as′ ds .answer ≡ TAKE
 
   two-differ : All (λ x. All (λ y. Differ x y × (oddsBy strictb x y ≡ false)) (nodes ds)) (nodes as′)
   two-differ =
-      let s = words-taken-iff as′ .0 (still-taken as′ (two-read .0)) .2 in
-      let t = words-taken-iff ds .0 (still-taken ds (two-read .1)) .2 in
+      let s = words-taken-iff as′ .0 (strict-taken as′ (two-read .0)) .2 in
+      let t = words-taken-iff ds .0 (strict-taken ds (two-read .1)) .2 in
       all-both (λ x p k. all-both (λ y q o. (even-differ x y (p .span) (q .span) o, o)) (nodes ds) t k) (nodes as′) s (two-read .2)
 
-  -- What the strict rule takes as two lists, the library takes.
-  pub two-still-taken : checkTwo as′ ds .answer ≡ TAKEN
-  two-still-taken =
+  -- What the stricter rule takes as two lists, the library takes.
+  pub strict-two-taken : checkTwo as′ ds .answer ≡ TAKEN
+  strict-two-taken =
       two-taken-iff as′ ds .1 (
-        still-taken as′ (two-read .0),
-        still-taken ds (two-read .1),
+        strict-taken as′ (two-read .0),
+        strict-taken ds (two-read .1),
         all-map (λ x k. all-map (λ y o. even x y (o .0) ∙ o .1) (nodes ds) k) (nodes as′) two-differ,
       )
     where
@@ -187,17 +190,40 @@ module _ (as′ ds : List ℕ) (h : checkTwoBy strictb as′ ds .answer ≡ TAKE
   same-listing ask =
       sym (own-listing ask (nodes as′) (nodes ds)) ∙ listing-agrees insideb strictb ask (nodes as′) (nodes ds) two-agree
 
-bodies-still-taken : (list : ℕ) (bodies : List (List Node)) → checkBodiesBy strictb list bodies .answer ≡ TAKEN → checkBodies list bodies .answer ≡ TAKEN
-unfolding checkBodiesBy checkBodies
-bodies-still-taken list [] h = refl
-bodies-still-taken list (ns ∷ later) h =
-    let p = list-passes list (checkNodesBy strictb ns) (checkBodiesBy strictb (suc list) later) .0 h in
-    list-passes list (checkNodes ns) (checkBodies (suc list) later) .1 (nodes-taken ns (p .0), bodies-still-taken (suc list) later (p .1))
+module _ (book : List ℕ) where
+  -- The stricter rule takes the body of an entry.
+  abbrev Body : Entry → Type 0
+  Body e = checkNodesBy strictb (nodesOf book e) .answer ≡ TAKEN
 
--- What the strict rule takes as a book, the library takes.
-pub book-still-taken : (book : List ℕ) → bookVerdictBy strictb book .answer ≡ TAKEN → bookVerdict book .answer ≡ TAKEN
-unfolding bookVerdictBy bookVerdict checkParts
-book-still-taken book h =
-    let bodies = map (nodesOf book) (contentsOf book) in
-    let p = goes-on (contentsFault book) 0 (checkBodiesBy strictb 0 bodies) .0 h in
-    goes-on (contentsFault book) 0 (checkBodies 0 bodies) .1 (p .0, bodies-still-taken 0 bodies (p .1))
+  -- Where it takes the bodies one after the other, it takes each.
+  each-body : (list : ℕ) (es : List Entry) → checkBodiesBy strictb list (map (nodesOf book) es) .answer ≡ TAKEN → All Body es
+  unfolding checkBodiesBy
+  each-body list [] h = tt
+  each-body list (e ∷ es) h =
+      let p = list-passes list (checkNodesBy strictb (nodesOf book e)) (checkBodiesBy strictb (suc list) (map (nodesOf book) es)) .0 h in
+      (p .0, each-body (suc list) es (p .1))
+
+  bodies-taken : (list : ℕ) (es : List Entry) → All Body es → checkBodies list (map (nodesOf book) es) .answer ≡ TAKEN
+  unfolding checkBodies
+  bodies-taken list [] h = refl
+  bodies-taken list (e ∷ es) h =
+      list-passes list (checkNodes (nodesOf book e)) (checkBodies (suc list) (map (nodesOf book) es)) .1
+      (nodes-taken (nodesOf book e) (h .0), bodies-taken (suc list) es (h .1))
+
+  module _ (h : bookVerdictBy strictb book .answer ≡ TAKEN) where
+    book-read : (contentsFault book ≡ TAKEN) × All Body (contentsOf book)
+    unfolding bookVerdictBy
+    book-read =
+        let p = goes-on (contentsFault book) 0 (checkBodiesBy strictb 0 (map (nodesOf book) (contentsOf book))) .0 h in
+        (p .0, each-body 0 (contentsOf book) (p .1))
+
+    -- What the stricter rule takes as a book, the library takes.
+    pub strict-book-taken : bookVerdict book .answer ≡ TAKEN
+    unfolding bookVerdict checkParts
+    strict-book-taken =
+        goes-on (contentsFault book) 0 (checkBodies 0 (map (nodesOf book) (contentsOf book))) .1
+        (book-read .0, bodies-taken 0 (contentsOf book) (book-read .1))
+
+    -- And the links of each of its lists are the same.
+    pub book-links : (e : Entry) → In e (contentsOf book) → linksOf (nodesOf book e) ≡ linksBy strictb (nodesOf book e)
+    book-links e m = nodes-links (nodesOf book e) (all-in Body (contentsOf book) (book-read .1) m)

@@ -1,4 +1,4 @@
--- A rule of what is inside, and the strict one, by which no node ends where a node around it ends.
+-- A rule of what is inside, and the stricter one, by which no node ends where one around it ends.
 use mathlib.Core.Bool.{Bool, _&&_}
 use lib.Dec.{ltb, eqb}
 use Rattle.nodes.specs.declared.node.Node.{Node}

@@ -1,2 +1,2 @@
 // No code: the checks, the listing and the links over any rule of what is inside, and what stays
-// the same from the strict rule to this library's.
+// the same from the stricter rule to this library's.

@@ -14,9 +14,9 @@ use Rattle.laws.specs.Choose.{All, EveryTwo, In, Part}
 use Rattle.laws.proofs.Choices.{all-in, all-map, all-mapped, each-in, every-two-map, every-two-mapped}
 use Rattle.laws.proofs.Parts.{part-all}
 use Rattle.nodes.specs.declared.node.Node.{Node}
-use Rattle.nodes.specs.Node.{insideb}
+use Rattle.nodes.specs.Node.{insideb, directlyb}
 use Rattle.nodes.specs.Words.{NODE-WORDS, MOST-NODES, nodes, count}
-use Rattle.nodes.proofs.NodeLaws.{within, inside-make, apart-ahead, after-start}
+use Rattle.nodes.proofs.NodeLaws.{within, inside-make, directly-inside, directly-make, apart-ahead, after-start}
 use Rattle.lists.specs.Check.{checkWords}
 use Rattle.lists.specs.Two.{checkTwo}
 use Rattle.lists.proofs.Faults.{Sound}
@@ -27,8 +27,9 @@ use Rattle.tickets.specs.declared.ticket.Relation.the-variants.{Inside}
 use Rattle.tickets.specs.Listing.{Pair, relatedb, listing}
 use Rattle.tickets.specs.Ticket.{asked}
 use Rattle.tickets.proofs.Listed.{listed-iff}
-use Rattle.trees.specs.Tree.{Label, Siblings, labels, Ancestor, Numbered, nodeOf, listOf, treeWords, AncestorOf}
-use Rattle.trees.proofs.Ordered.{Placed, ancestor-below, placed, placed-order, placed-in}
+use Rattle.trees.specs.Tree.{Label, Siblings, labels, Parent, Ancestor, Numbered, nodeOf, listOf, treeWords, AncestorOf}
+use Rattle.trees.specs.Tree.Ancestor.{parent, further}
+use Rattle.trees.proofs.Ordered.{Placed, ancestor-below, in-order, placed, placed-order, placed-in}
 
 module _ (document : ℕ) (t : Siblings) (numbered : Numbered t) where
   ancestor-inside : {x y : Label} → Ancestor t x y → insideb (nodeOf document y) (nodeOf document x) ≡ true
@@ -57,12 +58,17 @@ module _ (document : ℕ) (t : Siblings) (numbered : Numbered t) where
   unfolding listOf
   all-fine = every-two-mapped (nodeOf document) Fine (labels t) (every-two-map placed-fine (labels t) (placed t numbered))
 
+  -- The list has the nodes in their order.
+  pub list-in-order : EveryTwo (λ m n. m .start < n .start) (listOf document t)
+  unfolding listOf
+  list-in-order = every-two-mapped (nodeOf document) (λ m n. m .start < n .start) (labels t) (in-order t numbered)
+
   -- A numbered tree's list is accepted.
   pub tree-taken : length (labels t) ≤ MOST-NODES → checkWords (treeWords document t) .answer ≡ TAKEN
   unfolding treeWords listOf
   tree-taken few = written-taken (listOf document t) (omega (arith, length-map (labels t) (nodeOf document))) all-sound all-fine
 
-  -- And any two lists of its nodes are accepted together, however large the tree is.
+  -- And any two lists of its nodes, each in order, are accepted together, however large it is.
   pub parts-taken : (as′ ds : List ℕ) → length as′ % NODE-WORDS ≡ 0 → count as′ ≤ MOST-NODES → Part (nodes as′) (listOf document t)
       → length ds % NODE-WORDS ≡ 0 → count ds ≤ MOST-NODES → Part (nodes ds) (listOf document t) → checkTwo as′ ds .answer ≡ TAKEN
   parts-taken as′ ds w f p v g q = some-two-taken (listOf document t) all-sound all-fine as′ ds w f p v g q
@@ -77,11 +83,29 @@ module _ (document : ℕ) (t : Siblings) (numbered : Numbered t) where
       ancestor-inside,
     )
 
-    -- And exactly when the order of the first lies in the range of the second, as the paper says.
+    -- And exactly when its order is above the other's, and at most the other's order and size
+    -- together, as the paper says.
     pub inside-range : (insideb (nodeOf document y) (nodeOf document x) ≡ true) ↔ ((x .order < y .order) × (y .order ≤ x .order + x .size))
     inside-range = (
       λ h. let w = within (nodeOf document y) (nodeOf document x) h in (w .start, omega arith),
       λ h. ⊎-elim ancestor-inside (λ e. absurd (omega arith)) (placed-in t numbered x y x-in y-in (h .0)),
+    )
+
+  -- Where each level is one above its parent's, a node is directly inside exactly its parent.
+  module _ (even : (x y : Label) → Parent x y t → y .level ≡ x .level + 1) where
+    child-directly : (x y : Label) → Parent x y t → directlyb (nodeOf document y) (nodeOf document x) ≡ true
+    child-directly x y p = directly-make (nodeOf document y) (nodeOf document x) (ancestor-inside (parent p)) (even x y p)
+
+    -- An ancestor one level above is the parent.
+    one-above : {x y : Label} → Ancestor t x y → y .level ≡ x .level + 1 → Parent x y t
+    one-above (parent p) l = p
+    one-above (further a p) l = let b = ancestor-below t numbered a in absurd (omega (arith, even _ _ p))
+
+    pub directly-parent : (x y : Label) → In x (labels t) → In y (labels t)
+        → (directlyb (nodeOf document y) (nodeOf document x) ≡ true) ↔ Parent x y t
+    directly-parent x y i j = (
+      λ h. let d = directly-inside (nodeOf document y) (nodeOf document x) h in one-above (inside-ancestor x y i j .0 (d .0)) (d .1),
+      child-directly x y,
     )
 
   -- The node n is that of a label of the tree.
