@@ -29,8 +29,8 @@ use Rattle.tickets.specs.declared.ticket.Ticket.{Ticket}
 use Rattle.tickets.specs.PairWords.{PAIR-WORDS}
 use Rattle.tickets.specs.Ticket.{keyWith, numbersOf, asked, ticketAt}
 use Rattle.pairs.specs.Calls.{Call, answer, shown}
-use Rattle.trees.specs.Example.{label, example}
-use Rattle.trees.specs.Tree.{Label, Siblings, nodeOf, treeWords}
+use Rattle.trees.specs.Example.{example}
+use Rattle.trees.specs.Tree.{Label, Siblings, label, nodeOf, treeWords}
 use Rattle.marks.specs.Mark.{TEXT}
 use Rattle.marks.specs.Outcome.{numberOutcome, numberOutput, unnumberOutcome, unnumberOutput, pickOutcome, pickOutput}
 use Rattle.marks.specs.Table.{ROW-WORDS}

@@ -42,7 +42,7 @@ part-few : (ws vs : List ℕ) → Part (nodes vs) (nodes ws) → count ws ≤ MO
 part-few ws vs part few = omega (arith, length-nodes ws, length-nodes vs, part-fewer part)
 
 -- An accepted list with some nodes left out is accepted.
-pub part-taken : (ws vs : List ℕ) → length vs % NODE-WORDS ≡ 0 → Part (nodes vs) (nodes ws)
+part-taken : (ws vs : List ℕ) → length vs % NODE-WORDS ≡ 0 → Part (nodes vs) (nodes ws)
     → checkWords ws .answer ≡ TAKEN → checkWords vs .answer ≡ TAKEN
 part-taken ws vs whole part h =
     let t = words-taken-iff ws .0 h in

@@ -202,8 +202,8 @@ words-taken-iff ws = (
 )
 
 -- Nodes written as words are accepted where they are few enough, sound and fine with one another.
-pub written-taken : (ns : List Node) → length ns ≤ MOST-NODES → All Sound ns → EveryTwo Fine ns → checkWords (wordsIn wordsOf ns) .answer ≡ TAKEN
-written-taken ns few sound fine =
+pub sound-taken : (ns : List Node) → length ns ≤ MOST-NODES → All Sound ns → EveryTwo Fine ns → checkWords (wordsIn wordsOf ns) .answer ≡ TAKEN
+sound-taken ns few sound fine =
     let long = length-words ns in
     let same = sym (nodes-of-words ns) in
     words-taken-iff (wordsIn wordsOf ns) .1 (omega arith, omega arith, subst (All Sound) same sound, subst (EveryTwo Fine) same fine)

@@ -22,7 +22,7 @@ use Rattle.lists.specs.Check.{checkWords}
 use Rattle.lists.specs.Two.{checkTwo}
 use Rattle.lists.proofs.Faults.{Sound}
 use Rattle.lists.proofs.Leaving.{parts-two-taken}
-use Rattle.lists.proofs.Taken.{Fine, nested-make, agree-apart, agree-nested, written-taken}
+use Rattle.lists.proofs.Taken.{Fine, nested-make, agree-apart, agree-nested, sound-taken}
 use Rattle.marks.specs.declared.row.Row.{Row}
 use Rattle.marks.specs.Mark.{checkMarks}
 use Rattle.marks.specs.Outcome.{nodesWith, pickedWords}
@@ -51,7 +51,7 @@ module _ (document : ℕ) (marks : List ℕ) (taken : checkMarks marks ≡ TAKEN
       let table = tableOf document marks in
       let few = few-rows document 1 0 marks in
       let many = check-read marks taken .0 in
-      written-taken (map (λ r. r .node) table) (omega (arith, length-map table (λ r. r .node)))
+      sound-taken (map (λ r. r .node) table) (omega (arith, length-map table (λ r. r .node)))
       (all-mapped (λ r. r .node) Sound table (all-map sound table (table-made document marks taken)))
       (every-two-mapped (λ r. r .node) Fine table (every-two-map settled-fine table (table-settled document marks taken)))
     where

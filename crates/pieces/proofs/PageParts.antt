@@ -29,8 +29,8 @@ own ws h d = all-both (λ w a i. (a, i)) ws (pieces-ascend ws h d .0) (all-piece
 
 module _ (ask : Asked) where
   -- The listing of two pieces ascends, and holds only pairs of a given listing.
-  abbrev pub Part : List Pair → List ℕ → List ℕ → Type 0
-  Part ps a d = Ascends (sortKey (ask .order)) (pairsOf ask a d) × All (λ p. In p ps) (pairsOf ask a d)
+  abbrev pub WithinWhole : List Pair → List ℕ → List ℕ → Type 0
+  WithinWhole ps a d = Ascends (sortKey (ask .order)) (pairsOf ask a d) × All (λ p. In p ps) (pairsOf ask a d)
 
   module _ (as′ ds : List (List ℕ)) where
     -- The listing of the wholes.
@@ -46,7 +46,7 @@ module _ (ask : Asked) where
       pairs-ascend = listing-ascends ask (pieceNodes as′) (pieceNodes ds) (whole-ascends as′ h t) (whole-ascends ds k u)
 
       part : (a d : List ℕ) → EveryTwo After (nodes a) × All (λ x. In x (pieceNodes as′)) (nodes a)
-          → EveryTwo After (nodes d) × All (λ x. In x (pieceNodes ds)) (nodes d) → Part wholePairs a d
+          → EveryTwo After (nodes d) × All (λ x. In x (pieceNodes ds)) (nodes d) → WithinWhole wholePairs a d
       part a d x y = (
         listing-ascends ask (nodes a) (nodes d) (x .0) (y .0),
         each (λ p. In p wholePairs) (pairsOf ask a d) (λ p m.
@@ -58,7 +58,7 @@ module _ (ask : Asked) where
             )),
       )
 
-      pub parts : All (λ a. All (λ d. Part wholePairs a d) ds) as′
+      pub parts : All (λ a. All (λ d. WithinWhole wholePairs a d) ds) as′
       parts = all-map (λ a x. all-map (λ d y. part a d x y) ds (own ds k u)) as′ (own as′ h t)
 
   module _ (place : Spot) where
@@ -89,7 +89,7 @@ module _ (ask : Asked) where
     page-left n ps = take-all-of (λ p. In p (left ps)) n (left ps) (each-in (left ps))
 
     -- What is left of two pieces' listing is left of the whole's.
-    pub part-left : (ps : List Pair) (a d : List ℕ) → Part ps a d → All (λ p. In p (left ps)) (left (pairsOf ask a d))
+    pub part-left : (ps : List Pair) (a d : List ℕ) → WithinWhole ps a d → All (λ p. In p (left ps)) (left (pairsOf ask a d))
     part-left ps a d h =
         let qs = pairsOf ask a d in
         each (λ p. In p (left ps)) (left qs)

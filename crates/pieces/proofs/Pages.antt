@@ -24,7 +24,7 @@ use Rattle.pieces.specs.Pieces.{whole, WholeNodes, pairsOf, pageFor, pie
 use Rattle.pieces.proofs.Cutting.{each, nodes-whole}
 use Rattle.pieces.proofs.Firsts.{still-first, same-first}
 use Rattle.pieces.proofs.Made.{each-all, each-again}
-use Rattle.pieces.proofs.PageParts.{Part, wholePairs, pairs-met, pairs-ascend, parts, left, left-iff, left-ascends, page-left, part-left}
+use Rattle.pieces.proofs.PageParts.{WithinWhole, wholePairs, pairs-met, pairs-ascend, parts, left, left-iff, left-ascends, page-left, part-left}
 
 -- What an accepted call shows is the page of its two lists.
 pub call-page : (t : Ticket) (c : Call) → AcceptedCall c
@@ -40,7 +40,7 @@ module _ (ask : Asked) (place : Spot) (n : ℕ) where
   on-page ps p m = all-in (λ q. In q (left ask place ps)) (handed key place n ps) (page-left ask place n ps) m
 
   -- Each pair of two pieces that is on the whole's page is on their page too.
-  own-page : (ps : List Pair) (a d : List ℕ) → Ascends key ps → Part ask ps a d → (p : Pair) → In p (handed key place n ps) → In p (pairsOf ask a d)
+  own-page : (ps : List Pair) (a d : List ℕ) → Ascends key ps → WithinWhole ask ps a d → (p : Pair) → In p (handed key place n ps) → In p (pairsOf ask a d)
       → In p (pageFor ask place n a d)
   unfolding handed
   own-page ps a d h part p m i =

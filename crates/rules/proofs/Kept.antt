@@ -106,14 +106,14 @@ module _ (ns : List Node) (h : checkNodesBy strictb ns .answer ≡ TAKEN) where
         | inr k ↦ elim k [ inl f ↦ f | inr f ↦ turned y x f ]
       ]
 
-  rules-agree : (x y : Node) → In x ns → In y ns → insideb y x ≡ strictb y x
-  rules-agree x y m n = agreed x y (nodes-differ x y m n)
+  list-agree : (x y : Node) → In x ns → In y ns → insideb y x ≡ strictb y x
+  list-agree x y m n = agreed x y (nodes-differ x y m n)
 
   nodes-taken : checkNodes ns .answer ≡ TAKEN
-  nodes-taken = subst (λ (v : Verdict). v .answer ≡ TAKEN) (sym (nodes-agree insideb strictb ns rules-agree) ∙ own-nodes ns) h
+  nodes-taken = subst (λ (v : Verdict). v .answer ≡ TAKEN) (sym (nodes-agree insideb strictb ns list-agree) ∙ own-nodes ns) h
 
   nodes-links : linksOf ns ≡ linksBy strictb ns
-  nodes-links = sym (own-links ns) ∙ links-agree insideb strictb ns rules-agree
+  nodes-links = sym (own-links ns) ∙ links-agree insideb strictb ns list-agree
 
 module _ (words : List ℕ) (h : checkWordsBy strictb words .answer ≡ TAKEN) where
   words-read : (wordFault words ≡ TAKEN) × (checkNodesBy strictb (nodes words) .answer ≡ TAKEN)
@@ -133,7 +133,7 @@ module _ (words : List ℕ) (h : checkWordsBy strictb words .answer ≡ TAKEN) w
 pub strict-taken-iff : (words : List ℕ) → (checkWordsBy strictb words .answer ≡ TAKEN) ↔ ((checkWords words .answer ≡ TAKEN)
     × ((x y : Node) → In x (nodes words) → In y (nodes words) → insideb y x ≡ true → y .end < x .end))
 strict-taken-iff words = (
-  λ h. (strict-taken words h, λ x y m n i. strict-inside y x (sym (rules-agree (nodes words) (words-read words h .1) x y m n) ∙ i) .1),
+  λ h. (strict-taken words h, λ x y m n i. strict-inside y x (sym (list-agree (nodes words) (words-read words h .1) x y m n) ∙ i) .1),
   λ h. subst (λ (v : Verdict). v .answer ≡ TAKEN)
       (sym (own-check words) ∙ check-agrees insideb strictb words (λ x y m n. ends-agree x y (h .1 x y m n))) (h .0),
 )

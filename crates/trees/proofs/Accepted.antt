@@ -21,7 +21,7 @@ use Rattle.lists.specs.Check.{checkWords}
 use Rattle.lists.specs.Two.{checkTwo}
 use Rattle.lists.proofs.Faults.{Sound}
 use Rattle.lists.proofs.Leaving.{some-two-taken}
-use Rattle.lists.proofs.Taken.{Fine, nested-make, agree-apart, agree-nested, written-taken}
+use Rattle.lists.proofs.Taken.{Fine, nested-make, agree-apart, agree-nested, sound-taken}
 use Rattle.tickets.specs.declared.ticket.Order.{Order}
 use Rattle.tickets.specs.declared.ticket.Relation.the-variants.{Inside}
 use Rattle.tickets.specs.Listing.{Pair, relatedb, listing}
@@ -66,7 +66,7 @@ module _ (document : ℕ) (t : Siblings) (numbered : Numbered t) where
   -- A numbered tree's list is accepted.
   pub tree-taken : length (labels t) ≤ MOST-NODES → checkWords (treeWords document t) .answer ≡ TAKEN
   unfolding treeWords listOf
-  tree-taken few = written-taken (listOf document t) (omega (arith, length-map (labels t) (nodeOf document))) all-sound all-fine
+  tree-taken few = sound-taken (listOf document t) (omega (arith, length-map (labels t) (nodeOf document))) all-sound all-fine
 
   -- And any two lists of its nodes, each in order, are accepted together, however large it is.
   pub parts-taken : (as′ ds : List ℕ) → length as′ % NODE-WORDS ≡ 0 → count as′ ≤ MOST-NODES → Part (nodes as′) (listOf document t)

@@ -15,6 +15,10 @@ pub record Label : Type 0 where
   pub size : ℕ
   pub level : ℕ
 
+-- A label of its three numbers.
+abbrev pub label : ℕ → ℕ → ℕ → Label
+label order size level = record { order = order; size = size; level = level }
+
 -- Siblings from the first to the last: none, or one with its own children and the siblings after
 -- it. A whole tree is its root, with no siblings.
 pub data Siblings : Type 0 where
