@@ -41,11 +41,11 @@ unfolding nodeAt nodeIn
 node-in ws i n q = q
 
 module _ (ns : List Node) (ok : AcceptedList ns) where
-  sound-at : (i : ℕ) → i < length ns → Sound (nodeIn ns i)
+  pub sound-at : (i : ℕ) → i < length ns → Sound (nodeIn ns i)
   unfolding nodeIn
   sound-at i l = all-at Sound ns i (node 0 0 0 0) l (ok .sound)
 
-  fine-at : (e i : ℕ) → e < i → i < length ns → Fine (nodeIn ns e) (nodeIn ns i)
+  pub fine-at : (e i : ℕ) → e < i → i < length ns → Fine (nodeIn ns e) (nodeIn ns i)
   unfolding nodeIn
   fine-at e i k l = every-two-at Fine ns e i (node 0 0 0 0) k l (ok .fine)
 

@@ -5,13 +5,14 @@
 use mathlib.Core.Path.{_≡_, refl, sym, ap, subst, _∙_}
 use mathlib.Core.Logic.{_⊎_, inl, inr}
 use mathlib.Core.Bool.{Bool, true, false, cond}
-use mathlib.Core.List.{List, [], _∷_, _++_}
+use mathlib.Core.List.{List, [], _∷_, _++_, Memᴰ·append-left, Memᴰ·append-right, List·Memᴰ·head}
 use Prim.Native.Nat.{ℕ, zero, suc, _≤_, _<_}
 use native.Mathlib.Nat.{not-suc-le-zero, eq-or-lt-of-le}
 use native.Mathlib.Omega.{arith}
 use lib.Dec.{eqb}
 use borrow.Author.Tests.{eqb-true, eqb-false}
-use Rattle.laws.specs.Choose.{All}
+use Rattle.laws.specs.Choose.{All, EveryTwo, In}
+use Rattle.laws.proofs.Choices.{every-two-append}
 use Rattle.laws.proofs.Tests.{either, never}
 use Rattle.forest.specs.Links.{NONE, upTo, firstOf}
 
@@ -32,6 +33,22 @@ pub all-up : (P : ℕ → Type 0) (n : ℕ) → ((j : ℕ) → j < n → P j) �
 unfolding upTo
 all-up P zero f = tt
 all-up P (suc n) f = all-next P (upTo n) n (all-up P n (λ j l. f j (omega arith))) (f n (omega arith))
+
+-- Each number below a bound is among them, and they rise.
+pub in-up : (n j : ℕ) → j < n → In j (upTo n)
+unfolding upTo
+in-up zero j l = absurd (not-suc-le-zero l)
+in-up (suc n) j l =
+    elim (last-or-below l) [
+      | inl e ↦ Memᴰ·append-right (upTo n) (List·Memᴰ·head e)
+      | inr k ↦ Memᴰ·append-left _ (in-up n j k)
+    ]
+
+pub up-rises : (n : ℕ) → EveryTwo (λ a b. a < b) (upTo n)
+unfolding upTo
+up-rises zero = tt
+up-rises (suc n) =
+    every-two-append (λ a b. a < b) (upTo n) (n ∷ []) (up-rises n) (tt, tt) (all-up (λ a. All (λ b. a < b) (n ∷ [])) n (λ j l. (l, tt)))
 
 -- r is the first of the numbers below `bound` that passes a test, or NONE if none does.
 pub record First (test : ℕ → Bool) (bound r : ℕ) : Type 0 where

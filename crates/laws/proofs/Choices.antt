@@ -226,6 +226,17 @@ module _ {A : Type 0} where
         ]
       ]
 
+  -- Of two tests it doesn't matter which one keeps first.
+  pub keep-swapped : (f g : A → Bool) (xs : List A) → keep f (keep g xs) ≡ keep g (keep f xs)
+  unfolding keep
+  keep-swapped f g [] = refl
+  keep-swapped f g (x ∷ xs) =
+      let r = keep-swapped f g xs in
+      elim (either (f x)) [
+        | inl a ↦ elim (either (g x)) [ inl b ↦ rw (b, a, b) (ap (λ ys. x ∷ ys) r) | inr b ↦ rw (b, a, b) r ]
+        | inr a ↦ elim (either (g x)) [ inl b ↦ rw (b, a) r | inr b ↦ rw (b, a) r ]
+      ]
+
   -- The first n elements, from an index on, begin with the element at that index.
   pub taken-from : (xs : List A) (n i : ℕ) (d : A) → i < n → i < length xs → drop i (take n xs) ≡ getD xs i d ∷ drop (suc i) (take n xs)
   taken-from [] n i d h l = absurd (not-suc-le-zero l)
@@ -254,6 +265,14 @@ module _ {A B : Type 0} (f : A → B) where
   pub map-alike : (g : A → B) (xs : List A) → All (λ x. f x ≡ g x) xs → map f xs ≡ map g xs
   map-alike g [] h = refl
   map-alike g (x ∷ xs) h = rw (h .0, map-alike g xs (h .1))
+
+  -- What a test keeps of the mapped list is what it keeps of the list, mapped.
+  pub keep-mapped : (test : B → Bool) (xs : List A) → keep test (map f xs) ≡ map f (keep (λ x. test (f x)) xs)
+  unfolding keep
+  keep-mapped test [] = refl
+  keep-mapped test (x ∷ xs) =
+      let r = keep-mapped test xs in
+      elim (either (test (f x))) [ inl h ↦ rw h (ap (λ ys. f x ∷ ys) r) | inr h ↦ rw h r ]
 
   -- What holds of `f x` for each element x holds of all elements of the mapped list. It is the same
   -- with every two.
