@@ -32,6 +32,8 @@ use Rattle.trees.specs.Tree.{labels, listOf, treeWords}
 use Rattle.readings.specs.Reading.{withinb, decode}
 use Rattle.readings.specs.Sample.{sampled, pairedb, inZone, present}
 use Rattle.ranges.specs.Range.{unbeaten, lowOf, highOf, rangeOf, zoneRange}
+use Rattle.sheets.specs.Hundredths.{missingb, faultyWordb}
+use Rattle.sheets.specs.Sheet.{labSamples, insideZone, sumOf, subtotalOver, subtotalWords, sheetSubtotals, sheetIn, matchedb, checkSheet, sheetOf, sheetOutput}
 use Rattle.laws.proofs.Tests.{never, and-read}
 use Rattle.figures.specs.Figures.{Figure, figures, equalb, heldb}
 
@@ -59,6 +61,7 @@ unfolding figures equalb heldb checkWords wordFault raggedb longb nodes checkNod
     unnumberOutput nodesWith pickedWords pickOutcome pickOutput closeAt endOf rowsFrom tableOf rowWords tableWords rows rowIn rowFault
     linksIn linkedOf linksOutput upTo firstOf nodeIn indices innermostb parentOf childOf siblingb nextOf linkOf linksOf linkWords
     labels listOf treeWords ofInt ofBits toBits div lt nodeAt firstAt withinb decode sampled pairedb inZone present unbeaten lowOf highOf rangeOf zoneRange
+    missingb faultyWordb labSamples insideZone sumOf subtotalOver subtotalWords sheetSubtotals sheetIn matchedb checkSheet sheetOf sheetOutput
 computed = refl
 
 -- Each row's numbers are those that docs/SCOPE.md states.

@@ -1,16 +1,16 @@
 -- docs/SCOPE.md, "Figures to hold against it": the cases marked [P] and some of our own, as rows of
 -- one table. Each row has its number above it.
-use Prim.Native.Nat.{ℕ, _*_}
+use Prim.Native.Nat.{ℕ, zero, suc, _+_, _*_}
 use mathlib.Core.Bool.{Bool, true, false, cond, _&&_}
 use mathlib.Core.List.{List, [], _∷_, _++_, map, flatMap}
 use lib.Dec.{eqb}
 use lib.Ieee.{binary32, toBits}
 use lib.ListN.{length, replicate}
-use Rattle.answers.specs.Answer.{TAKEN, RAGGED, LEVEL, CROSS, DEPTH, JOINT, ABSENT, STRAY, UNCLOSED, READING}
+use Rattle.answers.specs.Answer.{TAKEN, RAGGED, LEVEL, ORDER, CROSS, DEPTH, JOINT, ROOM, ABSENT, STRAY, UNCLOSED, READING}
 use Rattle.answers.specs.declared.verdict.Verdict.{Verdict}
 use Rattle.lists.specs.Check.{checkWords}
 use Rattle.lists.specs.Two.{checkTwo}
-use Rattle.answers.specs.Verdict.{ANCESTORS}
+use Rattle.answers.specs.Verdict.{ANCESTORS, DESCENDANTS}
 use Rattle.readings.specs.declared.reading.Decoded.{Decoded}
 use Rattle.readings.specs.declared.reading.Decoded.the-variants.{Read, Faulty}
 use Rattle.readings.specs.declared.reading.Percentage.{Percentage}
@@ -36,16 +36,22 @@ use Rattle.marks.specs.Outcome.{numberOutcome, numberOutput, unnumberOutcome, u
 use Rattle.marks.specs.Table.{ROW-WORDS}
 use Rattle.forest.specs.Linked.{linkedOf, linksOutput}
 use Rattle.forest.specs.Links.{NONE, LINK-WORDS}
+use Rattle.sheets.specs.Hundredths.{NO-HUNDREDTHS}
+use Rattle.sheets.specs.Sheet.{SUBTOTAL-WORDS, sheetOf, sheetOutput}
 
 -- A figure: what the definitions compute, and what docs/SCOPE.md states.
 pub record Figure : Type 0 where
   pub found : List ℕ
   pub stated : List ℕ
 
--- The words of nodes of document 5, each given as (start, end, level).
+-- The words of nodes of a document, each given as (start, end, level).
+abbrev pub documentWords : ℕ → List (ℕ × ℕ × ℕ) → List ℕ
+documentWords document [] = []
+documentWords document (n ∷ ns) = document ∷ n .0 ∷ n .1 ∷ n .2 ∷ documentWords document ns
+
+-- The words of nodes of document 5.
 abbrev pub words : List (ℕ × ℕ × ℕ) → List ℕ
-words [] = []
-words (n ∷ ns) = 5 ∷ n .0 ∷ n .1 ∷ n .2 ∷ words ns
+words list = documentWords 5 list
 
 -- A verdict as its three numbers.
 abbrev pub verdictNumbers : Verdict → List ℕ
@@ -261,6 +267,69 @@ tenToThirty = PERCENT ∷ 1092616192 ∷ PERCENT ∷ 1101004800 ∷ PERCENT ∷ 
 abbrev pub secondFaulty : List ℕ
 secondFaulty = PERCENT ∷ 1083179008 ∷ 3 ∷ 0 ∷ []
 
+-- The word that fills an output before a sheet is written into it.
+abbrev pub UNTOUCHED : ℕ
+UNTOUCHED = 4294967295
+
+-- What the call for a sheet shows, with an output of `room` words: the verdict, the number of
+-- zones, and the output.
+abbrev pub sheetNumbers : List ℕ → List ℕ → List ℕ → ℕ → List ℕ
+sheetNumbers zones samples hundredths room =
+    let out : List ℕ = replicate room UNTOUCHED in
+    let r = sheetOf zones samples hundredths out in
+    verdictNumbers (r .verdict) ++ (r .count ∷ sheetOutput zones samples hundredths out)
+
+-- What a refused call for a sheet shows, with an output of `room` words.
+abbrev pub noSheet : ℕ → ℕ → ℕ → ℕ → List ℕ
+noSheet room answer list index = answer ∷ list ∷ index ∷ 0 ∷ replicate room UNTOUCHED
+
+-- The words of subtotals, each given as (samples, present, sum).
+abbrev pub subtotals : List (ℕ × ℕ × ℕ) → List ℕ
+subtotals [] = []
+subtotals (t ∷ ts) = t .0 ∷ t .1 ∷ t .2 ∷ subtotals ts
+
+-- A figure of a sheet, with an output that has `spare` words beyond it.
+abbrev pub sheet : List ℕ → List ℕ → List ℕ → List (ℕ × ℕ × ℕ) → ℕ → Figure
+sheet zones samples hundredths stated spare = record {
+  found = sheetNumbers zones samples hundredths (SUBTOTAL-WORDS * length stated + spare);
+  stated = TAKEN ∷ ANCESTORS ∷ 0 ∷ length stated ∷ subtotals stated ++ replicate spare UNTOUCHED;
+}
+
+-- A figure of a sheet that is refused, with an output of `room` words: the answer, the list and the
+-- index.
+abbrev pub unwritten : List ℕ → List ℕ → List ℕ → ℕ → ℕ → ℕ → ℕ → Figure
+unwritten zones samples hundredths room answer list index =
+    record { found = sheetNumbers zones samples hundredths room; stated = noSheet room answer list index }
+
+-- A figure of faulty words, each tried as the word of the first sample of S and of the second, with
+-- an output of `room` words.
+abbrev pub misread : List ℕ → ℕ → List ℕ → Figure
+misread zones room faulties = record {
+  found =
+      flatMap (λ w. sheetNumbers zones (words S) (w ∷ 450 ∷ []) room ++ sheetNumbers zones (words S) (450 ∷ w ∷ []) room) faulties;
+  stated = flatMap (λ w. noSheet room READING ANCESTORS 0 ++ noSheet room READING ANCESTORS 1) faulties;
+}
+
+-- The faulty words right beside sound ones, and the greatest word.
+abbrev pub faultyHundredths : List ℕ
+faultyHundredths = 10001 ∷ 65534 ∷ 65536 ∷ 4294967295 ∷ []
+
+-- Zones one inside the other that end at 200, as many as the second number says. The first is of
+-- this level, and the level rises by one from each to the next.
+abbrev pub nest : ℕ → ℕ → Nodes
+nest level zero = []
+nest level (suc n) = (2 * level, 200, level) ∷ nest (level + 1) n
+
+-- A sample in each of these zones that isn't inside the next.
+abbrev pub oneInEach : ℕ → ℕ → Nodes
+oneInEach level zero = []
+oneInEach level (suc n) = (2 * level + 1, 2 * level + 1, level + 1) ∷ oneInEach (level + 1) n
+
+-- Subtotals of samples whose word is 1: those of this many samples, of one less, and so on to 0.
+abbrev pub downFrom : ℕ → List (ℕ × ℕ × ℕ)
+downFrom zero = (0, 0, 0) ∷ []
+downFrom (suc n) = (suc n, suc n, suc n) ∷ downFrom n
+
 -- The table. A row's number and its meaning stand right above the row. A float is given by its
 -- bits, and the line above says which number that is.
 unfoldable pub figures : List Figure
@@ -439,6 +508,72 @@ figures =
     ∷ one ((1, 9, 2) ∷ (7, 9, 2) ∷ []) DEPTH 1
     -- 85: the tree of the ranges and points, as one list.
     ∷ tree example ((1, 9, 1) ∷ (2, 2, 2) ∷ (4, 6, 2) ∷ (5, 5, 3) ∷ (7, 9, 2) ∷ (8, 8, 3) ∷ [])
+    -- 86: the sheet of Z and S: the first zone has both samples, and the second has one.
+    ∷ sheet (words Z) (words S) (450 ∷ 380 ∷ []) ((2, 2, 830) ∷ (1, 1, 450) ∷ []) 0
+    -- 87: the first reading is missing: its sample counts in both zones and adds nothing.
+    ∷ sheet (words Z) (words S) (NO-HUNDREDTHS ∷ 380 ∷ []) ((2, 1, 380) ∷ (1, 0, 0) ∷ []) 0
+    -- 88: the second reading is missing: only the first zone has its sample.
+    ∷ sheet (words Z) (words S) (450 ∷ NO-HUNDREDTHS ∷ []) ((2, 1, 450) ∷ (1, 1, 450) ∷ []) 0
+    -- 89: both readings are missing.
+    ∷ sheet (words Z) (words S) (NO-HUNDREDTHS ∷ NO-HUNDREDTHS ∷ []) ((2, 0, 0) ∷ (1, 0, 0) ∷ []) 0
+    -- 90: a sheet without samples.
+    ∷ sheet (words Z) [] [] ((0, 0, 0) ∷ (0, 0, 0) ∷ []) 0
+    -- 91: a sheet without zones writes nothing.
+    ∷ sheet [] (words S) (450 ∷ 380 ∷ []) [] 3
+    -- 92: a sheet without either, and an empty output.
+    ∷ sheet [] [] [] [] 0
+    -- 93: a sample outside every zone counts in none.
+    ∷ sheet (words Z) (words (S ++ ((12, 12, 2) ∷ []))) (450 ∷ 380 ∷ 70 ∷ []) ((2, 2, 830) ∷ (1, 1, 450) ∷ []) 0
+    -- 94: the zones as samples: the second counts in the first, and neither in itself.
+    ∷ sheet (words Z) (words Z) (100 ∷ 20 ∷ []) ((1, 1, 20) ∷ (0, 0, 0) ∷ []) 0
+    -- 95: a sample that is also a zone, with another sample inside it.
+    ∷ sheet (words Z) (words ((3, 7, 3) ∷ (4, 6, 4) ∷ [])) (100 ∷ 20 ∷ []) ((2, 2, 120) ∷ (1, 1, 20) ∷ []) 0
+    -- 96: a sample around both zones counts in neither.
+    ∷ sheet (words Z) (words ((1, 11, 1) ∷ (4, 6, 4) ∷ [])) (100 ∷ 20 ∷ []) ((1, 1, 20) ∷ (1, 1, 20) ∷ []) 0
+    -- 97: a sample between two zones counts in the outer one alone.
+    ∷ sheet (words ((2, 10, 2) ∷ (4, 6, 4) ∷ [])) (words ((3, 7, 3) ∷ [])) (100 ∷ []) ((1, 1, 100) ∷ (0, 0, 0) ∷ []) 0
+    -- 98: zones that end at one position, and a sample there.
+    ∷ sheet (words E) (words T) (1000 ∷ 2000 ∷ 3000 ∷ []) ((3, 3, 6000) ∷ (2, 2, 3000) ∷ (1, 1, 2000) ∷ (1, 1, 2000) ∷ []) 0
+    -- 99: zones six deep: each has its own sample and those of the zones inside it.
+    ∷ sheet (words (nest 1 6)) (words (oneInEach 1 6)) (1 ∷ 2 ∷ 4 ∷ 8 ∷ 16 ∷ 32 ∷ [])
+    ((6, 6, 63) ∷ (5, 5, 62) ∷ (4, 4, 60) ∷ (3, 3, 56) ∷ (2, 2, 48) ∷ (1, 1, 32) ∷ []) 0
+    -- 100: zones 64 deep, the most that levels allow. The innermost can't have a sample.
+    ∷ sheet (words (nest 1 64)) (words (oneInEach 1 63)) (replicate 63 1) (downFrom 63) 0
+    -- 101: zones of two documents.
+    ∷ sheet (words Z ++ documentWords 6 ((1, 8, 1) ∷ [])) (words S ++ documentWords 6 ((2, 3, 2) ∷ (5, 6, 2) ∷ []))
+    (NO-HUNDREDTHS ∷ 450 ∷ 380 ∷ 420 ∷ []) ((2, 1, 450) ∷ (1, 0, 0) ∷ (2, 2, 800) ∷ []) 0
+    -- 102: samples of another document than the zones count in none.
+    ∷ sheet (words Z) (documentWords 6 S) (450 ∷ 380 ∷ []) ((0, 0, 0) ∷ (0, 0, 0) ∷ []) 0
+    -- 103: the words 0 and 10,000 are taken, and both are present.
+    ∷ sheet (words Z) (words S) (0 ∷ 10000 ∷ []) ((2, 2, 10000) ∷ (1, 1, 0) ∷ []) 0
+    -- 104: 10,000 as the word of the first sample.
+    ∷ sheet (words Z) (words S) (10000 ∷ 0 ∷ []) ((2, 2, 10000) ∷ (1, 1, 10000) ∷ []) 0
+    -- 105: the other words are READING, with their index.
+    ∷ misread (words Z) 6 faultyHundredths
+    -- 106: READING comes before ROOM.
+    ∷ misread (words Z) 5 faultyHundredths
+    -- 107: READING where there are no zones.
+    ∷ misread [] 0 faultyHundredths
+    -- 108: of two faulty words the first is named.
+    ∷ unwritten (words Z) (words S) (10001 ∷ 65536 ∷ []) 6 READING ANCESTORS 0
+    -- 109: a faulty word refuses, though its sample isn't inside any zone.
+    ∷ unwritten (words Z) (words (S ++ ((12, 12, 2) ∷ []))) (450 ∷ 380 ∷ 10001 ∷ []) 6 READING ANCESTORS 2
+    -- 110: an output that is one word too short.
+    ∷ unwritten (words Z) (words S) (450 ∷ 380 ∷ []) 5 ROOM ANCESTORS 0
+    -- 111: an output that is longer: the words beyond the sheet stay as they were.
+    ∷ sheet (words Z) (words S) (450 ∷ 380 ∷ []) ((2, 2, 830) ∷ (1, 1, 450) ∷ []) 4
+    -- 112: one word too few for the samples.
+    ∷ unwritten (words Z) (words S) (450 ∷ []) 6 RAGGED ANCESTORS 0
+    -- 113: one word too many.
+    ∷ unwritten (words Z) (words S) (450 ∷ 380 ∷ 0 ∷ []) 6 RAGGED ANCESTORS 0
+    -- 114: RAGGED comes before READING and before ROOM.
+    ∷ unwritten (words Z) (words S) (10001 ∷ []) 5 RAGGED ANCESTORS 0
+    -- 115: JOINT comes before RAGGED.
+    ∷ unwritten (words ((1, 9, 1) ∷ [])) (words ((4, 12, 2) ∷ [])) [] 3 JOINT ANCESTORS 0
+    -- 116: a fault of the samples' own list comes before RAGGED.
+    ∷ unwritten (words Z) (words ((8, 9, 3) ∷ (4, 6, 4) ∷ [])) [] 6 ORDER DESCENDANTS 1
+    -- 117: so does a fault of the zones' own list.
+    ∷ unwritten (words ((3, 7, 3) ∷ (2, 10, 2) ∷ [])) (words S) [] 6 ORDER ANCESTORS 1
     ∷ []
 
 -- The two lists of numbers are equal.

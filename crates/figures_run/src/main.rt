@@ -1,6 +1,6 @@
-// The scope's figures that aren't marked [P], except those of the book: empty lists, and lists of
-// 4,096 nodes, of one node more and of one word more. For each the program prints what the calls
-// answer.
+// The scope's figures that aren't marked [P], except those of the book. They are empty lists, lists
+// of 4,096 nodes, of one node more and of one word more, and the largest sum of a sheet. For each
+// the program prints what the calls answer.
 use answers::answer::name_of;
 use answers::verdict::Verdict;
 use io::print_decimal;
@@ -12,12 +12,14 @@ use nodes::node::node_count;
 use nodes::node::put_node;
 use pairs::page::Page;
 use pairs::page::next_page;
+use sheets::sheet::write_sheet;
 use std::num::wrapping_add_u32;
 use tickets::ticket::Order;
 use tickets::ticket::Relation;
 use tickets::ticket::fresh;
 
-// Runs the four cases: empty lists, and lists at the limit, one node past it and one word past it.
+// Runs the five cases: empty lists, lists at the limit, one node past it and one word past it, and
+// the largest sum of a sheet.
 fn main() {
     let mut most = [0u32; 16384];
     let mut one_node_more = [0u32; 16388];
@@ -26,6 +28,7 @@ fn main() {
     texts_case(b"4096 nodes", &mut most);
     texts_case(b"4097 nodes", &mut one_node_more);
     texts_case(b"16385 words", &mut one_word_more);
+    sheet_case();
 }
 
 // Prints `text`.
@@ -39,16 +42,21 @@ fn print_number(text: &[u8], number: usize) {
     print_decimal(STDOUT_FILENO, number as u64);
 }
 
+// Prints `text` and `word` after it.
+fn print_word(text: &[u8], word: u32) {
+    print_number(text, word as usize);
+}
+
 // Prints the number and name of the answer of `verdict`, the list that it speaks of and the index
 // there.
 fn print_verdict(verdict: Verdict) {
     let name = name_of(verdict.answer);
-    print_number(b": ", verdict.answer as usize);
+    print_word(b": ", verdict.answer);
     print(b" [");
     print(&name);
     print(b"]");
-    print_number(b" list ", verdict.list as usize);
-    print_number(b" index ", verdict.index as usize);
+    print_word(b" list ", verdict.list);
+    print_word(b" index ", verdict.index);
 }
 
 // Prints the number of pairs of `page`, and whether they were all that remained.
@@ -61,11 +69,11 @@ fn print_page(page: Page) {
     print(b", not done\n");
 }
 
-// Makes a list of `words`: as many texts, one after the other, as they have room for. Words that
-// are left over stay as they were.
-fn put_texts(words: &mut [u32]) {
+// Makes a list of `words`: as many texts of level `level`, one after the other from `start` on, as
+// they have room for. Words that are left over stay as they were.
+fn put_texts(words: &mut [u32], start: u32, level: u32) {
     let count = node_count(words);
-    let mut place = 0;
+    let mut place = start;
     let mut index = 0;
     // Rests on arithmetic alone: `words` keeps its length, so each turn has room for a node.
     while index < count {
@@ -73,7 +81,7 @@ fn put_texts(words: &mut [u32]) {
             document: 5,
             start: place,
             end: place,
-            level: 1,
+            level: level,
         };
         put_node(words, index, text);
         place = wrapping_add_u32(place, 1);
@@ -84,7 +92,7 @@ fn put_texts(words: &mut [u32]) {
 // Runs the case of a list of texts, as many as `words` have room for: alone, and joined with
 // itself.
 fn texts_case(label: &[u8], words: &mut [u32]) {
-    put_texts(words);
+    put_texts(words, 0, 1);
     print(label);
     print_verdict(check_list(words));
     print(b"\n");
@@ -100,4 +108,26 @@ fn page_case(label: &[u8], words: &[u32]) {
     print(b", joined");
     print_verdict(page.verdict);
     print_page(page);
+}
+
+// Prints the sheet of a zone with 4,096 samples, each with the most hundredths.
+fn sheet_case() {
+    let zones = [5u32, 0, 5000, 1];
+    let mut samples = [0u32; 16384];
+    let hundredths = [10000u32; 4096];
+    let mut out = [0u32; 3];
+    put_texts(&mut samples, 1, 2);
+    let sheet = write_sheet(&zones, &samples, &hundredths, &mut out);
+    print(b"4096 samples of 10000");
+    print_verdict(sheet.verdict);
+    print_number(b", zones ", sheet.count);
+    print_row(&out);
+}
+
+// Prints the three columns of a sheet's row.
+fn print_row(row: &[u32; 3]) {
+    print_word(b", samples ", row[0]);
+    print_word(b", present ", row[1]);
+    print_word(b", sum ", row[2]);
+    print(b"\n");
 }

@@ -12,10 +12,10 @@ use Rattle.figures_run.proofs.put_texts.Statement.{statement}
 use Rattle.figures_run.proofs.put_texts.Tie as tie
 
 abbrev Inv-loop : tie.InvT-loop
-Inv-loop words₀ count place₀ index₀ words place index = length words ≡ length words₀
+Inv-loop words₀ start level count place₀ index₀ words place index = length words ≡ length words₀
 
 abbrev μ-loop : tie.MeasureT-loop
-μ-loop words₀ count place₀ index₀ words place index = count - index
+μ-loop words₀ start level count place₀ index₀ words place index = count - index
 
 node-count-requires : tie.Need-node-count-requires Inv-loop μ-loop
 node-count-requires c κs = search needs
