@@ -14,6 +14,7 @@ use Rattle.belfrychest.proofs.list.belfry_faulty.Reads as faulty
 use Rattle.belfrychest.proofs.name.belfry_name.Reads as name
 use Rattle.belfrychest.proofs.page.belfry_list.Reads as list
 use Rattle.belfrychest.proofs.range.belfry_zone_range.Reads as zone-range
+use Rattle.belfrychest.proofs.sheet.belfry_sheet.Reads as sheet
 use Rattle.belfrychest.proofs.table.belfry_links.Reads as links
 use Rattle.belfrychest.proofs.table.belfry_number.Reads as number
 use Rattle.belfrychest.proofs.table.belfry_pick.Reads as pick
@@ -67,3 +68,7 @@ version-only κs a r r′ s s′ p q = only p q
 
 pub zone-range-only : (κs : _) (a : _) (r r′ : _) (s s′ : _) → zone-range.Post κs a r s → zone-range.Post κs a r′ s′ → r ≡ r′
 zone-range-only κs a r r′ s s′ p q = only p q
+
+pub sheet-only : (κs : _) (a : _) (r r′ : _) (s s′ : _) → sheet.Post κs a r s → sheet.Post κs a r′ s′
+    → (now (s .1 .1 .1 .0) ≡ now (s′ .1 .1 .1 .0)) × (r ≡ r′)
+sheet-only κs a r r′ s s′ p q = (only (p .output) (q .output), only (p .answer) (q .answer))

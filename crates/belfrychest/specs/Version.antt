@@ -3,4 +3,4 @@
 use Prim.Native.Nat.{ℕ}
 
 abbrev pub VERSION : ℕ
-VERSION = 2
+VERSION = 3

@@ -5,5 +5,6 @@ pub mod list;
 pub mod name;
 pub mod page;
 pub mod range;
+pub mod sheet;
 pub mod table;
 pub mod version;
