@@ -1,6 +1,6 @@
--- Demand 1 for the other calls that write: `number`, `unnumber`, `pick`, `link_list`, `write_book`
--- and `copy_lists`. A refusal counts nothing and alters nothing, and no call alters a word after
--- those that it counts. A call that did otherwise would be caught here.
+-- Demand 1 for the other calls that write: `number`, `unnumber`, `pick`, `link_list`,
+-- `write_sheet`, `write_book` and `copy_lists`. A refusal counts nothing and alters nothing, and no
+-- call alters a word after those that it counts. A call that did otherwise would be caught here.
 use mathlib.Core.Path.{_≡_, refl}
 use mathlib.Core.List.{List}
 use mathlib.Core.Logic.{inl, inr}
@@ -30,6 +30,8 @@ use Rattle.marks.proofs.RowLaws.{length-words}
 use Rattle.forest.specs.Linked.{linksIn, linkedOf, linksOutput}
 use Rattle.forest.specs.Links.{LINK-WORDS}
 use Rattle.forest.proofs.LinkLaws.{links-length}
+use Rattle.sheets.specs.Sheet.{SUBTOTAL-WORDS, sheetIn, checkSheet, sheetOf, sheetOutput}
+use Rattle.sheets.proofs.Answered.{sheet-length}
 use Rattle.writing.specs.WriteCall.{checkWanted, bytesFor, writtenOf, writtenOutput}
 use Rattle.joins.specs.declared.copy.Lengths.{Lengths}
 use Rattle.joins.specs.Join.{tagWords, thereb, fitb, copyAnswer, lengthsOf, firstAfter, secondAfter}
@@ -122,6 +124,26 @@ module _ (list out : List ℕ) where
         beyond-unaltered fault words out LINK-WORDS (length (nodes list)) _ (omega (arith, links-length list, length-nodes list)) refl,
         output-length fault words out,
       )
+
+-- Writing a zone sheet:
+module _ (zones samples hundredths out : List ℕ) where
+  abbrev sheet : Counted
+  sheet = sheetOf zones samples hundredths out
+
+  -- a refusal counts no zone and alters no word,
+  pub refused-sheet-alters-nothing : AltersNothing (sheet .verdict .answer) (sheet .count) out (sheetOutput zones samples hundredths out)
+  unfolding sheetOf sheetOutput
+  refused-sheet-alters-nothing =
+      refused-alters-nothing (checkSheet zones samples hundredths .answer) (sheetIn zones samples hundredths) out (length (nodes zones))
+
+  -- and no word after the rows that it counts is altered.
+  pub sheet-keeps-beyond : KeepsBeyond (SUBTOTAL-WORDS * sheet .count) out (sheetOutput zones samples hundredths out)
+  unfolding sheetOf sheetOutput
+  sheet-keeps-beyond =
+      let fault = checkSheet zones samples hundredths .answer in
+      let words = sheetIn zones samples hundredths in
+      let long = sheet-length zones samples hundredths in
+      (beyond-unaltered fault words out SUBTOTAL-WORDS (length (nodes zones)) _ (omega (arith, long, length-nodes zones)) refl, output-length fault words out)
 
 -- Writing a book:
 module _ (entries list out : List ℕ) where
