@@ -42,8 +42,8 @@
  * - The thread's floats are in their default mode: they are rounded to the nearest, and the
  *   smallest ones aren't taken for zero; otherwise a reading below zero may be taken. Only the
  *   calls for ranges compute with floats.
- * - There is enough stack. What a call takes has a bound, a few thousand bytes; docs/SPEED.md of
- *   the repository gives it.
+ * - There is enough stack. What a call takes has a bound: less than 20,000 bytes for belfry_sheet,
+ *   and less than 3,000 for any other. docs/SPEED.md of the repository gives it.
  */
 #ifndef BELFRYCHEST_H
 #define BELFRYCHEST_H
@@ -57,7 +57,7 @@ extern "C" {
 
 /* The version of the library that this header belongs to. It rises when something here changes:
  * belfry_version returns that of the archive, and the two have to be equal. */
-#define BELFRY_VERSION 2
+#define BELFRY_VERSION 3
 
 /* A call of words takes no null, and an answer that nobody looks at may be a refusal. A compiler
  * that has these attributes warns of a null and of a dropped answer. */
@@ -89,13 +89,16 @@ extern "C" {
 /* How many words each thing takes. A node is document, start, end, level. A pair is the ancestor
  * and then the descendant. A row of a table is a node and its tag. A link is the index of the
  * parent, of the first child and of the next sibling. An entry for a book to be written is a tag
- * and a number of nodes. A reading is a kind and the bits of a float. A ticket is its fields. */
+ * and a number of nodes. A reading is a kind and the bits of a float. A subtotal of a sheet is a
+ * number of samples, how many of them have a reading, and the sum of those readings. A ticket is
+ * its fields. */
 #define BELFRY_NODE_WORDS 4
 #define BELFRY_PAIR_WORDS (2 * BELFRY_NODE_WORDS)
 #define BELFRY_ROW_WORDS (BELFRY_NODE_WORDS + 1)
 #define BELFRY_LINK_WORDS 3
 #define BELFRY_ENTRY_WORDS 2
 #define BELFRY_READING_WORDS 2
+#define BELFRY_SUBTOTAL_WORDS 3
 #define BELFRY_TICKET_WORDS 6
 
 /* How many bytes a number in a book takes, lowest byte first. */
@@ -128,6 +131,11 @@ extern "C" {
 #define BELFRY_MOST_PERCENT 100
 #define BELFRY_MOST_GRAMS 1000
 
+/* The word that a zone sheet takes for each sample. It is the reading in hundredths of a percent,
+ * from 0 to the first of these. Or it is the second, which says that the reading is missing. */
+#define BELFRY_MOST_HUNDREDTHS 10000
+#define BELFRY_NO_HUNDREDTHS 65535
+
 /* The word of a link when there is no such node. */
 #define BELFRY_NONE 4294967295u
 
@@ -154,8 +162,8 @@ typedef enum belfry_order {
 /* The answers, written by bin/tables. */
 /* Nothing below applies. */
 #define BELFRY_TAKEN 0
-/* The words don't divide evenly into nodes, rows or entries, or there aren't as many readings as
- * samples. */
+/* The words don't divide evenly into nodes, rows or entries, or there aren't as many readings or
+ * hundredths as samples. */
 #define BELFRY_RAGGED 1
 /* There are more than 4,096 nodes, rows or marks. For the program: more than 61,440 bytes. */
 #define BELFRY_LONG 2
@@ -191,7 +199,8 @@ typedef enum belfry_order {
  * index. */
 #define BELFRY_ABSENT 16
 /* A sample's reading has an unknown kind, or is missing and yet has bits. Or its value is infinite,
- * a NaN or below zero. Or it exceeds 100 percent or 1,000 grams per kilogram. */
+ * a NaN or below zero. Or it exceeds 100 percent or 1,000 grams per kilogram. In a sheet: a
+ * sample's word is above 10,000 and isn't 65,535. */
 #define BELFRY_READING 17
 
 /* A node of a list. */
@@ -251,6 +260,13 @@ static inline belfry_reading belfry_no_reading(void) {
     return missing;
 }
 
+/* What a zone sheet says of a zone. `samples` is how many samples are inside it, `present` is how
+ * many of these have a reading, and `sum` is the sum of those readings in hundredths of a percent.
+ * Where `present` is 0, the lab has read none of the samples, and the 0 in `sum` is no reading. */
+typedef struct {
+    uint32_t samples, present, sum;
+} belfry_subtotal;
+
 /* What a check answers. For BELFRY_LEVEL to BELFRY_DEPTH, the list and the index say where the
  * faulty node is. For BELFRY_READING the index is that of the sample, and the list is 0. For every
  * other answer the index is 0, and so is the list, except in the descendants' own BELFRY_RAGGED and
@@ -307,7 +323,7 @@ typedef struct {
     float low, high;
 } belfry_range;
 
-/* A verdict, and how many rows, nodes, links or bytes were written. */
+/* A verdict, and how many rows, nodes, links, subtotals or bytes were written. */
 typedef struct {
     belfry_verdict verdict;
     size_t count;
@@ -405,6 +421,21 @@ BELFRY_NONNULL
 belfry_range belfry_zone_range(const uint32_t *zones, size_t zone_words, const uint32_t *samples,
                                size_t sample_words, const uint32_t *readings, size_t reading_words,
                                uint32_t zone);
+
+/* Writes the zone sheet of a whole farm: a subtotal for each zone, in list order. It reads both
+ * lists and the hundredths. These have one word for each sample, in the samples' order: a number
+ * from 0 to BELFRY_MOST_HUNDREDTHS, or BELFRY_NO_HUNDREDTHS where the reading is missing.
+ * The subtotal of a zone is over all samples inside it, directly or not. A node that stands in both
+ * lists counts in the zones around it, and not in itself. No sum exceeds
+ * BELFRY_MOST_NODES * BELFRY_MOST_HUNDREDTHS. The answer counts zones.
+ * Answers: those of belfry_check_two. Then RAGGED with list 0, when there aren't as many hundredths
+ * as samples. Then READING with list 0 and the sample's index, for the first faulty word of any
+ * sample, in a zone or not. Then ROOM. */
+BELFRY_MUST_USE
+BELFRY_NONNULL
+belfry_result belfry_sheet(const uint32_t *zones, size_t zone_words, const uint32_t *samples,
+                           size_t sample_words, const uint32_t *hundredths, size_t hundredth_words,
+                           uint32_t *out, size_t out_words);
 
 /* Numbers a document's marks. It reads the marks and writes a row for each element and text, in
  * start order; as many rows as there are marks are always enough.
@@ -570,6 +601,21 @@ static inline belfry_range belfry_zone_range_nodes(const belfry_node *zones, siz
     return belfry_zone_range(BELFRY_WORDS_OF(zones, zone_count, document),
                              BELFRY_WORDS_OF(samples, sample_count, document),
                              BELFRY_WORDS_OF(readings, reading_count, kind), zone);
+}
+
+/* Writes the zone sheet, as belfry_sheet does: one subtotal for each zone. The hundredths have one
+ * word for each sample.
+ * Answers: those of belfry_check_two_lists, RAGGED when there aren't as many hundredths as samples,
+ * READING with the sample's index, ROOM. */
+BELFRY_MUST_USE
+static inline belfry_result belfry_sheet_nodes(const belfry_node *zones, size_t zone_count,
+                                               const belfry_node *samples, size_t sample_count,
+                                               const uint32_t *hundredths, size_t hundredth_count,
+                                               belfry_subtotal *out, size_t room) {
+    return belfry_sheet(BELFRY_WORDS_OF(zones, zone_count, document),
+                        BELFRY_WORDS_OF(samples, sample_count, document),
+                        hundredth_count != 0 ? hundredths : belfry_no_words(), hundredth_count,
+                        BELFRY_WORDS_OF(out, room, samples));
 }
 
 /* Numbers a document's marks, as belfry_number does.

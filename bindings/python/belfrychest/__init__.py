@@ -7,10 +7,12 @@ The archive reads and writes all of it where it lies, and copies nothing. Memory
 dimension must have the words of one item in its last dimension: a numpy array of nodes has the
 shape (n, 4).
 
-`words` turns tuples into such memory, and `nodes`, `node_pairs`, `rows` and `node_links` read it.
+`words` turns tuples into such memory. `nodes`, `node_pairs`, `rows`, `node_links` and `subtotals`
+read it.
 `pairs` lists the pairs of two lists one by one, `listing` returns all of them in one array, and
 `page` writes one page. These take lists of at most MOST nodes; `Pieces` takes lists of any length.
 `zone_range` returns the low and the high of the lab readings in a zone, and None where it has none.
+`sheet` adds up the readings of every zone at once, in whole numbers.
 
 A refusal of the library is raised as `Refused`, and leaves whatever was lent for writing as it was.
 Memory that can't be lent is a TypeError or a ValueError, and so is a number that doesn't have 32
@@ -25,20 +27,24 @@ from ._books import book_body, book_check, book_lists, book_write, book_write_in
 from ._lists import check, check_two, faulty, links, links_into, verdict, verdict_two
 from ._marks import number, number_into, pick, pick_into, unnumber, unnumber_into
 from ._memory import Buffer, Words
-from ._nodes import Link, Node, Pair, Row, node_links, node_pairs, nodes, rows, words
+from ._nodes import Link, Node, Pair, Row, Subtotal
+from ._nodes import node_links, node_pairs, nodes, rows, subtotals, words
 from ._pages import Order, Page, Relation, Ticket, listing, page, pairs
 from ._pieces import Pieces
 from ._readings import Grams, Percent, Range, Reading, reading_words, zone_range
-from ._table import CLOSE, HINTS, MOST_LEVELS, MOST_LISTS, NONE, PAGE_PAIRS, TEXT
+from ._sheets import sheet, sheet_into
+from ._table import CLOSE, HINTS, MOST_HUNDREDTHS, MOST_LEVELS, MOST_LISTS, NO_HUNDREDTHS
+from ._table import NONE, PAGE_PAIRS, TEXT
 from ._table import MOST_NODES as MOST
 from ._table import Answer, __version__
 
 __all__ = [
-    "Answer", "Buffer", "CLOSE", "Grams", "HINTS", "Link", "MOST", "MOST_LEVELS", "MOST_LISTS",
-    "NONE", "Node", "Order", "PAGE_PAIRS", "Page", "Pair", "Percent", "Pieces", "Range", "Reading",
-    "Refused", "Relation", "Row", "TEXT", "Ticket", "Verdict", "Words", "__version__", "book_body",
-    "book_check", "book_lists", "book_write", "book_write_into", "check", "check_two", "faulty",
-    "links", "links_into", "listing", "name", "node_links", "node_pairs", "nodes", "number",
-    "number_into", "page", "pairs", "pick", "pick_into", "reading_words", "rows", "unnumber",
-    "unnumber_into", "verdict", "verdict_two", "words", "write_book", "zone_range",
+    "Answer", "Buffer", "CLOSE", "Grams", "HINTS", "Link", "MOST", "MOST_HUNDREDTHS",
+    "MOST_LEVELS", "MOST_LISTS", "NONE", "NO_HUNDREDTHS", "Node", "Order", "PAGE_PAIRS", "Page",
+    "Pair", "Percent", "Pieces", "Range", "Reading", "Refused", "Relation", "Row", "Subtotal",
+    "TEXT", "Ticket", "Verdict", "Words", "__version__", "book_body", "book_check", "book_lists",
+    "book_write", "book_write_into", "check", "check_two", "faulty", "links", "links_into",
+    "listing", "name", "node_links", "node_pairs", "nodes", "number", "number_into", "page",
+    "pairs", "pick", "pick_into", "reading_words", "rows", "sheet", "sheet_into", "subtotals",
+    "unnumber", "unnumber_into", "verdict", "verdict_two", "words", "write_book", "zone_range",
 ]

@@ -8,7 +8,7 @@ from typing import TYPE_CHECKING, Any, Dict, Iterator, NamedTuple, Protocol, Uni
 
 from ._table import (
     ENTRY_WORDS, LINK_WORDS, MOST_NODES, NODE_WORDS, NONE, NUMBER_BYTES, PAIR_WORDS, READING_WORDS,
-    ROW_WORDS,
+    ROW_WORDS, SUBTOTAL_WORDS,
 )
 
 
@@ -54,6 +54,8 @@ ROWS = _words(ROW_WORDS, "a row")
 LINKS = _words(LINK_WORDS, "a link")
 ENTRIES = _words(ENTRY_WORDS, "an entry")
 READINGS = _words(READING_WORDS, "a reading")
+HUNDREDTHS = _words(1, "a sample's hundredths")
+SUBTOTALS = _words(SUBTOTAL_WORDS, "a subtotal")
 BYTES = Kind("Bbc", 1, "a buffer of bytes", 1, "a byte")
 
 

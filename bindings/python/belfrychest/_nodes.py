@@ -1,10 +1,10 @@
-"""Nodes, pairs, rows and links as named tuples, and these to words and back."""
+"""Nodes, pairs, rows, links and subtotals as named tuples, and these to words and back."""
 from array import array
 from itertools import chain
 from struct import iter_unpack
 from typing import Any, Callable, Iterable, Iterator, NamedTuple, Tuple, TypeVar
 
-from ._memory import LINKS, NODES, PAIRS, ROWS, Buffer, Kind, Words, lent, part
+from ._memory import LINKS, NODES, PAIRS, ROWS, SUBTOTALS, Buffer, Kind, Words, lent, part
 from ._table import NODE_WORDS, NUMBER_BYTES
 
 
@@ -40,6 +40,16 @@ class Link(NamedTuple):
     parent: int
     first_child: int
     next_sibling: int
+
+
+class Subtotal(NamedTuple):
+    """What a sheet says of a zone: the samples inside it, how many of them have a reading, and the
+    sum of those readings in hundredths of a percent.
+    """
+
+    samples: int
+    present: int
+    sum: int
 
 
 def words(items: Iterable[Iterable[Any]]) -> Words:
@@ -98,3 +108,8 @@ def rows(words: Buffer) -> Iterator[Row]:
 def node_links(words: Buffer) -> Iterator[Link]:
     """Reads what `links` wrote, a link for each node, as `nodes` reads a list."""
     return _items("words", words, LINKS, Link._make)
+
+
+def subtotals(words: Buffer) -> Iterator[Subtotal]:
+    """Reads what `sheet_into` wrote, a subtotal for each zone, as `nodes` reads a list."""
+    return _items("words", words, SUBTOTALS, Subtotal._make)

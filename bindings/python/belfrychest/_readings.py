@@ -1,14 +1,14 @@
 """Lab readings of organic matter, and their low and high in a zone."""
 import ctypes
 from array import array
-from collections.abc import Mapping, Set
 from dataclasses import dataclass
-from typing import Iterable, Iterator, NamedTuple, Optional, Union
+from typing import Iterable, NamedTuple, Optional, Union
 
-from ._answers import Verdict, settle, verdict_of
+from ._answers import settle
 from ._archive import RangeStruct, function, lent_memory, word32
-from ._memory import NODES, READINGS, Buffer, Lent, Words, lent, word
-from ._table import GRAMS, MISSING, NODE_WORDS, PERCENT, Answer
+from ._memory import NODES, READINGS, Buffer, Words, lent, word
+from ._samples import in_order, memory_of, verdict_with
+from ._table import GRAMS, MISSING, PERCENT
 
 _zone_range = function("zone_range", RangeStruct, *lent_memory, *lent_memory, *lent_memory, word32)
 
@@ -49,26 +49,14 @@ def _bits(index: int, value: float) -> int:
         raise ValueError(f"reading {index} has a number that is no float") from None
 
 
-def _in_order(readings: Iterable[Reading]) -> Iterator[Reading]:
-    """Returns an iterator over readings. A set has no order, and a dict would give its keys."""
-    kind = type(readings).__name__
-    if isinstance(readings, (Set, Mapping)):
-        raise TypeError(f"readings must come in the samples' order, not as {kind}")
-    try:
-        return iter(readings)
-    except TypeError:
-        raise TypeError(
-            "readings must be a list of Percent, Grams or None, or a buffer of their words, "
-            f"not {kind}") from None
-
-
 def reading_words(readings: Iterable[Reading]) -> Words:
     """Returns the words of some readings, two for each: a kind and the bits of its value.
 
     `zone_range` takes readings as they are. To ask for many zones, make the words once.
     """
     out = array("I")
-    for index, reading in enumerate(_in_order(readings)):
+    given = in_order("readings", readings, "Percent, Grams or None")
+    for index, reading in enumerate(given):
         if reading is None:
             out.extend((MISSING, 0))
         elif isinstance(reading, (Percent, Grams)):
@@ -78,24 +66,6 @@ def reading_words(readings: Iterable[Reading]) -> Words:
             raise TypeError(
                 f"reading {index} must be Percent, Grams or None, not {type(reading).__name__}")
     return out
-
-
-def _memory_of(readings: Union[Buffer, Iterable[Reading]]) -> Buffer:
-    """Returns readings as memory: as they are where they lend theirs, or else their words."""
-    try:
-        memoryview(readings).release()  # type: ignore[arg-type]
-    except TypeError:
-        return reading_words(readings)  # type: ignore[arg-type]
-    return readings  # type: ignore[return-value]
-
-
-def _verdict(found: RangeStruct, zones: Lent, samples: Lent) -> Verdict:
-    """Returns the verdict. Where both lists are whole, the readings are RAGGED, and it has no list.
-    """
-    whole = zones.length % NODE_WORDS == 0 and samples.length % NODE_WORDS == 0
-    if whole and found.verdict.answer == Answer.RAGGED:
-        return Verdict(Answer.RAGGED)
-    return verdict_of(found.verdict, two_lists=True)
 
 
 def zone_range(zones: Buffer, samples: Buffer, readings: Union[Buffer, Iterable[Reading]],
@@ -115,9 +85,9 @@ def zone_range(zones: Buffer, samples: Buffer, readings: Union[Buffer, Iterable[
     """
     given_zone = word("zone", zone)
     with lent("zones", zones, NODES) as outer, lent("samples", samples, NODES) as inner, \
-            lent("readings", _memory_of(readings), READINGS) as read:
+            lent("readings", memory_of(readings, reading_words), READINGS) as read:
         found = _zone_range(outer.address, outer.length, inner.address, inner.length, read.address,
                             read.length, given_zone)
-        verdict = _verdict(found, outer, inner)
+        verdict = verdict_with(found.verdict, outer, inner)
     settle(verdict)
     return Range(found.low, found.high) if found.present else None

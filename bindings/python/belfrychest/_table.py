@@ -1,7 +1,7 @@
 """The version, the limits of the C header, and the answers. Written by bin/tables."""
 from enum import IntEnum
 
-__version__ = "2"
+__version__ = "3"
 
 MOST_NODES = 4096
 MOST_LEVELS = 64
@@ -15,6 +15,7 @@ ROW_WORDS = 5
 LINK_WORDS = 3
 ENTRY_WORDS = 2
 READING_WORDS = 2
+SUBTOTAL_WORDS = 3
 TICKET_WORDS = 6
 NUMBER_BYTES = 4
 CONTENTS_NUMBERS = 3
@@ -28,6 +29,8 @@ PERCENT = 1
 GRAMS = 2
 MOST_PERCENT = 100
 MOST_GRAMS = 1000
+MOST_HUNDREDTHS = 10000
+NO_HUNDREDTHS = 65535
 NONE = 4294967295
 ANCESTORS = 0
 DESCENDANTS = 1
@@ -68,7 +71,8 @@ HINTS = {
     ),
     Answer.RAGGED: (
         "Give whole nodes of 4 words, rows of 5 or entries of 2, and for each sample one reading "
-        "of 2. A length is cut off, or counts bytes or nodes instead of words."
+        "of 2, or one word of hundredths for a sheet. A length is cut off, or counts bytes or "
+        "nodes instead of words."
     ),
     Answer.LONG: (
         "Join longer lists with Pieces (Python, Rust). Or cut them yourself: check each piece "
@@ -128,7 +132,8 @@ HINTS = {
     ),
     Answer.READING: (
         "Repair the reading of the sample at that index. Give a percentage from 0 to 100, grams "
-        "per kilogram from 0 to 1,000, or a missing one, whose bits are 0. Never give 0 for a "
-        "sample that the lab didn't read."
+        "per kilogram from 0 to 1,000, or a missing one, whose bits are 0. For a sheet, give "
+        "hundredths of a percent from 0 to 10,000, or 65,535 for a missing one. Never give 0 for "
+        "a sample that the lab didn't read."
     ),
 }

@@ -111,6 +111,15 @@ pub(crate) fn settle_two(verdict: raw::Verdict) -> Result<(), Refusal> {
     })
 }
 
+/// Does what [`settle_two`] does for a call that is lent readings or hundredths too. A RAGGED is of
+/// these and names no list: slices of nodes are never ragged.
+pub(crate) fn settle_read(verdict: raw::Verdict) -> Result<(), Refusal> {
+    settle_two(verdict).map_err(|refusal| match refusal.answer {
+        Answer::Ragged => Refusal::without_place(Answer::Ragged),
+        _ => refusal,
+    })
+}
+
 /// Does what [`settle`] does for an answer that has no place.
 pub(crate) fn settle_answer(answer: u32) -> Result<(), Refusal> {
     settle(raw::Verdict { answer, list: 0, index: 0 })
@@ -136,5 +145,6 @@ mod tests {
         let ragged = Refusal::without_place(Answer::Ragged);
         assert_eq!(settle(verdict), Err(ragged));
         assert_eq!(settle_two(verdict), Err(Refusal { list: Some(1), ..ragged }));
+        assert_eq!(settle_read(verdict), Err(ragged));
     }
 }

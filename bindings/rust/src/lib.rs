@@ -28,7 +28,8 @@
 //! go on with. [`Pieces`] does all this for lists of any length.
 //!
 //! [`zone_range`] returns the low and the high of the lab readings in a zone. Where the lab has
-//! read none of its samples it returns `None`, and never 0.
+//! read none of its samples it returns `None`, and never 0. [`sheet()`] adds up the readings of
+//! every zone at once, in whole numbers, and counts the samples that have one.
 //!
 //! Lists that come as words, four for each node, are lent as they lie: [`nodes`] takes words, and
 //! [`words`] gives them. All that is unsafe is in [`raw`], the C interface as it is. Every call
@@ -49,6 +50,7 @@ mod pieces;
 #[allow(unsafe_code, missing_docs)]
 pub mod raw;
 mod reading;
+mod sheet;
 mod table;
 mod ticket;
 
@@ -63,5 +65,6 @@ pub use page::{next_page, Page};
 pub use pieces::Pieces;
 pub use raw::{version, words};
 pub use reading::{zone_range, Range, Reading};
+pub use sheet::{sheet, sheet_into, Hundredths, Subtotal};
 pub use table::{Answer, VERSION};
 pub use ticket::{Order, Place, Relation, StoredTicketError, Ticket};

@@ -27,6 +27,9 @@ pub const LINK_WORDS: usize = 3;
 pub const ENTRY_WORDS: usize = 2;
 /// The words of a lab reading: its kind and the bits of its value.
 pub const READING_WORDS: usize = 2;
+/// The words of a subtotal of a sheet: the samples, how many of them have a reading, and the sum of
+/// those readings.
+pub const SUBTOTAL_WORDS: usize = 3;
 /// The words of a ticket: its relation, its order, whether it is placed, and the three numbers of
 /// its key.
 pub const TICKET_WORDS: usize = 6;
@@ -55,6 +58,10 @@ pub const GRAMS: u32 = 2;
 pub const MOST_PERCENT: f32 = 100.0;
 /// The greatest lab reading in grams per kilogram. The least is 0.
 pub const MOST_GRAMS: f32 = 1000.0;
+/// The greatest lab reading in hundredths of a percent, for a sheet. The least is 0.
+pub const MOST_HUNDREDTHS: u32 = 10000;
+/// The word that says in a sheet that a lab reading is missing.
+pub const NO_HUNDREDTHS: u32 = 65535;
 /// A link's word that says there is no such node.
 pub const NONE: u32 = u32::MAX;
 

@@ -12,6 +12,7 @@
 //! since the structs of another version may lie otherwise in memory.
 
 use crate::node::{Entry, Link, Node, Pair, Row};
+use crate::sheet::{Hundredths, Subtotal};
 use crate::table::VERSION;
 use std::mem::size_of;
 use std::slice;
@@ -136,6 +137,16 @@ extern "C" {
         reading_words: usize,
         zone: u32,
     ) -> Range;
+    fn belfry_sheet(
+        zones: *const u32,
+        zone_words: usize,
+        samples: *const u32,
+        sample_words: usize,
+        hundredths: *const u32,
+        hundredth_words: usize,
+        out: *mut u32,
+        out_words: usize,
+    ) -> Written;
     fn belfry_number(
         document: u32,
         marks: *const u32,
@@ -244,6 +255,23 @@ pub fn zone_range(zones: &[u32], samples: &[u32], readings: &[u32], zone: u32) -
     }
 }
 
+/// Returns the sheet that `belfry_sheet` writes and answers.
+pub fn sheet(zones: &[u32], samples: &[u32], hundredths: &[u32], out: &mut [u32]) -> Written {
+    hold_version();
+    unsafe {
+        belfry_sheet(
+            zones.as_ptr(),
+            zones.len(),
+            samples.as_ptr(),
+            samples.len(),
+            hundredths.as_ptr(),
+            hundredths.len(),
+            out.as_mut_ptr(),
+            out.len(),
+        )
+    }
+}
+
 /// Returns the table that `belfry_number` writes and answers.
 pub fn number(document: u32, marks: &[u32], out: &mut [u32]) -> Written {
     hold_version();
@@ -315,14 +343,16 @@ unsafe impl OfWords for Pair {}
 unsafe impl OfWords for Row {}
 unsafe impl OfWords for Link {}
 unsafe impl OfWords for Entry {}
+unsafe impl OfWords for Hundredths {}
+unsafe impl OfWords for Subtotal {}
 
 /// Returns how many words an item has.
 const fn words_of<T: OfWords>() -> usize {
     size_of::<T>() / size_of::<u32>()
 }
 
-/// Returns the words of nodes, pairs, rows, links or entries, one item after the other, without a
-/// copy.
+/// Returns the words of nodes, pairs, rows, links, entries, hundredths or subtotals, one item after
+/// the other, without a copy.
 pub fn words<T: OfWords>(items: &[T]) -> &[u32] {
     unsafe { slice::from_raw_parts(items.as_ptr().cast(), items.len() * words_of::<T>()) }
 }

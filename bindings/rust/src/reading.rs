@@ -1,10 +1,9 @@
 //! Lab readings of organic matter, and their low and high in a zone.
 
-use crate::answer::{settle_two, Refusal};
+use crate::answer::{settle_read, Refusal};
 use crate::limits::{GRAMS, MISSING, PERCENT, READING_WORDS};
 use crate::node::Node;
 use crate::raw::{self, words};
-use crate::table::Answer;
 
 /// What the lab found in a sample. A sample that it didn't read is [`Reading::Missing`], and never
 /// a reading of 0.
@@ -77,14 +76,6 @@ pub fn zone_range(
     // The greatest word is no zone's index either.
     let index = u32::try_from(zone).unwrap_or(u32::MAX);
     let found = raw::zone_range(words(zones), words(samples), &readings, index);
-    settle_two(found.verdict).map_err(of_readings)?;
+    settle_read(found.verdict)?;
     Ok((found.present != 0).then_some(Range { low: found.low, high: found.high }))
-}
-
-/// Returns the refusal without a list where the readings are ragged: slices of nodes never are.
-fn of_readings(refusal: Refusal) -> Refusal {
-    match refusal.answer {
-        Answer::Ragged => Refusal::without_place(Answer::Ragged),
-        _ => refusal,
-    }
 }

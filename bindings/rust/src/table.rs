@@ -1,7 +1,7 @@
 //! The version, the answers and their hints. Written by bin/tables.
 
 /// The version of the library that this crate is made for.
-pub const VERSION: u32 = 2;
+pub const VERSION: u32 = 3;
 
 /// What a call can answer, by the numbers of docs/SCOPE.md, Answer numbers.
 #[derive(Clone, Copy, Debug, PartialEq, Eq, Hash)]
@@ -10,7 +10,7 @@ pub enum Answer {
     /// Nothing below applies.
     Taken,
     /// The words don't divide evenly into nodes, rows or entries, or there aren't as many readings
-    /// as samples.
+    /// or hundredths as samples.
     Ragged,
     /// There are more than 4,096 nodes, rows or marks. For the program: more than 61,440 bytes.
     Long,
@@ -46,7 +46,8 @@ pub enum Answer {
     /// that index.
     Absent,
     /// A sample's reading has an unknown kind, or is missing and yet has bits. Or its value is
-    /// infinite, a NaN or below zero. Or it exceeds 100 percent or 1,000 grams per kilogram.
+    /// infinite, a NaN or below zero. Or it exceeds 100 percent or 1,000 grams per kilogram. In a
+    /// sheet: a sample's word is above 10,000 and isn't 65,535.
     Reading,
     /// An answer that this crate doesn't know, by its number.
     Unknown(u32),
@@ -58,7 +59,8 @@ pub(crate) const ROWS: &[(Answer, &str)] = &[
     (
         Answer::Ragged,
         "Give whole nodes of 4 words, rows of 5 or entries of 2, and for each sample one reading \
-        of 2. A length is cut off, or counts bytes or nodes instead of words.",
+        of 2, or one word of hundredths for a sheet. A length is cut off, or counts bytes or \
+        nodes instead of words.",
     ),
     (
         Answer::Long,
@@ -119,7 +121,8 @@ pub(crate) const ROWS: &[(Answer, &str)] = &[
     (
         Answer::Reading,
         "Repair the reading of the sample at that index. Give a percentage from 0 to 100, grams \
-        per kilogram from 0 to 1,000, or a missing one, whose bits are 0. Never give 0 for a \
-        sample that the lab didn't read.",
+        per kilogram from 0 to 1,000, or a missing one, whose bits are 0. For a sheet, give \
+        hundredths of a percent from 0 to 10,000, or 65,535 for a missing one. Never give 0 for \
+        a sample that the lab didn't read.",
     ),
 ];

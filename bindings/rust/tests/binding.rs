@@ -84,6 +84,7 @@ fn binding_numbers() -> BTreeMap<String, u32> {
         ("LINK_WORDS", LINK_WORDS),
         ("ENTRY_WORDS", ENTRY_WORDS),
         ("READING_WORDS", READING_WORDS),
+        ("SUBTOTAL_WORDS", SUBTOTAL_WORDS),
         ("TICKET_WORDS", TICKET_WORDS),
         ("TICKET_FORM", TICKET_FORM as usize),
         ("NUMBER_BYTES", NUMBER_BYTES),
@@ -96,6 +97,8 @@ fn binding_numbers() -> BTreeMap<String, u32> {
         ("GRAMS", GRAMS as usize),
         ("MOST_PERCENT", MOST_PERCENT as usize),
         ("MOST_GRAMS", MOST_GRAMS as usize),
+        ("MOST_HUNDREDTHS", MOST_HUNDREDTHS as usize),
+        ("NO_HUNDREDTHS", NO_HUNDREDTHS as usize),
         ("NONE", NONE as usize),
         ("ANCESTORS", ANCESTORS),
         ("DESCENDANTS", DESCENDANTS),
@@ -370,6 +373,71 @@ fn a_range_is_refused() {
     let hint = Answer::Reading.hint();
     let said = range(&[good[0], Reading::Percent(100.5)], 0).expect_err("it is above 100 percent");
     assert_eq!(said.to_string(), format!("refused 17 READING index 1: {hint}"));
+}
+
+const fn subtotal(samples: u32, present: u32, sum: u32) -> Subtotal {
+    Subtotal { samples, present, sum }
+}
+
+const SUBTOTAL_PAINT: Subtotal = subtotal(9, 9, 9);
+
+#[test]
+fn each_zone_has_its_subtotal_in_the_sheet() {
+    let missing = Hundredths::MISSING;
+    let of_farm = |hundredths: [Hundredths; 2]| sheet(&ZONES, &SAMPLES, &hundredths);
+    let both = [subtotal(2, 2, 830), subtotal(1, 1, 450)];
+    assert_eq!(of_farm([Hundredths(450), Hundredths(380)]), Ok(both.to_vec()));
+    let second = of_farm([missing, Hundredths(0)]);
+    assert_eq!(second, Ok(vec![subtotal(2, 1, 0), subtotal(1, 0, 0)]));
+    assert_eq!(of_farm([missing; 2]), Ok(vec![subtotal(2, 0, 0), subtotal(1, 0, 0)]));
+    assert_eq!(sheet(&ZONES, &[], &[]), Ok(vec![subtotal(0, 0, 0); 2]));
+    assert_eq!(sheet(&[], &SAMPLES, &[missing; 2]), Ok(vec![]));
+    // A sample that is a zone too is inside the zone around it, and not inside itself.
+    let zones_as_samples = sheet(&ZONES, &ZONES, &[Hundredths(450), Hundredths(380)]);
+    assert_eq!(zones_as_samples, Ok(vec![subtotal(1, 1, 380), subtotal(0, 0, 0)]));
+
+    let mut out = [SUBTOTAL_PAINT; 3];
+    let count = sheet_into(&ZONES, &SAMPLES, &[Hundredths(450), Hundredths(380)], &mut out);
+    assert_eq!((count, out[..].to_vec()), (Ok(2), painted(&both, SUBTOTAL_PAINT, 3)));
+}
+
+#[test]
+fn a_sheet_has_sums_up_to_the_limit() {
+    let most = [Hundredths(MOST_HUNDREDTHS); MOST_NODES];
+    let starts = || (0..MOST_NODES as u32).map(|number| 2 * number + 1);
+    let samples: Vec<Node> = starts().map(|start| node(start + 1, start + 1, 3)).collect();
+    let side_by_side: Vec<Node> = starts().map(|start| node(start, start + 1, 2)).collect();
+    let whole = sheet(&[node(0, 10_000, 1)], &samples, &most);
+    assert_eq!(whole, Ok(vec![subtotal(4_096, 4_096, 40_960_000)]));
+    let each = sheet(&side_by_side, &samples, &most);
+    assert_eq!(each, Ok(vec![subtotal(1, 1, 10_000); MOST_NODES]));
+}
+
+#[test]
+fn a_sheet_is_refused_and_its_output_left() {
+    let good = [Hundredths(MOST_HUNDREDTHS), Hundredths::MISSING];
+    let mut out = [SUBTOTAL_PAINT; 2];
+    let mut refused = |zones: &[Node], samples: &[Node], hundredths: &[Hundredths]| {
+        let found = sheet_into(zones, samples, hundredths, &mut out);
+        assert_eq!(sheet(zones, samples, hundredths).map(|_| 0), found);
+        assert_eq!(out, [SUBTOTAL_PAINT; 2]);
+        found.expect_err("something is wrong with it")
+    };
+    for word in [10_001, 65_534, 65_536, u32::MAX] {
+        let faulty = |index| Refusal { index: Some(index), ..refusal(Answer::Reading) };
+        assert_eq!(refused(&ZONES, &SAMPLES, &[Hundredths(word), good[1]]), faulty(0));
+        assert_eq!(refused(&ZONES, &SAMPLES, &[good[0], Hundredths(word)]), faulty(1));
+        assert_eq!(refused(&[], &SAMPLES, &[good[0], Hundredths(word)]), faulty(1));
+        assert_eq!(refused(&ZONES, &SAMPLES, &[Hundredths(word)]), refusal(Answer::Ragged));
+    }
+    assert_eq!(refused(&ZONES, &SAMPLES, &[good[0]; 3]), refusal(Answer::Ragged));
+    assert_eq!(refused(&ZONES, &TURNED, &good), refusal_at(Answer::Order, DESCENDANTS, 1));
+    assert_eq!(refused(&ZONES, &CROSSING, &good), refusal(Answer::Joint));
+    let long = Refusal { list: Some(DESCENDANTS), ..refusal(Answer::Long) };
+    assert_eq!(refused(&ZONES, &siblings(MOST_NODES + 1), &good), long);
+
+    let short = sheet_into(&ZONES, &SAMPLES, &good, &mut out[..1]);
+    assert_eq!((short, out), (Err(refusal(Answer::Room)), [SUBTOTAL_PAINT; 2]));
 }
 
 #[test]

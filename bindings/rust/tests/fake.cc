@@ -29,6 +29,10 @@ belfry_range belfry_zone_range(const uint32_t *, size_t, const uint32_t *, size_
                                size_t, uint32_t) {
     return {refused, 0, 0, 0};
 }
+belfry_result belfry_sheet(const uint32_t *, size_t, const uint32_t *, size_t, const uint32_t *,
+                           size_t, uint32_t *, size_t) {
+    return {refused, 0};
+}
 belfry_result belfry_number(uint32_t, const uint32_t *, size_t, uint32_t *, size_t) {
     return {refused, 0};
 }

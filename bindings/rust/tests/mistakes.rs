@@ -152,6 +152,17 @@ fn a_missing_reading_is_not_zero() {
     assert_eq!(range([Reading::Missing, Reading::Percent(0.0)]), only(0.0));
 }
 
+/// Tries the same in a sheet. A 0 that stands in for a missing reading counts as present.
+#[test]
+fn a_missing_reading_does_not_count_in_a_sheet() {
+    let (zones, samples) = ([node(2, 10, 2)], [node(4, 6, 4), node(8, 9, 3)]);
+    let subtotals = |hundredths: [Hundredths; 2]| sheet(&zones, &samples, &hundredths);
+    let only = |present, sum| Ok(vec![Subtotal { samples: 2, present, sum }]);
+    assert_eq!(subtotals([Hundredths::MISSING, Hundredths(450)]), only(1, 450));
+    assert_eq!(subtotals([Hundredths(0), Hundredths(450)]), only(2, 450));
+    assert_eq!(subtotals([Hundredths::MISSING; 2]), only(0, 0));
+}
+
 #[test]
 fn a_ticket_of_another_form_is_told() {
     let place = Place::After { document: 5, first: 0x0102_0304, second: u32::MAX };
