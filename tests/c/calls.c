@@ -95,6 +95,36 @@ static void call_zone_range(void) {
     expect_range(range, 0, 0.0f, 0.0f);
 }
 
+/* Writes the sheet with and without the first sample's reading, then with a faulty word for the
+ * second sample, and then without room for the last word. */
+static void call_sheet(void) {
+    const uint32_t both[] = {2, 2, 830, 1, 1, 450}, second[] = {2, 1, 380, 1, 0, 0};
+    uint32_t hundredths[] = {450, 380}, out[MOST];
+    memset(out, PAINT, sizeof out);
+    belfry_result sheet = belfry_sheet(zones, 8, samples, 8, hundredths, 2, out, MOST);
+    expect_verdict("belfry_sheet", sheet.verdict, BELFRY_TAKEN, 0, 0);
+    expect("count", sheet.count, 2);
+    expect_output(out, sizeof out, both, sizeof both);
+
+    hundredths[0] = BELFRY_NO_HUNDREDTHS;
+    memset(out, PAINT, sizeof out);
+    sheet = belfry_sheet(zones, 8, samples, 8, hundredths, 2, out, 6);
+    expect_verdict("belfry_sheet, no reading", sheet.verdict, BELFRY_TAKEN, 0, 0);
+    expect("count", sheet.count, 2);
+    expect_output(out, sizeof out, second, sizeof second);
+
+    memset(out, PAINT, sizeof out);
+    hundredths[1] = BELFRY_MOST_HUNDREDTHS + 1;
+    sheet = belfry_sheet(zones, 8, samples, 8, hundredths, 2, out, 5);
+    expect_verdict("belfry_sheet, refused", sheet.verdict, BELFRY_READING, 0, 1);
+    expect("count", sheet.count, 0);
+    hundredths[1] = BELFRY_MOST_HUNDREDTHS;
+    sheet = belfry_sheet(zones, 8, samples, 8, hundredths, 2, out, 5);
+    expect_verdict("belfry_sheet, no room", sheet.verdict, BELFRY_ROOM, 0, 0);
+    expect("count", sheet.count, 0);
+    expect_output(out, sizeof out, out, 0);
+}
+
 /* Makes a ticket by BELFRY_TICKET, which must be fresh and have the relation and the order asked
  * for. */
 static void make_ticket(void) {
@@ -203,6 +233,7 @@ int main(void) {
     make_ticket();
     call_list();
     call_zone_range();
+    call_sheet();
     call_tables();
     call_links();
     call_book();

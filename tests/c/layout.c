@@ -87,6 +87,10 @@ static const place words[] = {
     SIZE(belfry_reading, BELFRY_READING_WORDS * sizeof(uint32_t)),
     FIELD(belfry_reading, kind, 0),
     FIELD(belfry_reading, bits, 4),
+    SIZE(belfry_subtotal, BELFRY_SUBTOTAL_WORDS * sizeof(uint32_t)),
+    FIELD(belfry_subtotal, samples, 0),
+    FIELD(belfry_subtotal, present, 4),
+    FIELD(belfry_subtotal, sum, 8),
     SIZE(belfry_ticket, BELFRY_TICKET_WORDS * sizeof(uint32_t)),
 };
 

@@ -52,6 +52,14 @@ static void give_null_lists(void) {
                 belfry_list_pairs(zones, 4, NULL, 0, fresh_ticket(), out, ROOM), 1, 0);
     expect_page("belfry_list_pairs, no output",
                 belfry_list_pairs(zones, 4, samples, 4, fresh_ticket(), NULL, 0), 0, 0);
+    expect_verdict("belfry_link_nodes", belfry_link_nodes(NULL, 0, NULL, 0).verdict, BELFRY_TAKEN,
+                   0, 0);
+    expect_verdict("belfry_link_nodes, no output", belfry_link_nodes(zones, 4, NULL, 0).verdict,
+                   BELFRY_ROOM, 0, 0);
+}
+
+/* Gives null with a count of 0 to the calls of readings and hundredths. */
+static void give_null_readings(void) {
     expect_verdict("belfry_zone_range_nodes",
                    belfry_zone_range_nodes(NULL, 0, NULL, 0, NULL, 0, 0).verdict, BELFRY_ABSENT, 0,
                    0);
@@ -61,10 +69,15 @@ static void give_null_lists(void) {
     expect_verdict("belfry_zone_range_nodes, no readings",
                    belfry_zone_range_nodes(zones, 4, samples, 4, NULL, 0, 0).verdict, BELFRY_RAGGED,
                    0, 0);
-    expect_verdict("belfry_link_nodes", belfry_link_nodes(NULL, 0, NULL, 0).verdict, BELFRY_TAKEN,
-                   0, 0);
-    expect_verdict("belfry_link_nodes, no output", belfry_link_nodes(zones, 4, NULL, 0).verdict,
-                   BELFRY_ROOM, 0, 0);
+    expect_verdict("belfry_sheet_nodes",
+                   belfry_sheet_nodes(NULL, 0, NULL, 0, NULL, 0, NULL, 0).verdict, BELFRY_TAKEN, 0,
+                   0);
+    expect_verdict("belfry_sheet_nodes, no output",
+                   belfry_sheet_nodes(zones, 4, NULL, 0, NULL, 0, NULL, 0).verdict, BELFRY_ROOM, 0,
+                   0);
+    expect_verdict("belfry_sheet_nodes, no hundredths",
+                   belfry_sheet_nodes(zones, 4, samples, 4, NULL, 0, NULL, 0).verdict,
+                   BELFRY_RAGGED, 0, 0);
 }
 
 /* Gives null with a count of 0 to the calls of marks and tables. */
@@ -106,6 +119,7 @@ static void give_null_books(void) {
 
 static void give_null(void) {
     give_null_lists();
+    give_null_readings();
     give_null_tables();
     give_null_books();
 }
@@ -131,6 +145,9 @@ static void overflow_inputs(void) {
     expect_verdict("belfry_zone_range_nodes",
                    belfry_zone_range_nodes(zones, 4, NULL, 0, &reading, readings, 0).verdict,
                    BELFRY_RAGGED, 0, 0);
+    expect_verdict("belfry_sheet_nodes",
+                   belfry_sheet_nodes(zones, nodes, NULL, 0, NULL, 0, NULL, 0).verdict, BELFRY_LONG,
+                   0, 0);
     expect_verdict("belfry_link_nodes", belfry_link_nodes(zones, nodes, links, ROOM).verdict,
                    BELFRY_LONG, 0, 0);
     expect("belfry_unnumber_rows", belfry_unnumber_rows(table, rows, marks, 2).answer, BELFRY_LONG);
@@ -152,6 +169,7 @@ static void overflow_rooms(void) {
     belfry_row rows[1];
     belfry_node nodes[1];
     belfry_link links[4];
+    belfry_subtotal subtotals[4];
     expect_page("belfry_list_pairs",
                 belfry_list_pairs(zones, 4, samples, 4, fresh_ticket(), pairs,
                                   SIZE_MAX / BELFRY_PAIR_WORDS + 1),
@@ -162,6 +180,11 @@ static void overflow_rooms(void) {
            belfry_pick_nodes(table, 1, 1, nodes, SIZE_MAX / BELFRY_NODE_WORDS + 1).count, 1);
     expect("belfry_link_nodes",
            belfry_link_nodes(zones, 4, links, SIZE_MAX / BELFRY_LINK_WORDS + 1).count, 4);
+    expect("belfry_sheet_nodes",
+           belfry_sheet_nodes(zones, 4, NULL, 0, NULL, 0, subtotals,
+                              SIZE_MAX / BELFRY_SUBTOTAL_WORDS + 1)
+               .count,
+           4);
 }
 
 static void overflow(void) {
@@ -217,6 +240,26 @@ static void take_missing_for_zero(void) {
         {taken, 1, 0, 0}, {taken, 0, 0, 0}, {taken, 1, 0, 0}, {taken, 1, 0, 0}};
     expect_ranges(readings, found);
     expect_ranges(zeros, found_zeros);
+}
+
+/* Holds the sheet of these hundredths against what has to be there. */
+static void expect_sheet(const uint32_t *hundredths, const belfry_subtotal *wanted) {
+    belfry_subtotal out[4];
+    const belfry_result sheet = belfry_sheet_nodes(zones, 4, samples, 4, hundredths, 4, out, 4);
+    expect_verdict("belfry_sheet_nodes", sheet.verdict, BELFRY_TAKEN, 0, 0);
+    expect("count", sheet.count, 4);
+    expect_output(out, sizeof out, wanted, sizeof out);
+}
+
+/* Lends a sheet 0 for a missing reading. The sums stay as they are, and `present` counts samples
+ * that the lab didn't read, so that every average is too low. */
+static void lend_zero_for_missing(void) {
+    const uint32_t missing = BELFRY_NO_HUNDREDTHS;
+    const uint32_t lent[] = {450, missing, 380, missing}, zeros[] = {450, 0, 380, 0};
+    const belfry_subtotal wanted[] = {{4, 2, 830}, {1, 1, 450}, {2, 1, 380}, {1, 0, 0}};
+    const belfry_subtotal of_zeros[] = {{4, 4, 830}, {1, 1, 450}, {2, 2, 380}, {1, 1, 0}};
+    expect_sheet(lent, wanted);
+    expect_sheet(zeros, of_zeros);
 }
 
 /* Checks that bytes which aren't a ticket of this form are refused, and that the caller's ticket
@@ -282,6 +325,7 @@ static const struct {
     {"overflow", overflow},
     {"room", give_no_room},
     {"missing", take_missing_for_zero},
+    {"sheet", lend_zero_for_missing},
     {"ticket", store_ticket},
     {"name", print_name},
 };

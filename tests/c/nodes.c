@@ -15,6 +15,8 @@ static const belfry_reading readings[] = {{BELFRY_GRAMS, 0x42180000},
                                           {BELFRY_MISSING, 0},
                                           {BELFRY_MISSING, 1},
                                           {BELFRY_PERCENT, 0x40900000}};
+/* The third one is at fault: it is above 100 percent, and isn't the word for missing. */
+static const uint32_t hundredths[] = {450, BELFRY_NO_HUNDREDTHS, BELFRY_NO_HUNDREDTHS - 1, 380};
 static const uint32_t marks[] = {1, 2, 2, 3, 65536, 0, 0, 3, 0, 0, 0};
 static const belfry_row table[] = {{5, 1, 11, 1, 1}, {5, 2, 10, 2, 2},    {5, 3, 7, 3, 2},
                                    {5, 4, 6, 4, 3},  {5, 5, 5, 5, 65536}, {5, 8, 9, 3, 3}};
@@ -112,6 +114,19 @@ static void make_readings(void) {
     const belfry_reading wanted[] = {readings[0], readings[1], readings[3]};
     printf("belfry_grams, belfry_no_reading, belfry_percent\n");
     expect_output(made, sizeof made, wanted, sizeof wanted);
+}
+
+/* Writes the sheet with room for some subtotals. */
+static void sheet_of(size_t zone_count, size_t sample_count, size_t hundredth_count, size_t room) {
+    belfry_subtotal out[ROOM];
+    paint();
+    memset(out, PAINT, sizeof out);
+    const belfry_result words = belfry_sheet(
+        zone_words, BELFRY_NODE_WORDS * zone_count, sample_words, BELFRY_NODE_WORDS * sample_count,
+        hundredths, hundredth_count, by_words, BELFRY_SUBTOTAL_WORDS * room);
+    const belfry_result nodes = belfry_sheet_nodes(zones, zone_count, samples, sample_count,
+                                                   hundredths, hundredth_count, out, room);
+    expect_same_result("belfry_sheet_nodes", nodes, words, out, sizeof out);
 }
 
 static void number_marks(size_t count, size_t room) {
@@ -217,6 +232,9 @@ static void try_lists(void) {
             range_of(zone_count, sample_count, sample_count % (COUNT(readings) + 1), zone);
             range_of(zone_count, sample_count, COUNT(readings), zone);
         }
+        sheet_of(zone_count, sample_count, sample_count % (COUNT(hundredths) + 1), ROOM);
+        sheet_of(zone_count, sample_count, sample_count % (COUNT(hundredths) + 1), 2);
+        sheet_of(zone_count, sample_count, COUNT(hundredths), ROOM);
     }
 }
 

@@ -104,7 +104,7 @@ def range_answers(line):
     return [f"{placed(verdict)}, {shown}"]
 
 
-# tests/cases/marks.txt: numbering, its way back, picking and links.
+# What results that are written into an output share.
 
 def result(kind, parts, words):
     """Returns how a result is stored: how many parts it has, and its words."""
@@ -119,6 +119,19 @@ def into(room, answer, parts):
     """Returns the answer and the parts; ROOM and none where the output is too short for them."""
     return ("ROOM", []) if len(flat(parts)) > room else (answer, parts)
 
+
+# tests/cases/sheets.txt: the subtotals of a zone sheet.
+
+def sheet_answers(line):
+    label, _, texts = line.partition(":")
+    room = int(label.split(",")[0].split()[1])
+    answer, number, index, rows = scope.sheet(*map(words_of, texts.split("/")))
+    if answer == "TAKEN":
+        answer, rows = into(room, answer, rows)
+    return [f"{placed((answer, number, index))}, {result('subtotals', len(rows), flat(rows))}"]
+
+
+# tests/cases/marks.txt: numbering, its way back, picking and links.
 
 def number_answer(document, room, marks):
     answer, rows = into(room, *scope.number(document, marks))
@@ -263,6 +276,7 @@ def files():
         "lists.txt": lambda lines: answered(lines, list_answers),
         "marks.txt": lambda lines: answered(lines, mark_answers),
         "ranges.txt": lambda lines: answered(lines, range_answers),
+        "sheets.txt": lambda lines: answered(lines, sheet_answers),
         "pairs.txt": with_runs,
     }
     made = {}

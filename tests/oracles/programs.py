@@ -13,8 +13,8 @@ import sys
 import stored
 from figure_books import S, Z
 from scope import (
-    ANSWER, GRAMS, MISSING, MOST, bits_of, check_list, check_two, check_words, cut, flat, float_of,
-    listing, page, pair_lines, zone_range,
+    ANSWER, GRAMS, MISSING, MOST, NO_HUNDREDTHS, bits_of, check_list, check_two, check_words, cut,
+    flat, float_of, listing, page, pair_lines, sheet, zone_range,
 )
 
 FRESH = ("inside", "descendant", ())
@@ -48,6 +48,18 @@ def ranges():
         _, _, _, found = zone_range(flat(Z), flat(S), readings, zone)
         low_high = "Range(low={}, high={})".format(*map(float_of, found)) if found else None
         lines.append(f"zone {zone}: {low_high}\n")
+    return "".join(lines)
+
+
+# bindings/python/sheet.py, the program of a zone sheet.
+
+def subtotals():
+    """Returns the sheet of the figure and of a second field, whose zone has two samples."""
+    zones, samples = [*Z, (6, 1, 8, 1)], [*S, (6, 2, 3, 2), (6, 5, 6, 2)]
+    _, _, _, rows = sheet(flat(zones), flat(samples), [NO_HUNDREDTHS, 450, 380, 420])
+    lines = ["field {} zone {}-{}: ".format(*zone)
+             + "Subtotal(samples={}, present={}, sum={})\n".format(*row)
+             for zone, row in zip(zones, rows)]
     return "".join(lines)
 
 
@@ -149,7 +161,7 @@ def rates():
     return "".join(lines)
 
 
-# crates/figures_run: texts side by side, checked and joined with themselves.
+# crates/figures_run: texts side by side, checked and joined with themselves, and as samples.
 
 def texts_lines(label, count):
     """Returns the two lines of this number of words."""
@@ -165,9 +177,18 @@ def texts_lines(label, count):
             f"{'done' if done else 'not done'}\n")
 
 
+def sheet_line():
+    """Returns the line of a zone's sheet with as many samples as a list may have."""
+    texts = flat([(5, place, place, 2) for place in range(1, 4097)])
+    answer, list_, index, rows = sheet(flat([(5, 0, 5000, 1)]), texts, [10000] * 4096)
+    samples, present, total = rows[0]
+    return (f"4096 samples of 10000: {ANSWER[answer]} [{answer:8}] list {list_} index {index}, "
+            f"zones {len(rows)}, samples {samples}, present {present}, sum {total}\n")
+
+
 def lengths():
     counts = {"empty lists": 0, "4096 nodes": 16384, "4097 nodes": 16388, "16385 words": 16385}
-    return "".join(texts_lines(label, count) for label, count in counts.items())
+    return "".join(texts_lines(label, count) for label, count in counts.items()) + sheet_line()
 
 
 def files():
@@ -176,6 +197,7 @@ def files():
         "bindings/c/farm.out": farm(),
         "bindings/python/first.out": first(),
         "bindings/python/readings.out": ranges(),
+        "bindings/python/sheet.out": subtotals(),
         "examples/cab.out": cab(),
         "examples/model.out": rates(),
         "crates/figures_run/stdout": lengths(),

@@ -167,6 +167,34 @@ def zone_range(zones, samples, readings, zone):
     return "TAKEN", 0, 0, found
 
 
+# The zone sheet: a word a sample, and three words a zone.
+
+MOST_HUNDREDTHS, NO_HUNDREDTHS = 10000, 65535
+
+
+def subtotal(words):
+    """Returns how many samples have these words, how many are present, and the sum of those."""
+    present = [word for word in words if word != NO_HUNDREDTHS]
+    return len(words), len(present), sum(present)
+
+
+def sheet(zones, samples, hundredths):
+    """Returns the answer, the list, the index, and the subtotals; none of a refused sheet."""
+    verdict = check_two(zones, samples)
+    if verdict[0] != "TAKEN":
+        return *verdict, []
+    nodes = cut(samples, 4)
+    if len(hundredths) != len(nodes):
+        return "RAGGED", 0, 0, []
+    faulty = [index for index, word in enumerate(hundredths)
+              if word > MOST_HUNDREDTHS and word != NO_HUNDREDTHS]
+    if faulty:
+        return "READING", 0, faulty[0], []
+    rows = [subtotal([word for node, word in zip(nodes, hundredths) if inside(node, zone)])
+            for zone in cut(zones, 4)]
+    return "TAKEN", 0, 0, rows
+
+
 # Listings and tickets. A ticket is (relation, order, place), and a fresh place is ().
 
 def key(pair, order):

@@ -11,8 +11,8 @@ from support import (
 
 import belfrychest as belfry
 from belfrychest import (
-    HINTS, NONE, Answer, Grams, Node, Order, Page, Percent, Range, Refused, Relation, Ticket,
-    Verdict,
+    HINTS, NO_HUNDREDTHS, NONE, Answer, Grams, Node, Order, Page, Percent, Range, Refused,
+    Relation, Subtotal, Ticket, Verdict,
 )
 
 
@@ -108,6 +108,29 @@ class Figures(unittest.TestCase):
             found = belfry.zone_range(Z, S, readings, 0)
             self.assertEqual(list(map(str, found)), [str(readings[0].value)] * 2)
 
+    def test_sheets(self):
+        for hundredths, outer, inner in (
+            ([None, None], (2, 0, 0), (1, 0, 0)), ([450, None], (2, 1, 450), (1, 1, 450)),
+            ([None, 0], (2, 1, 0), (1, 0, 0)), ([450, 380], (2, 2, 830), (1, 1, 450)),
+            ([None, 380], (2, 1, 380), (1, 0, 0)), ([0, 10000], (2, 2, 10000), (1, 1, 0)),
+        ):
+            with self.subTest(hundredths=hundredths):
+                made = array("I", [NO_HUNDREDTHS if each is None else each for each in hundredths])
+                for given in (hundredths, iter(hundredths), made, memoryview(made).toreadonly()):
+                    self.assertEqual(belfry.sheet(Z, S, given), [outer, inner])
+        self.assertEqual(belfry.sheet(Z, array("I"), []), [(0, 0, 0)] * 2)
+        self.assertEqual(belfry.sheet(array("I"), S, [450, 380]), [])
+        [first, second] = belfry.sheet(Z, S, [None, 450])
+        self.assertEqual((type(first), first.samples, first.present, first.sum),
+                         (Subtotal, 2, 1, 450))
+        self.assertEqual(second, Subtotal(samples=1, present=0, sum=0))
+
+    def test_sheets_of_nodes_in_both_lists_and_of_zones_with_one_end(self):
+        self.assertEqual(belfry.sheet(Z, Z, [100, 20]), [(1, 1, 20), (0, 0, 0)])
+        self.assertEqual(belfry.sheet(S, Z, [100, 20]), [(0, 0, 0)] * 2)
+        self.assertEqual(belfry.sheet(E, T, [1000, 2000, 3000]),
+                         [(3, 3, 6000), (2, 2, 3000), (1, 1, 2000), (1, 1, 2000)])
+
     def test_links(self):
         self.assertEqual(belfry.links(Z).tolist(), [NONE, 1, NONE, 0, NONE, NONE])
         self.assertEqual(belfry.links(E).tolist(),
@@ -179,6 +202,8 @@ class Writing(unittest.TestCase):
             (lambda out: belfry.unnumber_into(TABLE, out), (5, 11), MARKS),
             (lambda out: belfry.pick_into(TABLE, 3, out), 2, S),
             (lambda out: belfry.links_into(Z, out), 2, belfry.links(Z)),
+            (lambda out: belfry.sheet_into(Z, S, [450, None], out), 2,
+             array("I", [2, 1, 450, 1, 1, 450])),
         ):
             with self.subTest(expected=expected):
                 out = painted(len(expected) + 2)
@@ -228,6 +253,18 @@ REFUSALS = [
     (lambda: belfry.zone_range(Z, S, array("I", [3, 0, 0, 0]), 0), Answer.READING, None, 0),
     (lambda: belfry.zone_range(Z, S, GOOD, 2), Answer.ABSENT, None, None),
     (lambda: belfry.zone_range(Z, S, GOOD, NONE), Answer.ABSENT, None, None),
+    (lambda: belfry.sheet(Z[:3], S, [1, 2]), Answer.RAGGED, 0, None),
+    (lambda: belfry.sheet(Z, S[:3], [1, 2]), Answer.RAGGED, 1, None),
+    (lambda: belfry.sheet(Z, LONG, [1, 2]), Answer.LONG, 1, None),
+    (lambda: belfry.sheet(CROSSED, S, [1, 2]), Answer.CROSS, 0, 1),
+    (lambda: belfry.sheet(in_five((1, 9, 1)), in_five((4, 12, 2)), []), Answer.JOINT, None, None),
+    (lambda: belfry.sheet(Z, S, [10001]), Answer.RAGGED, None, None),
+    (lambda: belfry.sheet(Z, S, [1, 2, None]), Answer.RAGGED, None, None),
+    (lambda: belfry.sheet(Z, S, [None, 10001]), Answer.READING, None, 1),
+    (lambda: belfry.sheet(Z, S, [65534, 65536]), Answer.READING, None, 0),
+    (lambda: belfry.sheet(array("I"), S, [1, NONE]), Answer.READING, None, 1),
+    (lambda: belfry.sheet_into(Z, S, [1, 65536], painted(5)), Answer.READING, None, 1),
+    (lambda: belfry.sheet_into(Z, S, [1, 2], painted(5)), Answer.ROOM, None, None),
     (lambda: belfry.number_into(5, MARKS, painted(29)), Answer.ROOM, None, None),
     (lambda: belfry.unnumber_into(TABLE, painted(10)), Answer.ROOM, None, None),
     (lambda: belfry.pick_into(TABLE, 2, painted(7)), Answer.ROOM, None, None),

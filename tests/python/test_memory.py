@@ -61,6 +61,8 @@ if numpy:
     KINDS["numpy"] = lambda numbers: numpy.array(numbers, dtype=numpy.uint32)
     KINDS["numpy in rows"] = lambda numbers: numpy.array(numbers, dtype="<u4").reshape(-1, 4)
 READINGS = belfry.reading_words([belfry.Percent(4.5), belfry.Grams(1000.0)])
+HUNDREDTHS = array("I", [belfry.NO_HUNDREDTHS, belfry.MOST_HUNDREDTHS])
+SHEET = [(2, 1, 10000), (1, 0, 0)]
 EMPTY = [
     array("I"), memoryview(array("I")), memoryview(b"").cast("I"),
     memoryview(bytearray()).cast("I"), (ctypes.c_uint32 * 0)(),
@@ -79,6 +81,7 @@ class Memory(unittest.TestCase):
                 self.assertEqual(list(belfry.nodes(zones)), list(belfry.nodes(Z)))
                 self.assertEqual(belfry.links(zones), belfry.links(Z))
                 self.assertEqual(belfry.zone_range(zones, samples, READINGS, 0), (4.5, 100.0))
+                self.assertEqual(belfry.sheet(zones, samples, HUNDREDTHS), SHEET)
                 self.assertEqual(belfry.faulty(crossed, samples).tolist(), [5, 3, 12, 3])
                 self.assertEqual(belfry.faulty(samples, crossed).tolist(), [5, 3, 12, 3])
                 self.assertEqual(belfry.write_book({3: samples, 2: zones}), BOOK)
@@ -109,6 +112,8 @@ class Memory(unittest.TestCase):
                 self.assertEqual((belfry.links(nothing), belfry.pick(nothing, 2)),
                                  (array("I"), array("I")))
                 self.assertIsNone(belfry.zone_range(Z, nothing, nothing, 1))
+                self.assertEqual(belfry.sheet(Z, nothing, nothing), [(0, 0, 0)] * 2)
+                self.assertEqual(belfry.sheet_into(nothing, nothing, nothing, painted(0)), 0)
                 self.assertEqual(belfry.book_write(nothing, nothing), bytes(4))
                 page = belfry.page(nothing, nothing, INSIDE, painted(8))
                 self.assertEqual(page, Page(0, True, INSIDE))
@@ -122,7 +127,8 @@ class Memory(unittest.TestCase):
 
     def test_an_empty_list_in_rows(self):
         """Reads what numpy returns for the nodes that a mask leaves, where it leaves none."""
-        kinds = {belfry.nodes: 4, belfry.node_pairs: 8, belfry.rows: 5, belfry.node_links: 3}
+        kinds = {belfry.nodes: 4, belfry.node_pairs: 8, belfry.rows: 5, belfry.node_links: 3,
+                 belfry.subtotals: 3}
         for read, numbers in kinds.items():
             self.assertEqual(list(read(in_rows(numbers))), [])
         nothing = in_rows(4)
@@ -217,6 +223,9 @@ class Shapes(unittest.TestCase):
         self.assertEqual(belfry.pick(shaped(TABLE.tolist(), 5), 2), Z)
         found = belfry.zone_range(Z, S, shaped(READINGS.tolist(), 2), 0)
         self.assertEqual(found, (4.5, 100.0))
+        subtotals = shaped([PAINT] * 6, 3)
+        found = belfry.sheet_into(Z, S, shaped(HUNDREDTHS.tolist(), 1), subtotals)
+        self.assertEqual((found, list(belfry.subtotals(subtotals))), (2, SHEET))
         self.assertEqual(belfry.number(5, shaped(MARKS.tolist(), 1)), TABLE)
         self.assertEqual(belfry.book_write(shaped(ENTRIES.tolist(), 2), Z + S), BOOK)
         found = list(belfry.node_links(shaped(links.tolist(), 3)))
@@ -229,6 +238,8 @@ class Shapes(unittest.TestCase):
             (lambda: belfry.Pieces(Z, wrong).check(), "4, the numbers of a node"),
             (lambda: belfry.page(Z, S, INSIDE, wrong), "8, the numbers of a pair"),
             (lambda: belfry.zone_range(Z, S, wrong, 0), "2, the numbers of a reading"),
+            (lambda: belfry.sheet(Z, S, wrong), "1, the numbers of a sample's hundredths"),
+            (lambda: belfry.sheet_into(Z, S, [1, 2], wrong), "3, the numbers of a subtotal"),
             (lambda: belfry.unnumber(wrong), "5, the numbers of a row"),
             (lambda: belfry.links_into(Z, wrong), "3, the numbers of a link"),
             (lambda: belfry.book_write(wrong, Z), "2, the numbers of an entry"),
@@ -279,6 +290,9 @@ WRONG = {
     "words": WRONG_WORDS,
     "out": WRONG_WORDS + [(memoryview(bytes(400)).cast("I"), TypeError),
                           (memoryview(Z).toreadonly(), TypeError)],
+    "hundredths": [wrong for wrong in WRONG_WORDS if type(wrong[0]) is not list] + [
+        ([1.0, 2], TypeError), ([1, "2"], TypeError), ([1, -1], ValueError),
+        ([1 << 32, 2], ValueError)],
     "book": WRONG_BYTES,
     "out bytes": WRONG_BYTES + [(bytes(100), TypeError)],
     "number": [(-1, ValueError), (1 << 32, ValueError), (1.0, TypeError), ("2", TypeError),
@@ -297,6 +311,9 @@ CALLS = [
     (lambda zones, samples, place, out: belfry.Pieces(zones, samples).page(place, out),
      [*TWO, ("ticket", INSIDE), ("out", painted(24))]),
     (belfry.zone_range, [*TWO, ("words", READINGS), ("number", 0)]),
+    (belfry.sheet, [*TWO, ("hundredths", HUNDREDTHS)]),
+    (belfry.sheet_into, [*TWO, ("hundredths", HUNDREDTHS), ("out", painted(6))]),
+    (belfry.subtotals, [("words", painted(6))]),
     (belfry.nodes, [("words", Z)]), (belfry.rows, [("words", TABLE)]),
     (belfry.node_pairs, [("words", Z)]), (belfry.node_links, [("words", belfry.links(Z))]),
     (belfry.number, [("number", 5), ("words", MARKS)]),
@@ -357,6 +374,9 @@ class WrongArguments(unittest.TestCase):
             lambda: belfry.unnumber_into(lent[20:25], lent[:21]),
             lambda: belfry.pick_into(lent[:5], 2, lent[4:]),
             lambda: belfry.links_into(lent[:8], lent[4:10]),
+            lambda: belfry.sheet_into(lent[:8], S, HUNDREDTHS, lent[7:13]),
+            lambda: belfry.sheet_into(Z, lent[:8], lent[30:32], lent[4:10]),
+            lambda: belfry.sheet_into(Z, S, lent[30:32], lent[31:37]),
             lambda: belfry.book_write_into(ENTRIES, lent[:8], lent.cast("B")[31:]),
             lambda: belfry.book_write_into(lent[40:44], Z, lent.cast("B")),
         ):

@@ -9,7 +9,7 @@ from support import INSIDE, S, Z, painted, starts, ticket, words
 
 import belfrychest as belfry
 from belfrychest import (
-    Answer, Grams, Order, Percent, Pieces, Refused, Relation, Ticket, Verdict,
+    NO_HUNDREDTHS, Answer, Grams, Order, Percent, Pieces, Refused, Relation, Ticket, Verdict,
 )
 
 
@@ -205,6 +205,51 @@ class AValueJudgedBeforeItIsRounded(unittest.TestCase):
             with self.subTest(given=given):
                 with self.assertRaisesRegex(Refused, "^17 READING, index 1: "):
                     belfry.zone_range(Z, S, [None, given], 0)
+
+
+class AMissingReadingCountedInASheet(unittest.TestCase):
+    """A 0 in place of a missing reading leaves the sum as it is, and every average is too low."""
+
+    def test_a_missing_reading_is_not_present(self):
+        self.assertEqual(belfry.sheet(Z, S, [None, 450]), [(2, 1, 450), (1, 0, 0)])
+        self.assertEqual(belfry.sheet(Z, S, [0, 450]), [(2, 2, 450), (1, 1, 0)])
+
+    def test_the_word_for_missing_is_no_number_in_a_list(self):
+        message = f"^hundredths 1 must be None where the reading is missing, not {NO_HUNDREDTHS}$"
+        with self.assertRaisesRegex(ValueError, message):
+            belfry.sheet(Z, S, [450, NO_HUNDREDTHS])
+
+    def test_percent_and_other_floats_are_no_hundredths(self):
+        for given in (4.5, 450.0, float("nan"), "450", Percent(4.5), (450,)):
+            with self.subTest(given=given):
+                kind = type(given).__name__
+                message = f"^hundredths 1 must be a whole number, not {kind}$"
+                with self.assertRaisesRegex(TypeError, message):
+                    belfry.sheet(Z, S, [None, given])
+
+    def test_a_number_without_32_bits_is_an_error(self):
+        for given in (-1, -65535, 2 ** 32):
+            message = f"^hundredths 0 must be from 0 to 4294967295, not {given}$"
+            with self.assertRaisesRegex(ValueError, message):
+                belfry.sheet(Z, S, [given, None])
+
+    def test_lone_hundredths_are_not_the_samples(self):
+        for given in (None, 450, 4.5):
+            with self.assertRaisesRegex(TypeError, "^hundredths must be a list of whole numbers"):
+                belfry.sheet(Z, S, given)
+
+    def test_memory_of_16_bits_or_of_floats_is_refused(self):
+        for given in (array("H", [450, 380]), array("f", [4.5, 3.8]), bytes(8)):
+            with self.assertRaisesRegex(TypeError, "^hundredths must be a buffer of unsigned 32-"):
+                belfry.sheet(Z, S, given)
+
+    def test_hundredths_without_an_order_are_an_error(self):
+        for given in ({450, 380}, frozenset([450]), {450: 380}, {}.keys(), set()):
+            message = f"^hundredths must come in the samples' order, not as {type(given).__name__}$"
+            with self.subTest(given=given), self.assertRaisesRegex(TypeError, message):
+                belfry.sheet(Z, S, given)
+        for given in ((450, 380), deque([450, 380]), (each for each in (450, 380))):
+            self.assertEqual(belfry.sheet(Z, S, given), [(2, 2, 830), (1, 1, 450)])
 
 
 class APageWithRoomForNoPair(unittest.TestCase):

@@ -5,7 +5,7 @@ from array import array
 from support import BOOK, S, TABLE, Z, words
 
 import belfrychest as belfry
-from belfrychest import NONE, TEXT, Link, Node, Pair, Refused, Row
+from belfrychest import NONE, TEXT, Link, Node, Pair, Refused, Row, Subtotal
 
 
 class Tuples(unittest.TestCase):
@@ -19,6 +19,7 @@ class Tuples(unittest.TestCase):
             (belfry.node_pairs, pairs, [5, 2, 10, 2, 5, 4, 6, 4, 5, 3, 7, 3, 5, 4, 6, 4]),
             (belfry.rows, rows, [5, 1, 3, 1, 9, 5, 2, 2, 2, TEXT]),
             (belfry.node_links, links, [NONE, 1, NONE, 0, NONE, NONE]),
+            (belfry.subtotals, [Subtotal(2, 1, 450), Subtotal(1, 0, 0)], [2, 1, 450, 1, 0, 0]),
         ):
             with self.subTest(read=read):
                 made = belfry.words(items)

@@ -25,6 +25,33 @@ def random_reading(rng):
     return kind, bits if rng.random() < 0.98 else rng.choice((0x447A0001, 0xBF800000, 0x7FC00000))
 
 
+def random_hundredths(rng):
+    """Returns a sample's word for a sheet, now and then a faulty one."""
+    if rng.random() < 0.02:
+        return rng.choice((10001, 65534, 65536, belfry.NONE))
+    return rng.choice((0, 1, 450, 10000, belfry.NO_HUNDREDTHS))
+
+
+def faulty_hundredths(hundredths):
+    """Returns the indexes of the faulty words."""
+    return [index for index, word in enumerate(hundredths)
+            if word > 10000 and word != belfry.NO_HUNDREDTHS]
+
+
+def sheet_answer(samples, hundredths):
+    """Returns what a sheet with room enough answers where both lists are accepted."""
+    if len(samples) != len(hundredths):
+        return "RAGGED"
+    return "READING" if faulty_hundredths(hundredths) else "TAKEN"
+
+
+def subtotal(zone, samples, hundredths):
+    """Returns what a sheet says of a zone: every sample is looked at."""
+    words_inside = [word for sample, word in zip(samples, hundredths) if model.inside(sample, zone)]
+    present = [word for word in words_inside if word != belfry.NO_HUNDREDTHS]
+    return len(words_inside), len(present), sum(present)
+
+
 class AgainstTheModel(unittest.TestCase):
     def test_lists(self):
         rng, answers, at_one_end = random.Random(3), set(), Counter()
@@ -69,6 +96,28 @@ class AgainstTheModel(unittest.TestCase):
             answers.add((answer, bits != ()))
         self.assertLessEqual({("TAKEN", True), ("TAKEN", False), ("RAGGED", False),
                               ("READING", False), ("ABSENT", False), ("JOINT", False)}, answers)
+
+    def test_sheets(self):
+        rng, answers = random.Random(8), Counter()
+        for _ in range(1000):
+            tree = random_tree(rng)
+            zones, samples = damaged(rng, some_of(rng, tree)), some_of(rng, tree)
+            hundredths = [random_hundredths(rng) for _ in samples]
+            if rng.random() < 0.1:
+                hundredths.append(0)
+            expected = two_lists(zones, samples).answer.name
+            if expected == "TAKEN":
+                expected = sheet_answer(samples, hundredths)
+            answer, _, index, found = self.placed(
+                belfry.sheet, words(zones), words(samples), array("I", hundredths))
+            self.assertEqual(answer, expected)
+            answers[answer] += 1
+            if answer == "READING":
+                self.assertEqual(faulty_hundredths(hundredths)[0], index)
+            if answer == "TAKEN":
+                self.assertEqual(found, [subtotal(zone, samples, hundredths) for zone in zones])
+        self.assertLessEqual({"TAKEN", "CROSS", "JOINT", "RAGGED", "READING"}, set(answers))
+        self.assertGreater(answers["TAKEN"], 400)
 
     def test_marks(self):
         rng, answers = random.Random(4), set()

@@ -4,7 +4,7 @@
 use crate::model::answers::{row, Answer, Verdict, Written};
 use crate::model::nodes::{nodes, NODE_WORDS};
 use crate::model::pages::{Order, Relation, Ticket};
-use crate::model::{books, links, lists, marks, pages, readings};
+use crate::model::{books, links, lists, marks, pages, readings, sheets};
 use crate::paint::hold;
 use belfrychest::raw;
 
@@ -113,6 +113,15 @@ pub fn zone_range(zones: &[u32], samples: &[u32], readings: &[u32], zone: u32) -
         "given and expected: zone {zone} of {zones:?} with {samples:?} that read {readings:?}"
     );
     expected
+}
+
+pub fn sheet(zones: &[u32], samples: &[u32], hundredths: &[u32], out: &mut [u32]) -> Answer {
+    let expected = sheets::sheet(zones, samples, hundredths, out.len());
+    let question = ("sheet", zones, samples, hundredths);
+    hold(&question, out, &expected.words, raw_written(&expected), |out| {
+        raw::sheet(zones, samples, hundredths, out)
+    });
+    expected.verdict.answer
 }
 
 pub fn number(document: u32, marks: &[u32], out: &mut [u32]) -> Answer {

@@ -4,7 +4,7 @@
 use crate::asking;
 use crate::ends::{clash, is_between, meet, most_around, most_at_one_end};
 use crate::ground::Ground;
-use crate::making::{books, lists, marks, readings, tickets};
+use crate::making::{books, hundredths, lists, marks, readings, tickets};
 use crate::model::answers::Answer::{self, *};
 use crate::model::answers::NAME_BYTES;
 use crate::model::books::{
@@ -13,8 +13,9 @@ use crate::model::books::{
 use crate::model::links::LINK_WORDS;
 use crate::model::marks::{CLOSE, ROW_WORDS};
 use crate::model::nodes::{nodes, NODE_WORDS};
-use crate::model::pages::{pairs, Pair, Ticket, PAIR_WORDS};
+use crate::model::pages::{pairs, Pair, Relation, Ticket, PAIR_WORDS};
 use crate::model::readings::{Range, MISSING, READING_WORDS};
+use crate::model::sheets::SUBTOTAL_WORDS;
 use crate::model::MOST;
 use crate::random::{each_case, Random};
 use crate::tally::Kind::{self, *};
@@ -142,6 +143,38 @@ pub fn zone_range(random: &mut Random, ground: Ground, tally: &mut Tally) -> Ran
         tally.see(Shared, (0..samples.len()).filter(ends_there).any(is_read));
     }
     range
+}
+
+pub const SHEET: Function = Function {
+    case: |random, ground, tally| {
+        sheet(random, ground, tally);
+    },
+    answers: &[Taken, Ragged, Long, Level, Span, Order, Cross, Depth, Joint, Room, Reading],
+    kinds: &[Shared, Three, AtOdds],
+};
+
+/// What a sheet was asked for, and what came of it.
+pub struct Sheet {
+    pub zones: Vec<u32>,
+    pub samples: Vec<u32>,
+    pub hundredths: Vec<u32>,
+    pub answer: Answer,
+}
+
+pub fn sheet(random: &mut Random, ground: Ground, tally: &mut Tally) -> Sheet {
+    let (zones, samples) = lists::two_lists(random);
+    let hundredths = hundredths::hundredths(random, samples.len() / NODE_WORDS);
+    let needed = SUBTOTAL_WORDS * (zones.len() / NODE_WORDS);
+    let answer = asking::sheet(
+        &ground.lend(&zones),
+        &ground.lend(&samples),
+        &ground.lend(&hundredths),
+        &mut ground.room(random.around(needed)),
+    );
+    count_two(tally, answer, &zones, &samples);
+    let pairs = pairs(Relation::Inside, &nodes(&zones), &nodes(&samples));
+    tally.see(Three, answer == Taken && most_around(&pairs) >= 3);
+    Sheet { zones, samples, hundredths, answer }
 }
 
 pub const NUMBER: Function = Function {

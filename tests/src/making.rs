@@ -2,6 +2,7 @@
 //! ones.
 
 pub mod books;
+pub mod hundredths;
 pub mod lists;
 pub mod marks;
 pub mod readings;

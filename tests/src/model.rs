@@ -11,6 +11,7 @@ pub mod nodes;
 pub mod pages;
 pub mod printing;
 pub mod readings;
+pub mod sheets;
 pub mod strict;
 
 /// The most nodes of a list, rows of a table and marks of a document.

@@ -17,7 +17,7 @@ pub struct Case<'a> {
 }
 
 /// Returns the cases of a file. Empty lines and those that begin with "#" are passed over.
-fn cases(text: &str) -> Vec<Case> {
+fn cases(text: &str) -> Vec<Case<'_>> {
     let mut cases: Vec<Case> = Vec::new();
     for line in text.lines().filter(|line| !line.is_empty() && !line.starts_with('#')) {
         let opened = cases.last_mut();
@@ -119,4 +119,16 @@ pub fn answer(number: u32) -> String {
 /// Returns numbers, each after a blank.
 pub fn listed(numbers: &[u32]) -> String {
     numbers.iter().map(|number| format!(" {number}")).collect()
+}
+
+/// The most words that are all shown, and how many of a longer result are, at either end.
+const ALL_SHOWN: usize = 60;
+const ENDS_SHOWN: usize = 10;
+
+/// Returns the words of a result, and of many the first and the last.
+pub fn shown(words: &[u32]) -> String {
+    if words.len() <= ALL_SHOWN {
+        return listed(words);
+    }
+    format!("{} to{}", listed(&words[..ENDS_SHOWN]), listed(&words[words.len() - ENDS_SHOWN..]))
 }

@@ -1,5 +1,6 @@
 //! The figures of docs/SCOPE.md, word for word, of the library and of the model alike. Lengths are
-//! tried in `limits.rs`, and most figures of readings in `ranges.rs`.
+//! tried in `limits.rs`, most figures of readings in `ranges.rs`, and limits of the sheet in
+//! `sheets.rs`.
 
 use belfrychest::raw::{self, Ticket};
 use outside::asking::{self, TAKEN};
@@ -11,6 +12,7 @@ use outside::model::marks::ROW_WORDS;
 use outside::model::nodes::NODE_WORDS;
 use outside::model::pages::PAIR_WORDS;
 use outside::model::printing::printed;
+use outside::model::sheets::{NO_HUNDREDTHS, SUBTOTAL_WORDS};
 
 const DOCUMENT: u32 = 5;
 const BOOK: &[u8] = include_bytes!("../../examples/figure.book");
@@ -215,6 +217,51 @@ fn ranges_of_zones_with_one_end() {
         let found = range(&zones_with_one_end(), &samples_at_ends(), &readings, zone as u32);
         assert_eq!(found, Some(bounds));
     }
+}
+
+/// Returns the words of a sheet that is taken.
+fn sheet(zones: &[u32], samples: &[u32], hundredths: &[u32]) -> Vec<u32> {
+    let mut out = vec![0; SUBTOTAL_WORDS * (zones.len() / NODE_WORDS)];
+    assert_eq!(asking::sheet(zones, samples, hundredths, &mut out), Taken);
+    raw::sheet(zones, samples, hundredths, &mut out);
+    out
+}
+
+/// Gives the samples 450 and 380 hundredths, or leaves out one of them or both. Then there are no
+/// samples, and then the zones are the samples too.
+#[test]
+fn a_sheet_of_the_zones() {
+    let of = |hundredths: [u32; 2]| sheet(&zones(), &samples(), &hundredths);
+    assert_eq!(of([450, 380]), [2, 2, 830, 1, 1, 450]);
+    assert_eq!(of([NO_HUNDREDTHS, 380]), [2, 1, 380, 1, 0, 0]);
+    assert_eq!(of([NO_HUNDREDTHS, NO_HUNDREDTHS]), [2, 0, 0, 1, 0, 0]);
+    assert_eq!(sheet(&zones(), &[], &[]), [0; 6]);
+    assert_eq!(sheet(&zones(), &zones(), &[100, 20]), [1, 1, 20, 0, 0, 0]);
+}
+
+#[test]
+fn sheets_that_are_refused() {
+    let draws = |hundredths: &[u32], room: usize| {
+        asking::sheet(&zones(), &samples(), hundredths, &mut vec![0; room])
+    };
+    assert_eq!(draws(&[450, 380], 6), Taken);
+    assert_eq!(draws(&[450, 380], 5), Room);
+    for word in [10_001, 65_534, 65_536, 4_294_967_295] {
+        assert_eq!(draws(&[450, word], 5), Reading);
+        assert_eq!(draws(&[word], 6), Ragged);
+        assert_eq!(asking::sheet(&[], &samples(), &[word, 0], &mut []), Reading);
+    }
+    assert_eq!(draws(&[450], 6), Ragged);
+    assert_eq!(draws(&[450, 380, 0], 6), Ragged);
+    let at_odds = list(&[[4, 12, 2]]);
+    assert_eq!(asking::sheet(&list(&[[1, 9, 1]]), &at_odds, &[], &mut [0; 3]), Joint);
+}
+
+/// Gives the samples 10, 20 and 30 percent.
+#[test]
+fn a_sheet_of_zones_with_one_end() {
+    let found = sheet(&zones_with_one_end(), &samples_at_ends(), &[1_000, 2_000, 3_000]);
+    assert_eq!(found, [3, 3, 6_000, 2, 2, 3_000, 1, 1, 2_000, 1, 1, 2_000]);
 }
 
 #[test]

@@ -14,7 +14,7 @@ const CASES: u64 = 2_500;
 /// Seeds that no other test has.
 const SEEDS: u64 = 1 << 40;
 
-const FUNCTIONS: [Function; 12] = [
+const FUNCTIONS: [Function; 13] = [
     cases::CHECK,
     cases::CHECK_TWO,
     cases::FAULTY,
@@ -27,6 +27,7 @@ const FUNCTIONS: [Function; 12] = [
     cases::BOOK_BODY,
     cases::BOOK_WRITE,
     cases::ZONE_RANGE,
+    cases::SHEET,
 ];
 
 fn hold(ground: Ground, first_seed: u64) {

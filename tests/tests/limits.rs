@@ -15,6 +15,7 @@ use outside::model::lists::MOST_LEVEL;
 use outside::model::marks::{CLOSE, ROW_WORDS, TEXT};
 use outside::model::nodes::{words, Node, NODE_WORDS};
 use outside::model::pages::PAIR_WORDS;
+use outside::model::sheets::{MOST_HUNDREDTHS, NO_HUNDREDTHS, SUBTOTAL_WORDS};
 use outside::model::{links, marks, MOST};
 use outside::paint::hold;
 use outside::tally::Tally;
@@ -50,6 +51,8 @@ fn draws(list: &[u32], answer: Answer) {
         assert_eq!(raw::faulty(ancestors, descendants), part);
         let page = raw::Page { verdict: verdict(number), done: 0, count: 0, ticket: FRESH };
         hold(&answer, &mut [0; 12], &[], page, |out| raw::list(ancestors, descendants, FRESH, out));
+        let sheet = raw::Written { verdict: verdict(number), count: 0 };
+        hold(&answer, &mut [0; 12], &[], sheet, |out| raw::sheet(ancestors, descendants, &[], out));
     }
 }
 
@@ -163,6 +166,8 @@ fn the_deepest_nest() {
             let ticket = Ticket { relation, order, ..FRESH };
             assert_eq!(asking::list(&zones, &zones, ticket, &mut [0; 20_000]), Taken);
         }
+        let most = [MOST_HUNDREDTHS; DEEPEST];
+        assert_eq!(asking::sheet(&zones, &zones, &most, &mut [0; SUBTOTAL_WORDS * DEEPEST]), Taken);
         let deeper = words(&nest(DEEPEST + 1));
         assert_eq!(asking::check(&deeper), Level);
         assert_eq!(raw::check(&deeper).index, MOST_LEVEL);
@@ -273,6 +278,10 @@ fn rooms_of_results() {
     fits_from(links::links(&zones, usize::MAX).words.len(), |room| {
         asking::links(&zones, &mut vec![0; room])
     });
+    fits_from(7 * SUBTOTAL_WORDS, |room| {
+        asking::sheet(&zones, &words(&texts(2)), &[450, NO_HUNDREDTHS], &mut vec![0; room])
+    });
+    fits_from(0, |room| asking::sheet(&[], &words(&texts(1)), &[450], &mut vec![0; room]));
     fits_from(contents_end(2) + 7 * NODE_BYTES, |room| {
         asking::book_write(&[1, 3, 2, 4], &zones, &mut vec![0; room])
     });
@@ -405,6 +414,7 @@ fn greatest_and_least_numbers() {
             for ticket in [FRESH, Ticket { relation: 1, order: 1, ..FRESH }] {
                 asking::list(&outer, &inner, ticket, &mut [0; 9]);
             }
+            asking::sheet(&outer, &inner, &[450], &mut [0; 4]);
         }
     }
     tally.hold(&[Taken, Span, Order, Cross]);

@@ -1,4 +1,4 @@
-//! More than a million random cases of the thirteen functions, sound and damaged, against the
+//! More than a million random cases of the fourteen functions, sound and damaged, against the
 //! model. An answer that a function can give and that never came is a failure too.
 
 use outside::cases::{self, Function};
@@ -70,6 +70,11 @@ fn book_write() {
 #[test]
 fn zone_range() {
     hold(&cases::ZONE_RANGE, 12);
+}
+
+#[test]
+fn sheet() {
+    hold(&cases::SHEET, 13);
 }
 
 #[test]

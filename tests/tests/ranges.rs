@@ -6,7 +6,7 @@ use belfrychest::raw;
 use outside::asking::{self, raw_verdict, TAKEN};
 use outside::cases;
 use outside::ground::Ground;
-use outside::making::lists::{nest, texts};
+use outside::making::lists::{nest, node, texts, words_of};
 use outside::making::readings::{FAULTY, GREATEST, HUNDRED, LEAST, MINUS_ZERO, THOUSAND};
 use outside::model::answers::Answer::{self, *};
 use outside::model::answers::{Verdict, DESCENDANTS};
@@ -24,15 +24,6 @@ const NO_READING: Words = [MISSING, 0];
 const THIRTY_EIGHT: Words = [GRAMS, 0x4218_0000];
 const ITS_TENTH: u32 = 0x4073_3333;
 const FOUR_AND_A_HALF: Words = [PERCENT, 0x4090_0000];
-
-/// Returns a node of document 5.
-fn node([start, end, level]: [u32; 3]) -> Node {
-    Node { document: 5, start, end, level }
-}
-
-fn list(nodes: &[[u32; 3]]) -> Vec<u32> {
-    words(&nodes.iter().copied().map(node).collect::<Vec<Node>>())
-}
 
 /// Fails unless the library and the model answer so: with the bits of the low and the high, with
 /// none, or with a refusal.
@@ -190,8 +181,8 @@ fn of_equal_readings_the_first_stays() {
 /// deeper.
 #[test]
 fn zones_in_zones() {
-    let zones = list(&[[1, 100, 1], [10, 50, 2], [20, 40, 3], [60, 90, 2]]);
-    let samples = list(&[[5, 6, 2], [12, 13, 3], [30, 30, 9], [70, 71, 3], [200, 201, 1]]);
+    let zones = words_of(&[[1, 100, 1], [10, 50, 2], [20, 40, 3], [60, 90, 2]]);
+    let samples = words_of(&[[5, 6, 2], [12, 13, 3], [30, 30, 9], [70, 71, 3], [200, 201, 1]]);
     let percent = |bits| [PERCENT, bits];
     let readings = [percent(40), percent(30), percent(10), percent(50), percent(5)].concat();
     let expected = [[10, 50], [10, 30], [10, 10], [50, 50]];
@@ -207,8 +198,8 @@ fn zones_in_zones() {
 /// Tries zones that end at one position, and a sample that ends there too. All have that sample.
 #[test]
 fn zones_that_end_at_one_position() {
-    let zones = list(&[[1, 100, 1], [10, 100, 2], [20, 100, 3]]);
-    let samples = list(&[[5, 6, 2], [12, 13, 3], [30, 40, 4], [100, 100, 4]]);
+    let zones = words_of(&[[1, 100, 1], [10, 100, 2], [20, 100, 3]]);
+    let samples = words_of(&[[5, 6, 2], [12, 13, 3], [30, 40, 4], [100, 100, 4]]);
     let percent = |bits| [PERCENT, bits];
     let readings = [percent(40), percent(30), percent(20), percent(10)].concat();
     for (zone, high) in [40, 30, 20].into_iter().enumerate() {
@@ -216,14 +207,14 @@ fn zones_that_end_at_one_position() {
     }
     let last_missing = [&readings[..6], &NO_READING].concat();
     answers(&zones, &samples, &last_missing, 2, Ok(Some([20, 20])));
-    let of_one_level = list(&[[30, 100, 3]]);
+    let of_one_level = words_of(&[[30, 100, 3]]);
     answers(&zones, &of_one_level, &percent(10), 0, refused(Joint));
 }
 
 /// Tries nodes that are zones and samples: none is inside itself.
 #[test]
 fn a_node_of_both_lists() {
-    let both = list(&[[1, 100, 1], [10, 50, 2], [20, 40, 3]]);
+    let both = words_of(&[[1, 100, 1], [10, 50, 2], [20, 40, 3]]);
     let readings = [[PERCENT, 7], [PERCENT, 9], [PERCENT, 8]].concat();
     answers(&both, &both, &readings, 0, Ok(Some([8, 9])));
     answers(&both, &both, &readings, 1, Ok(Some([8, 8])));
@@ -233,7 +224,7 @@ fn a_node_of_both_lists() {
 #[test]
 fn samples_of_another_document_are_not_inside() {
     let of = |document| Node { document, ..node([3, 4, 2]) };
-    let zones = list(&[[1, 9, 1]]);
+    let zones = words_of(&[[1, 9, 1]]);
     let samples = words(&[of(4), of(5), of(6)]);
     let readings = [[PERCENT, 1], [PERCENT, 2], [PERCENT, 3]].concat();
     answers(&zones, &samples, &readings, 0, Ok(Some([2, 2])));
@@ -241,7 +232,7 @@ fn samples_of_another_document_are_not_inside() {
 
 #[test]
 fn no_samples_and_no_zones() {
-    let (zones, sample) = (list(&[[1, 9, 1], [12, 12, 1]]), list(&[[3, 4, 2]]));
+    let (zones, sample) = (words_of(&[[1, 9, 1], [12, 12, 1]]), words_of(&[[3, 4, 2]]));
     answers(&zones, &[], &[], 0, Ok(None));
     answers(&zones, &[], &[], 1, Ok(None));
     answers(&zones, &[], &[], 2, refused(Absent));
@@ -254,7 +245,7 @@ fn no_samples_and_no_zones() {
 
 #[test]
 fn a_zone_that_is_absent() {
-    let (zones, sample) = (list(&[[1, 9, 1], [12, 20, 1]]), list(&[[3, 4, 2]]));
+    let (zones, sample) = (words_of(&[[1, 9, 1], [12, 20, 1]]), words_of(&[[3, 4, 2]]));
     for zone in [2, 3, 4, 8, 1 << 16, 1 << 30, (1 << 30) + 1, 1 << 31, u32::MAX] {
         answers(&zones, &sample, &FOUR_AND_A_HALF, zone, refused(Absent));
     }
@@ -276,10 +267,11 @@ fn not_as_many_readings_as_samples() {
 /// Tries cases in which several checks fail: the first of these is told.
 #[test]
 fn checks_come_in_their_order() {
-    let (zones, samples) = (list(&[[1, 9, 1], [12, 20, 1]]), list(&[[3, 4, 2], [14, 15, 2]]));
+    let (zones, samples) =
+        (words_of(&[[1, 9, 1], [12, 20, 1]]), words_of(&[[3, 4, 2], [14, 15, 2]]));
     let faulty = [FOUR_AND_A_HALF, [PERCENT, HUNDRED + 1]].concat();
-    let odd = list(&[[3, 4, 2], [14, 25, 2]]);
-    let turned = list(&[[14, 15, 2], [3, 4, 2]]);
+    let odd = words_of(&[[3, 4, 2], [14, 25, 2]]);
+    let turned = words_of(&[[14, 15, 2], [3, 4, 2]]);
     answers(&zones, &samples, &faulty, 0, refused_at(1));
     answers(&zones, &samples, &faulty, 1, refused_at(1));
     answers(&zones, &samples, &faulty, 2, refused_at(1));

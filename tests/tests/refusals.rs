@@ -4,6 +4,7 @@
 use belfrychest::raw::{self, Ticket};
 use outside::asking::{self, raw_verdict};
 use outside::making::books::parts;
+use outside::making::hundredths::FAULTY;
 use outside::making::marks::FIGURE;
 use outside::making::tickets::FRESH;
 use outside::model::answers::Answer::{self, *};
@@ -12,6 +13,7 @@ use outside::model::books::{bytes, contents_end, numbers, Tagged, MOST_LISTS, NU
 use outside::model::lists::MOST_LEVEL;
 use outside::model::marks::{CLOSE, ROW_WORDS, TEXT};
 use outside::model::nodes::{words, Node, NODE_WORDS};
+use outside::model::sheets::{NO_HUNDREDTHS, SUBTOTAL_WORDS};
 use outside::model::MOST;
 use outside::paint::hold;
 
@@ -83,7 +85,8 @@ fn each_fault_anywhere(test: impl Fn(&[Node], Answer, usize)) {
 }
 
 /// Fails unless all calls of two lists refuse these with this verdict, show the part at the faulty
-/// node, give the ticket back and write nothing.
+/// node, give the ticket back and write nothing. There are too few words for a sheet, which is
+/// checked later.
 fn refuses_two(ancestors: &[Node], descendants: &[Node], verdict: Verdict, part: [usize; 2]) {
     let (ancestors, descendants) = (words(ancestors), words(descendants));
     let expected = raw_verdict(verdict);
@@ -100,6 +103,10 @@ fn refuses_two(ancestors: &[Node], descendants: &[Node], verdict: Verdict, part:
             raw::list(&ancestors, &descendants, ticket, out)
         });
     }
+    let refused = raw::Written { verdict: expected, count: 0 };
+    hold(&verdict, &mut [0; ROOM], &[], refused, |out| {
+        raw::sheet(&ancestors, &descendants, &[], out)
+    });
 }
 
 #[test]
@@ -170,6 +177,34 @@ fn two_lists_at_odds() {
         assert_eq!(raw::check(&words(&edited)).answer, Taken as u32);
         refuses_two(&sound(count), &edited, Verdict::of(Joint), [0, 0]);
         refuses_two(&edited, &sound(count), Verdict::of(Joint), [0, 0]);
+    }
+}
+
+/// Fails unless a sheet of `count` samples refuses each faulty word at this index, whatever comes
+/// after it.
+fn refuses_word(count: usize, index: usize) {
+    let list = words(&sound(count));
+    let verdict = Verdict { index: index as u32, ..Verdict::of(Reading) };
+    let refused = raw::Written { verdict: raw_verdict(verdict), count: 0 };
+    for word in FAULTY {
+        for after in [NO_HUNDREDTHS, word] {
+            let mut hundredths = vec![NO_HUNDREDTHS; count];
+            hundredths[index..].fill(after);
+            hundredths[index] = word;
+            hold(&(index, word), &mut vec![0; SUBTOTAL_WORDS * count], &[], refused, |out| {
+                raw::sheet(&list, &list, &hundredths, out)
+            });
+        }
+    }
+}
+
+#[test]
+fn any_word_of_a_sheet() {
+    for index in 0..NODES {
+        refuses_word(NODES, index);
+    }
+    for index in [0, MOST - 1] {
+        refuses_word(MOST, index);
     }
 }
 

@@ -7,20 +7,9 @@ use outside::model::answers::Answer::{Table, Taken};
 use outside::model::links::LINK_WORDS;
 use outside::model::marks::{ROW_WORDS, TEXT};
 use outside::model::nodes::NODE_WORDS;
-use outside::stored::{answer, each_case, listed, verdict, words, Case};
+use outside::stored::{answer, each_case, shown, verdict, words, Case};
 
 const CASES: &str = include_str!("../cases/marks.txt");
-/// The most words that are all shown, and how many of a longer result are, at either end.
-const ALL_SHOWN: usize = 60;
-const ENDS_SHOWN: usize = 10;
-
-/// Returns the words of a result, and of many the first and the last.
-fn shown(words: &[u32]) -> String {
-    if words.len() <= ALL_SHOWN {
-        return listed(words);
-    }
-    format!("{} to{}", listed(&words[..ENDS_SHOWN]), listed(&words[words.len() - ENDS_SHOWN..]))
-}
 
 /// Returns the line of marks that are numbered. Taken, the rows turn back into the same marks.
 fn number(document: u32, marks: &[u32], room: usize) -> String {

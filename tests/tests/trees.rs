@@ -11,6 +11,7 @@ use outside::model::answers::Answer::Taken;
 use outside::model::links::{LINK_WORDS, NONE};
 use outside::model::nodes::{words, Node};
 use outside::model::pages::{Order, Pair, PAIR_WORDS};
+use outside::model::sheets::{subtotal_over, Subtotal, NO_HUNDREDTHS, SUBTOTAL_WORDS};
 use outside::random::{each_case, Random};
 
 /// The lists that are made for each test.
@@ -122,6 +123,11 @@ fn some_places(random: &mut Random, tree: &Tree) -> Vec<usize> {
     (0..tree.nodes.len()).filter(|_| random.below(8) < 5).collect()
 }
 
+/// Returns the words of the nodes at these places.
+fn words_at(tree: &Tree, places: &[usize]) -> Vec<u32> {
+    words(&places.iter().map(|&place| tree.nodes[place]).collect::<Vec<Node>>())
+}
+
 /// Returns the pairs of the places in the first list with those below them in the second, in either
 /// order. If they are to be directly inside, the levels differ by one.
 fn pairs_of(tree: &Tree, lists: [&[usize]; 2], ticket: &Ticket) -> Vec<Pair> {
@@ -152,9 +158,7 @@ fn pairs_are_those_of_the_trees() {
     each_case(SEEDS + CASES, CASES, |random| {
         let tree = forest(random);
         let places = [(); 2].map(|()| some_places(random, &tree));
-        let lists = [0, 1].map(|list: usize| {
-            words(&places[list].iter().map(|&place| tree.nodes[place]).collect::<Vec<Node>>())
-        });
+        let lists = [0, 1].map(|list: usize| words_at(&tree, &places[list]));
         assert_eq!(asking::check_two(&lists[0], &lists[1]), Taken);
         for [relation, order] in [[0, 0], [0, 1], [1, 0], [1, 1]] {
             let ticket = Ticket { relation, order, ..FRESH };
@@ -185,4 +189,31 @@ fn hold_parents(tree: &Tree, pairs: &[Pair]) {
         let parent = place(descendant).and_then(|place| tree.parents[place]);
         assert_eq!(parent, place(ancestor), "the parent of {descendant:?}");
     }
+}
+
+/// Gives each sample its place as its word, or none. A zone's row is over the samples below it.
+#[test]
+fn sheets_are_those_of_the_trees() {
+    let mut seen = [0; 2];
+    each_case(SEEDS + 2 * CASES, CASES, |random| {
+        let tree = forest(random);
+        let [zones, samples] = [(); 2].map(|()| some_places(random, &tree));
+        let word = |&place: &usize| if place % 3 == 0 { NO_HUNDREDTHS } else { place as u32 };
+        let row = |zone: &usize| {
+            let is_below = |sample: &&usize| above(&tree, **sample).contains(zone);
+            subtotal_over(&samples.iter().filter(is_below).map(word).collect::<Vec<u32>>())
+        };
+        let rows: Vec<Subtotal> = zones.iter().map(row).collect();
+        let hundredths: Vec<u32> = samples.iter().map(word).collect();
+        let lists = [&zones, &samples].map(|places| words_at(&tree, places));
+        let mut out = vec![0; SUBTOTAL_WORDS * rows.len()];
+        assert_eq!(asking::sheet(&lists[0], &lists[1], &hundredths, &mut out), Taken);
+        assert_eq!(out, rows.concat(), "the sheet, and that of the tree: {:?}", tree.nodes);
+        seen[0] += u64::from(rows.iter().any(|&[samples, present, _]| samples > present));
+        seen[1] += u64::from(zones.iter().any(|&zone| above(&tree, zone).len() > 40));
+    });
+    assert!(
+        seen.iter().all(|&lists| lists > LEAST),
+        "lists with a missing sample in a zone, with more than forty nodes above a zone: {seen:?}"
+    );
 }

@@ -133,6 +133,16 @@ pub fn any_family(random: &mut Random) -> Vec<Node> {
     }
 }
 
+/// Returns a node of document 5.
+pub fn node([start, end, level]: [u32; 3]) -> Node {
+    Node { document: 5, start, end, level }
+}
+
+/// Returns the words of such nodes.
+pub fn words_of(nodes: &[[u32; 3]]) -> Vec<u32> {
+    words(&nodes.iter().copied().map(node).collect::<Vec<Node>>())
+}
+
 /// Returns `count` zones of document 5, each inside the one before.
 pub fn nest(count: usize) -> Vec<Node> {
     (0..count as u32)
