@@ -12,9 +12,9 @@ enum { MOST_PAIRS = 300000, MOST_NOTES = 1 << 16, ANSWERS = BELFRY_READING + 1 }
 
 /* What a case gives to the calls. */
 struct input {
-    const uint32_t *ancestors, *descendants, *readings, *marks;
+    const uint32_t *ancestors, *descendants, *readings, *hundredths, *marks;
     const uint8_t *book;
-    size_t ancestor_words, descendant_words, reading_words, mark_words, book_bytes;
+    size_t ancestor_words, descendant_words, reading_words, hundredth_words, mark_words, book_bytes;
     size_t rooms[2];
     belfry_ticket ticket;
     uint32_t zone, tag;
@@ -133,6 +133,16 @@ static void note_written(struct notes *notes, belfry_result result, size_t room_
     note_out(notes, room_words);
 }
 
+static void note_sheets(struct notes *notes, const struct code *code, const struct input *in) {
+    for (size_t i = 0; i < 2; i++) {
+        clear_out(in->rooms[i]);
+        belfry_result sheet =
+            code->sheet(in->ancestors, in->ancestor_words, in->descendants, in->descendant_words,
+                        in->hundredths, in->hundredth_words, out, in->rooms[i]);
+        note_written(notes, sheet, in->rooms[i]);
+    }
+}
+
 static void note_others(struct notes *notes, const struct code *code, const struct input *in) {
     for (size_t i = 0; i < 2; i++) {
         clear_out(in->rooms[i]);
@@ -156,6 +166,7 @@ static void note_all(struct notes *notes, const struct code *code, const struct 
     note_checks(notes, code, in);
     note_listings(notes, code, in);
     note_range(notes, code, in);
+    note_sheets(notes, code, in);
     note_others(notes, code, in);
 }
 
@@ -194,7 +205,7 @@ enum {
 struct small {
     size_t words[SMALL_LISTS], marks, bytes;
     uint32_t list[SMALL_LISTS][BELFRY_NODE_WORDS * MOST_SMALL],
-        reading[BELFRY_READING_WORDS * MOST_SMALL], mark[SMALL_MARKS];
+        reading[BELFRY_READING_WORDS * MOST_SMALL], hundredths[MOST_SMALL + 1], mark[SMALL_MARKS];
     uint8_t book[BELFRY_BOOK_BYTES(SMALL_LISTS, SMALL_NODES) + 1];
 };
 
@@ -318,6 +329,19 @@ static void fill_readings(struct small *s) {
         s->reading[BELFRY_READING_WORDS * below(MOST_SMALL)] = below(5);
 }
 
+/* Fills in a word for each sample, and one more. Most often all are sound. */
+static void fill_hundredths(struct small *s) {
+    static const uint32_t others[] = {0,
+                                      BELFRY_MOST_HUNDREDTHS,
+                                      BELFRY_MOST_HUNDREDTHS + 1,
+                                      BELFRY_NO_HUNDREDTHS - 1,
+                                      BELFRY_NO_HUNDREDTHS + 1,
+                                      UINT32_MAX};
+    build_hundredths(s->hundredths, MOST_SMALL + 1);
+    if (below(2))
+        s->hundredths[below(MOST_SMALL)] = others[below(6)];
+}
+
 /* Tells whether a zone and a sample of one document start at two positions and end at one. */
 static int meet_at_an_end(const struct input *in) {
     for (size_t i = 0; i < in->ancestor_words / BELFRY_NODE_WORDS; i++)
@@ -338,6 +362,7 @@ static void compare_random(unsigned long number) {
         damage_list(s.list[list], &s.words[list]);
     }
     fill_readings(&s);
+    fill_hundredths(&s);
     fill_marks(&s);
     fill_book(&s);
     struct input in = {
@@ -348,6 +373,8 @@ static void compare_random(unsigned long number) {
         .readings = s.reading,
         .reading_words = BELFRY_READING_WORDS * (s.words[1] / BELFRY_NODE_WORDS) -
                          (s.words[1] > 0 && below(16) == 0),
+        .hundredths = s.hundredths,
+        .hundredth_words = s.words[1] / BELFRY_NODE_WORDS + (below(16) == 0),
         .zone = below(8),
         .marks = s.mark,
         .mark_words = s.marks,
@@ -369,11 +396,13 @@ static void compare_random(unsigned long number) {
 
 static void compare_shape(const char *name) {
     static struct shape lists, document;
-    static uint32_t readings[BELFRY_READING_WORDS * BELFRY_MOST_NODES];
+    static uint32_t readings[BELFRY_READING_WORDS * BELFRY_MOST_NODES],
+        hundredths[BELFRY_MOST_NODES];
     static uint8_t book[4];
     build_shape(&lists, name, BELFRY_MOST_NODES);
     build_document(&document, name, BELFRY_MOST_NODES);
     build_readings(readings, lists.samples, IN_TURN);
+    build_hundredths(hundredths, lists.samples);
     struct input in = {
         .ancestors = lists.zone,
         .ancestor_words = BELFRY_NODE_WORDS * lists.zones,
@@ -381,6 +410,8 @@ static void compare_shape(const char *name) {
         .descendant_words = BELFRY_NODE_WORDS * lists.samples,
         .readings = readings,
         .reading_words = BELFRY_READING_WORDS * lists.samples,
+        .hundredths = hundredths,
+        .hundredth_words = lists.samples,
         .zone = lists.zones / 2,
         .marks = document.mark,
         .mark_words = document.marks,
@@ -402,9 +433,11 @@ enum lie { SIBLINGS, NEST, NEST_WITH_ONE_END };
 /* Compares lists and marks of as many words as are given. */
 static void compare_limit(size_t words, size_t mark_words, enum lie lie) {
     static uint32_t list[BELFRY_NODE_WORDS * (BELFRY_MOST_NODES + 1)], mark[BELFRY_MOST_NODES + 1];
-    static uint32_t readings[BELFRY_READING_WORDS * (BELFRY_MOST_NODES + 1)];
+    static uint32_t readings[BELFRY_READING_WORDS * (BELFRY_MOST_NODES + 1)],
+        hundredths[BELFRY_MOST_NODES + 1];
     static uint8_t book[CONTENTS_BYTES];
     build_readings(readings, BELFRY_MOST_NODES + 1, IN_TURN);
+    build_hundredths(hundredths, BELFRY_MOST_NODES + 1);
     for (uint32_t i = 0; i < words / BELFRY_NODE_WORDS; i++) {
         const uint32_t ends[] = {2 + 2 * i, UINT32_MAX - i, UINT32_MAX};
         uint32_t node[BELFRY_NODE_WORDS] = {5, 1 + 2 * i, ends[lie], lie == SIBLINGS ? 1 : 1 + i};
@@ -419,6 +452,8 @@ static void compare_limit(size_t words, size_t mark_words, enum lie lie) {
         .descendant_words = words,
         .readings = readings,
         .reading_words = BELFRY_READING_WORDS * (words / BELFRY_NODE_WORDS),
+        .hundredths = hundredths,
+        .hundredth_words = words / BELFRY_NODE_WORDS,
         .marks = mark,
         .mark_words = mark_words,
         .book = book,

@@ -23,6 +23,9 @@ struct code {
     belfry_range (*zone_range)(const uint32_t *zones, size_t zone_words, const uint32_t *samples,
                                size_t sample_words, const uint32_t *readings, size_t reading_words,
                                uint32_t zone);
+    belfry_result (*sheet)(const uint32_t *zones, size_t zone_words, const uint32_t *samples,
+                           size_t sample_words, const uint32_t *hundredths, size_t hundredth_words,
+                           uint32_t *out, size_t out_words);
     belfry_result (*links)(const uint32_t *list, size_t words, uint32_t *out, size_t out_words);
     belfry_result (*number)(uint32_t document, const uint32_t *marks, size_t mark_words,
                             uint32_t *out, size_t out_words);

@@ -14,6 +14,7 @@ CODES = ("archive", "clang-three", "clang-fused", "clang-best", "gcc-three", "gc
 SHAPES = ("flat", "nests", "between", "random", "eight-zones", "few-samples")
 ALL_SHAPES = (*SHAPES, "documents", "twice", "fields", "side")
 MOST_NODES = 4096
+MOST_LEVELS = 64
 
 # The program takes a book of BOOK_BYTES, which has room for PRINTED_NODES in each of two lists.
 BOOK_BYTES, CONTENTS_BYTES, NODE_BYTES = 61440, 28, 16
@@ -99,7 +100,7 @@ def without_kind(measure):
 
 
 def unit_of(measure):
-    return {"check": "node", "range": "node", "book": "node", "links": "node",
+    return {"check": "node", "range": "node", "sheet": "node", "book": "node", "links": "node",
             "number": "mark"}.get(without_kind(measure), "pair")
 
 
@@ -109,7 +110,7 @@ def units(measure, shape, nodes=MOST_NODES):
         return sizes(shape, min(int(nodes), PRINTED_NODES))["inside"]
     measure, size = without_kind(measure), sizes(shape, nodes)
     both = size["zones"] + size["samples"]
-    counts = {"check": both, "range": both, "book": both, "links": size["zones"],
+    counts = {"check": both, "range": both, "sheet": both, "book": both, "links": size["zones"],
               "number": size["marks"]}
     return counts[measure] if measure in counts else size[measure.split("-")[0]]
 

@@ -10,7 +10,8 @@ enum {
 };
 
 struct shape shape;
-static uint32_t out[OUT_WORDS], readings[BELFRY_READING_WORDS * BELFRY_MOST_NODES];
+static uint32_t out[OUT_WORDS], readings[BELFRY_READING_WORDS * BELFRY_MOST_NODES],
+    hundredths[BELFRY_MOST_NODES];
 uint8_t book[BELFRY_BOOK_BYTES(BOOK_LISTS, BOOK_NODES)];
 size_t book_bytes;
 
@@ -65,8 +66,11 @@ static int prepare_range(struct measure *measure, const char *name) {
 
 int prepare_measure(struct measure *measure, const char *name, const char *shape_name,
                     size_t nodes) {
-    static const char *const names[] = {
-        [CHECK] = "check", [LINKS] = "links", [NUMBER] = "number", [BOOK] = "book"};
+    static const char *const names[] = {[CHECK] = "check",
+                                        [SHEET] = "sheet",
+                                        [LINKS] = "links",
+                                        [NUMBER] = "number",
+                                        [BOOK] = "book"};
     int named = 0;
     for (enum kind kind = CHECK; kind <= BOOK; kind++)
         if (names[kind] && strcmp(names[kind], name) == 0) {
@@ -81,6 +85,7 @@ int prepare_measure(struct measure *measure, const char *name, const char *shape
         return 0;
     build_book();
     build_readings(readings, shape.samples, measure->readings);
+    build_hundredths(hundredths, shape.samples);
     return 1;
 }
 
@@ -121,6 +126,13 @@ static size_t range_of_first(const struct code *code) {
     return taken(range.verdict.answer, shape.zones + shape.samples);
 }
 
+static size_t sheet_of_zones(const struct code *code) {
+    belfry_result result =
+        code->sheet(shape.zone, BELFRY_NODE_WORDS * shape.zones, shape.sample,
+                    BELFRY_NODE_WORDS * shape.samples, hundredths, shape.samples, out, OUT_WORDS);
+    return taken(result.verdict.answer, result.count);
+}
+
 static size_t link_zones(const struct code *code) {
     belfry_result result = code->links(shape.zone, BELFRY_NODE_WORDS * shape.zones, out, OUT_WORDS);
     return taken(result.verdict.answer, result.count);
@@ -142,6 +154,8 @@ size_t run_measure(const struct measure *measure, const struct code *code) {
         return check_two(code);
     case RANGE:
         return range_of_first(code);
+    case SHEET:
+        return sheet_of_zones(code);
     case LINKS:
         return link_zones(code);
     case NUMBER:

@@ -7,7 +7,7 @@
 
 enum { MOST_PAIRS = 262144 };
 
-enum kind { CHECK, LISTING, RANGE, LINKS, NUMBER, BOOK };
+enum kind { CHECK, LISTING, RANGE, SHEET, LINKS, NUMBER, BOOK };
 
 /* A measure that was prepared: the shape's words and bytes, and the output, lie in memory that all
    measures share. */
@@ -25,14 +25,15 @@ extern size_t book_bytes;
 
 /* Prepares a measure by its name on a shape with at most `nodes` nodes in each list, or on a
    document with at most `nodes` marks; it answers 0 where there is no such measure or shape. The
-   names are check, range, links, number, book, and RELATION-ORDER-ROOM with the relation inside or
-   directly, the order descendant or ancestor, and as room the pairs of a page, or all. The readings
-   of range are of each kind in turn; those of range-percent, range-grams and range-missing are of
-   one. */
+   names are check, range, sheet, links, number, book, and RELATION-ORDER-ROOM with the relation
+   inside or directly, the order descendant or ancestor, and as room the pairs of a page, or all.
+   The readings of range are of each kind in turn; those of range-percent, range-grams and
+   range-missing are of one. */
 int prepare_measure(struct measure *measure, const char *name, const char *shape_name,
                     size_t nodes);
 
-/* Runs the measure once, and answers how many pairs, nodes, link triples, rows or lists came of it.
+/* Runs the measure once, and answers how many pairs, nodes, zones, link triples, rows or lists came
+   of it.
    A refusal ends the program. */
 size_t run_measure(const struct measure *measure, const struct code *code);
 

@@ -10,8 +10,8 @@ from functools import lru_cache, partial
 from pathlib import Path
 
 import join
-from figures import (ALL_SHAPES, CODES, EMULATOR, MADE, MOST_NODES, PRINTED_NODES, SHAPES, counted,
-                     emulated, instructions, printing_nothing, run, sizes, units)
+from figures import (ALL_SHAPES, CODES, EMULATOR, MADE, MOST_LEVELS, MOST_NODES, PRINTED_NODES,
+                     SHAPES, counted, emulated, instructions, printing_nothing, run, sizes, units)
 
 CASES = 100_000
 WIDTH = 100
@@ -21,6 +21,8 @@ PAGE_ROOMS = (256, MOST_NODES)
 GROWTH = (64, 1024, MOST_NODES)
 TWINS = CODES[1:]
 CODES_HERE = TWINS if EMULATOR else CODES
+# Times of the calls are taken where the machine is an x86-64, unless counts alone are wanted.
+TIMED = not EMULATOR and "--counts" not in sys.argv
 OTHER_SHAPES = ALL_SHAPES[len(SHAPES):]
 # A document of the shape `documents` has two nodes only.
 NUMBERED_SHAPES = tuple(shape for shape in ALL_SHAPES if shape != "documents")
@@ -79,10 +81,10 @@ def processor():
 
 @lru_cache(maxsize=None)
 def times(measure, shape):
-    """Returns the median nanoseconds of each code, all from one run in which they take turns. There
-    are none where the machine isn't an x86-64.
+    """Returns the median nanoseconds of each code, all from one run in which they take turns, or
+    nothing where times aren't taken.
     """
-    if EMULATOR:
+    if not TIMED:
         return {}
     lines = run("driver", "time", measure, shape, MOST_NODES).splitlines()
     return {code: float(time) for code, time in map(str.split, lines)}
@@ -142,10 +144,13 @@ def print_head():
         item(f"Instructions counted by: {said_by(EMULATOR, '--version')}, plugin bench/count.c")
         item("Times: none. This machine is no x86-64, and a time under emulation says nothing "
              "about one.")
-    else:
-        item(f"Instructions counted by: {said_by('valgrind', '--version')}, callgrind")
+        return
+    item(f"Instructions counted by: {said_by('valgrind', '--version')}, callgrind")
+    if TIMED:
         item("Times: microseconds of processor time, medians of 5 to 201 rounds, in each of which "
              f"all {len(CODES)} codes take their turn. A cell is instructions; microseconds.")
+    else:
+        item("Times: none of the calls. This run was asked for counts alone.")
 
 
 def print_agreement():
@@ -179,7 +184,8 @@ def check_counter():
 def print_codes():
     print("\n## Codes")
     say("Every call checks what it is given. The twins differ in how they check two lists, list "
-        "pairs and link nodes; they find ranges, number marks and check books in one way.")
+        "pairs and link nodes; they find ranges, write sheets, number marks and check books in one "
+        "way. A sheet is written without recursion by the twins.")
     print()
     item("archive: the proved library")
     item("three: ordinary C that checks two lists in three passes, over each list and then over "
@@ -268,7 +274,7 @@ def twin_bar(listing, shape):
 
 def print_twin_bars():
     progress("bars")
-    in_what = "in instructions" if EMULATOR else "in instructions; in time"
+    in_what = "in instructions; in time" if TIMED else "in instructions"
     say(f"The archive's whole call, checks included, to each twin's, {in_what}. A bar holds where "
         f"the instructions are at most {MOST_RATIOS['clang-three']} of those of both three-pass "
         f"twins and at most {MOST_RATIOS['clang-fused']} of clang-fused's. For {SHARP_LISTING} on "
@@ -363,14 +369,33 @@ def print_one_zone():
            for kind in ("percent", "grams", "missing")])
 
 
+def walk_cell(code, shape):
+    """Returns what a sheet takes for a zone and a sample alike beyond the check of both lists."""
+    taken = instructions(code, "sheet", shape) - instructions(code, "check", shape)
+    return f"{taken / units('sheet', shape):.1f}"
+
+
+def print_walks():
+    progress("Sheets beyond the check")
+    print("\n### Sheets beyond the check")
+    say("The instructions of a sheet for a node of either list, beyond the check of both. The last "
+        f"two shapes are one zone and {MOST_NODES:,} samples, which are all inside it or all after "
+        "it.")
+    table(("shape", *CODES), [(shape, *(walk_cell(code, shape) for code in CODES))
+                              for shape in (*ALL_SHAPES, "holds-all", "holds-none")])
+
+
 def print_others():
-    print("\n## Ranges, links, numbering, books")
+    print("\n## Ranges, sheets, links, numbering, books")
     say("A range is that of the first zone, with a reading for each sample: in percent, in grams "
-        "and missing, in turn. Links are those of the zones. What is numbered is a document of the "
-        f"shape's kind with at most {MOST_NODES:,} marks; a document of the shape `documents` has "
-        "two nodes only and is left out. The book that is checked holds both lists.")
+        "and missing, in turn. A sheet has a subtotal for each zone, and every third sample is "
+        "missing. Links are those of the zones. What is numbered is a document of the shape's kind "
+        f"with at most {MOST_NODES:,} marks; a document of the shape `documents` has two nodes "
+        "only and is left out. The book that is checked holds both lists.")
     measured("Ranges", "range", "a node")
     print_one_zone()
+    measured("Sheets", "sheet", "a node")
+    print_walks()
     measured("Links", "links", "a node")
     measured("Numbering", "number", "a mark", NUMBERED_SHAPES)
     measured("Checking a book", "book", "a node")
@@ -413,15 +438,16 @@ def print_growth():
         "the column says. Those of a listing inside are shared by the nodes too, however many "
         "pairs it writes.")
     measures = {"checks": "check", "descendant order": "inside-descendant-all",
-                "ancestor order": "inside-ancestor-all"}
+                "ancestor order": "inside-ancestor-all", "sheets": "sheet"}
     table(("shape", *(f"{name}, {nodes:,}" for name in measures for nodes in GROWTH)),
           [growth_row(shape, measures.values()) for shape in ALL_SHAPES])
 
 
 def print_stack():
     print("\n## Stack")
-    say("The most bytes of stack that a call took on all shapes, taken and refused, its arguments, "
-        "its answer and the way back included. A twin has no such call where there is no number.")
+    say("The most bytes of stack that a call took on all shapes and on a nest of "
+        f"{MOST_LEVELS} zones, taken and refused, its arguments, its answer and the way back "
+        "included. A twin has no such call where there is no number.")
     table(("call", *CODES), [(name, *(f"{number:,}" if number else "" for number in taken))
                              for name, taken in stacks().items()])
 

@@ -110,6 +110,14 @@ void build_readings(uint32_t *readings, size_t samples, uint32_t kind) {
     }
 }
 
+void build_hundredths(uint32_t *hundredths, size_t samples) {
+    uint64_t state = 1;
+    for (size_t i = 0; i < samples; i++) {
+        uint32_t number = random_number(&state) % (BELFRY_MOST_HUNDREDTHS + 1);
+        hundredths[i] = i % 3 == 2 ? BELFRY_NO_HUNDREDTHS : number;
+    }
+}
+
 /* Builds a walk that opens a zone, opens a sample or closes what is open, at random. */
 static void build_random(struct building *b) {
     uint64_t state = 1;
@@ -204,6 +212,21 @@ static void build_holds_none(struct building *b) {
     put_samples(b, b->most);
 }
 
+static void build_deepest(struct building *b) {
+    size_t lowest = b->depth;
+    for (;;) {
+        open_zone(b);
+        if (b->depth == BELFRY_MOST_LEVELS)
+            break;
+        put_samples(b, 1);
+    }
+    close_element(b);
+    while (b->depth > lowest) {
+        put_samples(b, 1);
+        close_element(b);
+    }
+}
+
 const char *const shape_names[SHAPES] = {
     "flat",        "nests",     "between", "random", "eight-zones",
     "few-samples", "documents", "twice",   "fields", "side",
@@ -225,6 +248,8 @@ static int build(struct building *b, const char *name) {
         build_holds_all(b);
     else if (strcmp(name, "holds-none") == 0)
         build_holds_none(b);
+    else if (strcmp(name, "deepest") == 0)
+        build_deepest(b);
     else
         return 0;
     return 1;

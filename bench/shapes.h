@@ -19,9 +19,10 @@ struct shape {
 extern const char *const shape_names[SHAPES];
 
 /* Builds the shape of a name with at most `nodes` nodes in each list; it answers 0 where there is
-   no such shape. The lists need no root, so the outermost zones have level 1. Two names beside the
-   ten are for ranges only: holds-all is one zone with all samples in it, and holds-none is one zone
-   with all samples after it. */
+   no such shape. The lists need no root, so the outermost zones have level 1. Three names are
+   beside the ten. For ranges and sheets, holds-all is one zone with all samples in it, and
+   holds-none is one zone with all samples after it. For the stack, deepest is a nest of as many
+   zones as there are levels, with a sample before and a sample after each inner zone. */
 int build_shape(struct shape *shape, const char *name, size_t nodes);
 
 /* Builds the same within a root, so that the marks are those of one document. There are at most
@@ -30,6 +31,10 @@ int build_document(struct shape *shape, const char *name, size_t marks);
 
 /* Fills in a reading of this kind for each of `samples` samples. The values are random. */
 void build_readings(uint32_t *readings, size_t samples, uint32_t kind);
+
+/* Fills in a word of a zone sheet for each of `samples` samples: every third is missing, and the
+   others are random. */
+void build_hundredths(uint32_t *hundredths, size_t samples);
 
 /* Returns the next random number after a state, which may begin with any number. The same state
  * gives the same number, which is below 2 to the 31. */

@@ -1,22 +1,24 @@
 /* How much stack each call takes, its arguments, its answer and the way back included: the most
-   over all shapes, taken and refused. A call runs on a stack of its own that was painted before,
-   and what lost its paint is counted, less what an empty function leaves. A line is printed for
-   each call: its name, and the bytes for each code, 0 where the twin has no such call. */
+   over all shapes and the deepest nest, taken and refused. A call runs on a stack of its own that
+   was painted before, and what lost its paint is counted, less what an empty function leaves. A
+   line is printed for each call: its name, and the bytes for each code, 0 where the twin has no
+   such call. */
 #include "codes.h"
 #include "shapes.h"
 #include <stdio.h>
 #include <string.h>
 #include <ucontext.h>
 
-enum { AREA_BYTES = 1 << 18, OUT_WORDS = 1 << 21, CALLS = 14, PAINTS = 2, WORD_BYTES = 8 };
+enum { AREA_BYTES = 1 << 18, OUT_WORDS = 1 << 21, CALLS = 15, PAINTS = 2, WORD_BYTES = 8 };
 
-/* What the calls are given: a shape's lists and readings, a document's marks and table, and a book
-   of the zones, with the entry and the bytes that it has. */
+/* What the calls are given: a shape's lists, readings and hundredths, a document's marks and table,
+   and a book of the zones, with the entry and the bytes that it has. */
 static struct shape lists, document;
 static size_t zone_words, sample_words, table_words, book_bytes;
 static uint32_t table[BELFRY_ROW_WORDS * BELFRY_MOST_NODES], entry[2],
     book[4 + BELFRY_NODE_WORDS * BELFRY_MOST_NODES],
-    readings[BELFRY_READING_WORDS * BELFRY_MOST_NODES], out[OUT_WORDS];
+    readings[BELFRY_READING_WORDS * BELFRY_MOST_NODES], hundredths[BELFRY_MOST_NODES],
+    out[OUT_WORDS];
 
 static void call_nothing(const struct code *code) {
     (void)code;
@@ -54,6 +56,11 @@ static void call_list_ancestor(const struct code *code) {
 static void call_zone_range(const struct code *code) {
     code->zone_range(lists.zone, zone_words, lists.sample, sample_words, readings,
                      BELFRY_READING_WORDS * lists.samples, 0);
+}
+
+static void call_sheet(const struct code *code) {
+    code->sheet(lists.zone, zone_words, lists.sample, sample_words, hundredths, lists.samples, out,
+                OUT_WORDS);
 }
 
 static void call_number(const struct code *code) {
@@ -107,6 +114,7 @@ static const struct {
     {"list, descendant order", call_list_descendant, 1},
     {"list, ancestor order", call_list_ancestor, 1},
     {"zone_range", call_zone_range, 1},
+    {"sheet", call_sheet, 1},
     {"number", call_number, 1},
     {"unnumber", call_unnumber, 0},
     {"pick", call_pick, 0},
@@ -161,6 +169,7 @@ static void prepare(const char *shape_name) {
     build_shape(&lists, shape_name, BELFRY_MOST_NODES);
     build_document(&document, shape_name, BELFRY_MOST_NODES);
     build_readings(readings, lists.samples, IN_TURN);
+    build_hundredths(hundredths, lists.samples);
     zone_words = BELFRY_NODE_WORDS * lists.zones;
     sample_words = BELFRY_NODE_WORDS * lists.samples;
     size_t room = BELFRY_ROW_WORDS * BELFRY_MOST_NODES;
@@ -183,8 +192,8 @@ static void damage(void) {
 
 int main(void) {
     static size_t most[CALLS][CODES];
-    for (size_t round = 0; round < 2 * SHAPES; round++) {
-        prepare(shape_names[round / 2]);
+    for (size_t round = 0; round < 2 * (SHAPES + 1); round++) {
+        prepare(round / 2 < SHAPES ? shape_names[round / 2] : "deepest");
         if (round % 2 == 1)
             damage();
         for (size_t c = 0; c < CALLS; c++)

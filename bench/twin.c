@@ -132,10 +132,6 @@ static int sweep_ancestors(struct lists l, const belfry_ticket *ticket, struct w
     return 1;
 }
 
-static inline int has_ended(const struct node *earlier, const struct node *n) {
-    return earlier->document != n->document || earlier->end < n->start;
-}
-
 /* Links the nodes of a list that was taken. The last node left on the way to a node's parent is its
  * elder sibling, if it is of the same document. */
 static void link_nodes(const struct node *nodes, size_t count,

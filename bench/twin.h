@@ -115,6 +115,10 @@ static inline int is_before(const struct node *x, const struct node *y) {
     return x->document < y->document || (x->document == y->document && x->start < y->start);
 }
 
+static inline int has_ended(const struct node *earlier, const struct node *n) {
+    return earlier->document != n->document || earlier->end < n->start;
+}
+
 /* Returns the next node of two lists that both have more, in start order. It is NULL where each has
  * another at the same start; where both have the same, that is taken once. */
 static inline const struct node *next_node(struct lists *l) {
@@ -299,6 +303,88 @@ belfry_range TWIN(zone_range)(const uint32_t *zones, size_t zone_words, const ui
 
 static belfry_result result_of(belfry_verdict v, size_t count) {
     return (belfry_result){v, count};
+}
+
+/* Returns the index of the first word that is neither a number of hundredths nor the one for
+ * missing, or how many words there are. Most often none is faulty, which a loop without a way out
+ * of it tells sooner. */
+static size_t first_faulty(const uint32_t *words, size_t count) {
+    int faulty = 0;
+    size_t i = 0;
+    for (size_t j = 0; j < count; j++)
+        faulty |= words[j] > BELFRY_MOST_HUNDREDTHS && words[j] != BELFRY_NO_HUNDREDTHS;
+    if (!faulty)
+        return count;
+    while (words[i] <= BELFRY_MOST_HUNDREDTHS || words[i] == BELFRY_NO_HUNDREDTHS)
+        i++;
+    return i;
+}
+
+/* How far a sheet has come along the samples: the next one, its word, and the subtotal of all
+   before it. */
+struct passed {
+    const struct node *sample, *end;
+    const uint32_t *word;
+    uint32_t present, sum;
+};
+
+/* Passes the samples up to a position in a document. */
+static inline void pass_up_to(struct passed *p, uint32_t document, uint32_t position) {
+    const struct node place = {document, position, 0, 0};
+    for (; p->sample < p->end && !is_before(&place, p->sample); p->sample++) {
+        uint32_t word = *p->word++, present = word != BELFRY_NO_HUNDREDTHS;
+        p->present += present;
+        p->sum += present ? word : 0;
+    }
+}
+
+/* A zone that has begun, and its row. */
+struct begun {
+    const struct node *zone;
+    belfry_subtotal *row;
+};
+
+/* Passes the samples up to the end of a zone, and leaves in its row those since its start. */
+static inline void end_zone(struct passed *p, const uint32_t *words, struct begun b) {
+    pass_up_to(p, b.zone->document, b.zone->end);
+    b.row->samples = (uint32_t)(p->word - words) - b.row->samples;
+    b.row->present = p->present - b.row->present;
+    b.row->sum = p->sum - b.row->sum;
+}
+
+/* Writes the rows of lists that were taken, without recursion: until a zone ends, its row keeps the
+ * subtotal of all samples before it. */
+static void write_subtotals(struct lists l, const uint32_t *words, belfry_subtotal *row) {
+    struct begun open[STACK_NODES], *top = open;
+    struct passed p = {l.descendant, l.descendants_end, words, 0, 0};
+    for (; l.ancestor < l.ancestors_end; l.ancestor++, row++) {
+        for (; top > open && has_ended(top->zone, l.ancestor); top--)
+            end_zone(&p, words, *top);
+        pass_up_to(&p, l.ancestor->document, l.ancestor->start);
+        *row = (belfry_subtotal){p.word - words, p.present, p.sum};
+        *++top = (struct begun){l.ancestor, row};
+    }
+    for (; top > open; top--)
+        end_zone(&p, words, *top);
+}
+
+belfry_result TWIN(sheet)(const uint32_t *zones, size_t zone_words, const uint32_t *samples,
+                          size_t sample_words, const uint32_t *hundredths, size_t hundredth_words,
+                          uint32_t *out, size_t out_words) {
+    belfry_verdict verdict = check_both(zones, zone_words, samples, sample_words);
+    size_t count = zone_words / BELFRY_NODE_WORDS;
+    if (verdict.answer != BELFRY_TAKEN)
+        return result_of(verdict, 0);
+    if (hundredth_words != sample_words / BELFRY_NODE_WORDS)
+        return result_of(verdict_of(BELFRY_RAGGED), 0);
+    size_t faulty = first_faulty(hundredths, hundredth_words);
+    if (faulty < hundredth_words)
+        return result_of((belfry_verdict){BELFRY_READING, 0, faulty}, 0);
+    if (out_words / BELFRY_SUBTOTAL_WORDS < count)
+        return result_of(verdict_of(BELFRY_ROOM), 0);
+    write_subtotals(lists_of(zones, zone_words, samples, sample_words), hundredths,
+                    (belfry_subtotal *)out);
+    return result_of(verdict, count);
 }
 
 belfry_result TWIN(links)(const uint32_t *list, size_t words, uint32_t *out, size_t out_words) {
