@@ -17,11 +17,11 @@ use Rattle.laws.proofs.Choices.{all-map, all-both, all-at, every-two-at}
 use Rattle.nodes.proofs.NodeLaws.{after-trans}
 use Rattle.laws.proofs.Tests.{never, not-so}
 use Rattle.lists.specs.Two.{checkTwo}
-use Rattle.lists.specs.Private.Walk.{firsts}
 use Rattle.lists.proofs.Faults.{Sound}
 use Rattle.lists.proofs.Merging.{Even, even-fine}
 use Rattle.lists.proofs.Pairing.{two-taken-iff}
 use Rattle.lists.proofs.Taken.{Fine, words-taken-iff}
+use Rattle.pairs.specs.Private.Stack.{firsts}
 
 -- What is known of two lists that are accepted together.
 pub record Accepted (as′ ds : List Node) : Type 0 where

@@ -12,11 +12,11 @@ use Rattle.nodes.specs.declared.node.Node.{Node}
 use Rattle.answers.specs.Answer.{TAKEN}
 use Rattle.laws.specs.Choose.{All, EveryTwo}
 use Rattle.nodes.specs.Node.{afterb, openb}
-use Rattle.nodes.specs.Words.{node, nodes, nodeAt}
+use Rattle.nodes.specs.Words.{node, nodes, count, nodeAt}
 use Rattle.nodes.proofs.WordLaws.{length-nodes, nodes-from}
 use Rattle.lists.specs.Check.{checkWords}
 use Rattle.lists.specs.Two.{checkTwo}
-use Rattle.lists.specs.Private.Walk.{firsts, opened, unended, Upon, Fits}
+use Rattle.lists.specs.Private.Walk.{unended, Upon}
 use Rattle.lists.proofs.Faults.{Sound}
 use Rattle.lists.proofs.Pairing.{two-taken-iff}
 use Rattle.lists.proofs.Taken.{Fine, words-taken-iff}
@@ -28,17 +28,17 @@ use Rattle.tickets.specs.declared.ticket.Place.{Place}
 use Rattle.tickets.specs.declared.ticket.Relation.{Relation}
 use Rattle.tickets.specs.Listing.{sortKey}
 use Rattle.tickets.specs.Private.Group.{group, matches}
-use Rattle.tickets.specs.Leaders.{servedIn}
 use Rattle.tickets.specs.PairWords.{PAIR-WORDS, pairWords}
 use Rattle.tickets.specs.Ticket.{spotOf, asked}
 use Rattle.tickets.proofs.Groups.{rest-of, group-past}
+use Rattle.pairs.specs.Private.Stack.{firsts, opened, Fits}
 use Rattle.pairs.specs.Private.Sweep.{Placed, Opening, fromStart, servedGroup}
 use Rattle.laws.proofs.Choices.{all-at}
 use Rattle.pairs.proofs.Accepted.{accepted, fine-with}
 use Rattle.pairs.proofs.Matching.{matches-open}
 use Rattle.pairs.proofs.OpenNodes.{all-among, upon-open, left-open, open-none, open-left, open-later}
 use Rattle.pairs.proofs.ListingGroups.{matches-rise, rest-group}
-use Rattle.pairs.proofs.SweepStart.{Tells, served-in, after-next}
+use Rattle.pairs.proofs.SweepStart.{Tells, after-next}
 
 module _ (as′ ds : List ℕ) where
   -- At a descendant: the stack holds the ancestors that are open at it, and no ancestor before it
@@ -64,12 +64,11 @@ module _ (as′ ds : List ℕ) where
     whole : (length as′ % 4 ≡ 0) × (length ds % 4 ≡ 0)
     whole = (words-taken-iff as′ .0 taken-as .0, words-taken-iff ds .0 taken-ds .0)
 
-    -- Before the first descendant that may have pairs past the place nothing is passed.
-    pub ready-start : (place : Place) (first : ℕ) (stack : List ℕ) → first ≡ servedIn place (nodes ds) → Ready (4 * first) 0 0 stack
+    -- Before the first descendant of a sweep nothing is passed.
+    pub ready-start : (first : ℕ) (stack : List ℕ) → first ≤ count ds → Ready (4 * first) 0 0 stack
     unfolding firsts
-    ready-start place first stack q =
+    ready-start first stack h =
         let w = whole in
-        let h = served-in place ds first q in
         record {
           at = (w .1, omega arith, omega arith);
           stands = λ m. record { used-in = (refl, zero-le); passed-in = (w .0, refl, zero-le); held = open-none _ };

@@ -4,12 +4,12 @@
 -- Laws for the code: `Accepted` is what two accepted lists give at any index, and `Stretches` says
 -- how a group is served from one place to another. `SweepStart` says where a sweep starts and which
 -- followers of a leader lie past the place. `OpenNodes` says how the chain of open ancestors grows
--- and shrinks, and `OpenStack` says so of the stack. `Matching` says which of them match a
--- descendant, `StackMatches` where these lie on the stack, and `Descending` what a sweep along the
--- descendants has left. `Running` is an ancestor's run of descendants. `Children` says which of
--- them lie directly inside and which an inner zone holds. `Zones` says what a sweep along the
--- ancestors has left. `ListingGroups` turns what matches into groups, and `Paged` what was served
--- into the page.
+-- and shrinks. `StackNodes` says so of the words of the stack, and `OpenStack` of a sweep that
+-- passes ancestors. `Matching` says which of them match a descendant, `StackMatches` where these
+-- lie on the stack, and `Descending` what a sweep along the descendants has left. `Running` is an
+-- ancestor's run of descendants. `Children` says which of them lie directly inside and which an
+-- inner zone holds. `Zones` says what a sweep along the ancestors has left. `ListingGroups` turns
+-- what matches into groups, and `Paged` what was served into the page.
 pub mod Accepted
 pub mod Answered
 pub mod Children
@@ -24,6 +24,7 @@ pub mod Paged
 pub mod Running
 pub mod Shown
 pub mod StackMatches
+pub mod StackNodes
 pub mod Stretches
 pub mod SweepStart
 pub mod Unaltered

@@ -17,7 +17,7 @@ use Rattle.nodes.specs.Words.{node}
 use Rattle.laws.proofs.Choices.{all-map, keep-append, keep-none, keep-all, keep-turned}
 use Rattle.nodes.proofs.NodeLaws.{directly-inside, inside-after, inside-open}
 use Rattle.laws.proofs.Tests.{never, not-so}
-use Rattle.lists.specs.Private.Walk.{firsts, Upon, Chain}
+use Rattle.lists.specs.Private.Walk.{Upon, Chain}
 use Rattle.lists.proofs.Faults.{Sound}
 use Rattle.lists.proofs.Keeping.{chain-contains, chain-levels}
 use Rattle.tickets.specs.declared.ticket.Order.the-variants.{Descendant}
@@ -27,6 +27,7 @@ use Rattle.tickets.specs.Listing.{relatedb, pairOf}
 use Rattle.tickets.specs.Private.Group.{matches}
 use Rattle.tickets.proofs.Listed.{related-inside}
 use Rattle.tickets.specs.Ticket.{asked}
+use Rattle.pairs.specs.Private.Stack.{firsts}
 use Rattle.pairs.specs.Private.Sweep.{Open}
 
 -- The first k nodes, turned round, are the first k in their order.

@@ -18,9 +18,10 @@ use Rattle.nodes.specs.Words.{node, nodes, count, nodeAt}
 use Rattle.laws.proofs.Tests.{either}
 use Rattle.nodes.proofs.WordLaws.{length-nodes}
 use Rattle.lists.specs.Check.{checkWords}
-use Rattle.lists.specs.Private.Walk.{firsts, opened, Chain, Fits}
+use Rattle.lists.specs.Private.Walk.{Chain}
 use Rattle.lists.proofs.Faults.{Sound}
 use Rattle.lists.proofs.Taken.{words-taken-iff}
+use Rattle.pairs.specs.Private.Stack.{firsts, opened, Fits}
 use Rattle.pairs.specs.Private.Sweep.{Open, Opening}
 use Rattle.laws.proofs.Choices.{all-at}
 use Rattle.pairs.proofs.Accepted.{fine-before, none-before}

@@ -13,14 +13,15 @@ use Rattle.laws.specs.Choose.{firstAt, keep}
 use Rattle.nodes.specs.Node.{deeperb}
 use Rattle.nodes.specs.Words.{nodes, nodeAt}
 use Rattle.nodes.proofs.WordLaws.{length-nodes, nodes-from}
-use Rattle.lists.specs.Private.Walk.{firsts, opened, Chain, Upon}
-use Rattle.lists.proofs.WalkLaws.{top-at}
+use Rattle.lists.specs.Private.Walk.{Chain, Upon}
 use Rattle.tickets.specs.declared.ticket.Order.the-variants.{Descendant}
 use Rattle.tickets.specs.declared.ticket.Relation.{Relation}
 use Rattle.tickets.specs.declared.ticket.Relation.the-variants.{Inside, Directly}
 use Rattle.tickets.specs.Private.Group.{matches}
 use Rattle.tickets.specs.Ticket.{asked}
+use Rattle.pairs.specs.Private.Stack.{firsts, opened}
 use Rattle.pairs.specs.Private.Sweep.{Placed, stretch, startsFrom, fromStart, servedGroup}
+use Rattle.pairs.proofs.StackNodes.{top-at}
 use Rattle.pairs.proofs.Matching.{firsts-turned, inside-all, directly-top}
 use Rattle.pairs.proofs.Stretches.{stretch-ahead, served-as}
 

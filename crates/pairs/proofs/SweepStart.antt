@@ -2,14 +2,15 @@
 -- number tells which followers lie past the place; for every later leader all do.
 -- What would break it: A sweep that started one leader late, or left out a follower of a leader
 -- after the place's own, would be caught here.
-use mathlib.Core.Path.{_≡_, ap, _∙_}
+use mathlib.Core.Path.{_≡_, refl, ap, _∙_}
 use mathlib.Core.Bool.{true, false, not}
-use mathlib.Core.List.{List}
+use mathlib.Core.List.{List, [], _∷_}
 use Prim.Native.Nat.{ℕ, _+_, _*_, _/_, _≤_, _<_}
 use native.Mathlib.Omega.{arith}
 use lib.ListN.{length, getD}
 use Rattle.nodes.specs.declared.node.Node.{Node}
 use Rattle.answers.specs.Answer.{TAKEN}
+use Rattle.laws.specs.Choose.{firstAt}
 use Rattle.nodes.specs.Node.{afterb}
 use Rattle.nodes.specs.Words.{node, nodes, count, nodeAt}
 use Rattle.laws.proofs.Choices.{every-two-at}
@@ -18,9 +19,11 @@ use Rattle.nodes.proofs.WordLaws.{length-nodes}
 use Rattle.lists.specs.Check.{checkWords}
 use Rattle.lists.proofs.Taken.{Fine, words-taken-iff}
 use Rattle.tickets.specs.declared.ticket.Place.{Place}
+use Rattle.tickets.specs.declared.ticket.Place.the-variants.{Fresh}
 use Rattle.tickets.specs.Leaders.{pastFrom, servedb, servedIn}
 use Rattle.laws.proofs.First.{first-in, first-passes}
 use Rattle.tickets.proofs.Places.{Past, past-first, past-next}
+use Rattle.pairs.specs.Private.Sweep.{Started}
 
 first-unserved : (place : Place) (ns : List Node) (n : Node) → servedIn place ns < length ns → servedb place (getD ns (servedIn place ns) n) ≡ false
 unfolding servedIn
@@ -30,10 +33,6 @@ first-unserved place ns n l = not-read _ (first-passes _ ns n l)
 pub served-in : (place : Place) (ws : List ℕ) (first : ℕ) → first ≡ servedIn place (nodes ws) → first ≤ count ws
 unfolding servedIn
 served-in place ws first q = let h = first-in (λ x. not (servedb place x)) (nodes ws) in omega (arith, length-nodes ws)
-
--- A sweep for the place starts at the leader `first`, with the number `past`.
-abbrev pub Started : Place → List ℕ → ℕ → ℕ → Type 0
-Started place ws first past = (first ≡ servedIn place (nodes ws)) × (past ≡ pastFrom place (nodeAt ws first))
 
 -- At the leader at the word j, the number `past` tells which followers lie past the place.
 abbrev pub Tells : Place → List ℕ → ℕ → ℕ → Type 0
@@ -47,6 +46,17 @@ after-next ws taken j m =
     let t = words-taken-iff ws .0 taken in
     let w = t .0 in
     every-two-at Fine (nodes ws) (j / 4) ((j + 4) / 4) (node 0 0 0 0) (omega arith) (omega (arith, length-nodes ws)) (t .3) .after
+
+-- For a fresh place no leader is served, so a sweep begins with the first leader and all its
+-- followers.
+none-served : (ns : List Node) → 0 ≡ servedIn Fresh ns
+unfolding servedIn servedb firstAt
+none-served [] = refl
+none-served (n ∷ ns) = refl
+
+pub started-fresh : (place : Place) (ws : List ℕ) → place ≡ Fresh → Started place ws 0 0
+unfolding pastFrom
+started-fresh place ws q = rw q (none-served (nodes ws), refl)
 
 module _ (place : Place) (ws : List ℕ) where
   pub started : (first past : ℕ) (x : Node) → first ≡ servedIn place (nodes ws) → x ≡ nodeAt ws first → past ≡ pastFrom place x

@@ -8,9 +8,6 @@ use nodes::node::NODE_WORDS;
 use nodes::node::Node;
 use nodes::node::is_after;
 use nodes::node::is_open;
-use nodes::node::node_at;
-use tickets::leader::past_from;
-use tickets::leader::served_count;
 use tickets::ticket::Order;
 use tickets::ticket::Place;
 use tickets::ticket::Relation;
@@ -23,7 +20,7 @@ ghost use Rattle.laws.specs.Choose.{firstAt};
 ghost use Rattle.nodes.specs.Node.{afterb, insideb};
 ghost use Rattle.nodes.specs.Words.{NODE-WORDS, nodes, count, nodeAt};
 ghost use Rattle.lists.specs.Two.{checkTwo};
-ghost use Rattle.pairs.specs.Private.Sweep.{Placed, Running, Further, runningb, runEnd, RunFrom, matchesFrom, fromStart, servedGroup, servedAll};
+ghost use Rattle.pairs.specs.Private.Sweep.{Placed, Running, Further, runningb, runEnd, RunFrom, matchesFrom, fromStart, Started, servedGroup, servedAll};
 ghost use Rattle.tickets.specs.Ticket.{asked};
 
 // The number of words by which the search for the end of a run moves on: eight descendants.
@@ -332,22 +329,23 @@ fn hand_ancestor(
     }
 }
 
-// Hands out what remains of the listing in ancestor order. The sweep begins at the first ancestor
-// that may have pairs past `place`. The word at which the next ancestor's run begins only moves on,
-// as the ancestors ascend.
+// Hands out the listing in ancestor order, from the ancestor at the index `first` on. Of that
+// ancestor's group only the pairs with descendants that start at `past` or later are handed out.
+// The word at which the next ancestor's run begins only moves on, as the ancestors ascend.
 pub(crate) fn sweep_ancestors(
     ancestors: &[u32],
     descendants: &[u32],
     relation: Relation,
-    place: Place,
+    first: usize,
+    past: u64,
     out: &mut [u32],
 ) -> Handed
-    requires { ⌜ checkTwo (now ancestors) (now descendants) .answer ≡ TAKEN ⌝ }
-    ensures { λ r. ⌜ (now (out .exit), r .count, r .done) ≡ servedAll (asked relation Order.Ancestor) place
-        (now (out .entry)) (now (ancestors .entry)) (now (descendants .entry)) ⌝ }
+    requires { ⌜ (checkTwo (now ancestors) (now descendants) .answer ≡ TAKEN) × (first ≤ count (now ancestors)) ⌝ }
+    ensures { λ r. ⌜ ((place : Place) → Started place (now (ancestors .entry)) first past
+        → (now (out .exit), r .count, r .done) ≡ servedAll (asked relation Order.Ancestor) place
+        (now (out .entry)) (now (ancestors .entry)) (now (descendants .entry))) ⌝ }
 {
-    let first = served_count(place, ancestors);
-    let mut past = past_from(place, node_at(ancestors, first));
+    let mut least = past;
     let mut handed = Handed {
         count: 0,
         done: true,
@@ -362,7 +360,7 @@ pub(crate) fn sweep_ancestors(
             out,
             handed.count,
             relation,
-            past,
+            least,
             ancestors,
             i,
             descendants,
@@ -374,7 +372,7 @@ pub(crate) fn sweep_ancestors(
             return handed;
         }
         guess = turn.guess;
-        past = 0;
+        least = 0;
         i += NODE_WORDS;
     }
     handed

@@ -9,9 +9,6 @@ use crate::open::still_open;
 use nodes::node::NODE_WORDS;
 use nodes::node::Node;
 use nodes::node::is_one_deeper;
-use nodes::node::node_at;
-use tickets::leader::past_from;
-use tickets::leader::served_count;
 use tickets::ticket::Order;
 use tickets::ticket::Place;
 use tickets::ticket::Relation;
@@ -20,12 +17,13 @@ ghost use mathlib.Core.List.{reverse};
 ghost use Prim.Native.Nat.{_/_, _%_, _≤_, _<_};
 ghost use lib.ListN.{length};
 ghost use Rattle.answers.specs.Answer.{TAKEN};
-ghost use Rattle.nodes.specs.Words.{NODE-WORDS, nodeAt};
+ghost use Rattle.nodes.specs.Words.{NODE-WORDS, count, nodeAt};
 ghost use Rattle.lists.specs.Two.{checkTwo};
-ghost use Rattle.lists.specs.Private.Walk.{opened, Chain, Upon, Fits};
+ghost use Rattle.lists.specs.Private.Walk.{Chain, Upon};
 ghost use Rattle.tickets.specs.Private.Group.{matches};
 ghost use Rattle.tickets.specs.Ticket.{asked};
-ghost use Rattle.pairs.specs.Private.Sweep.{Placed, stretch, fromStart, servedGroup, servedAll};
+ghost use Rattle.pairs.specs.Private.Stack.{opened, Fits};
+ghost use Rattle.pairs.specs.Private.Sweep.{Placed, stretch, fromStart, Started, servedGroup, servedAll};
 
 // Returns the word of `stack` from which on the ancestors have the relation with `descendant`,
 // which lies inside all of them. It can lie directly inside only the innermost, as the levels rise
@@ -76,20 +74,22 @@ fn hand_descendant(
     pair_with_ancestors(out, written, descendants, at, stack, ahead, used)
 }
 
-// Hands out what remains of the listing in descendant order. The sweep begins at the first
-// descendant that may have pairs past `place`. Each descendant finds on the stack the ancestors
-// that started before it and have not ended. First those that ended are taken off; then those that
-// started in between and are still open are put on.
+// Hands out the listing in descendant order, from the descendant at the index `first` on. Of that
+// descendant's group only the pairs with ancestors that start at `past` or later are handed out.
+// Each descendant finds on the stack the ancestors that started before it and have not ended. First
+// those that ended are taken off; then those that started in between and are still open are put on.
 pub(crate) fn sweep_descendants(
     ancestors: &[u32],
     descendants: &[u32],
     relation: Relation,
-    place: Place,
+    first: usize,
+    past: u64,
     out: &mut [u32],
 ) -> Handed
-    requires { ⌜ checkTwo (now ancestors) (now descendants) .answer ≡ TAKEN ⌝ }
-    ensures { λ r. ⌜ (now (out .exit), r .count, r .done) ≡ servedAll (asked relation Order.Descendant) place
-        (now (out .entry)) (now (ancestors .entry)) (now (descendants .entry)) ⌝ }
+    requires { ⌜ (checkTwo (now ancestors) (now descendants) .answer ≡ TAKEN) × (first ≤ count (now descendants)) ⌝ }
+    ensures { λ r. ⌜ ((place : Place) → Started place (now (descendants .entry)) first past
+        → (now (out .exit), r .count, r .done) ≡ servedAll (asked relation Order.Descendant) place
+        (now (out .entry)) (now (ancestors .entry)) (now (descendants .entry))) ⌝ }
 {
     let mut stack = [0u32; STACK_WORDS];
     let mut used = 0;
@@ -98,8 +98,7 @@ pub(crate) fn sweep_descendants(
         count: 0,
         done: true,
     };
-    let first = served_count(place, descendants);
-    let mut past = past_from(place, node_at(descendants, first));
+    let mut least = past;
     let mut j = NODE_WORDS * first;
     // Rests on Descending: descend-on, descend-stop, ready-next.
     while j < descendants.len() {
@@ -112,7 +111,7 @@ pub(crate) fn sweep_descendants(
             out,
             handed.count,
             relation,
-            past,
+            least,
             descendants,
             j,
             &stack,
@@ -121,7 +120,7 @@ pub(crate) fn sweep_descendants(
         if !handed.done {
             return handed;
         }
-        past = 0;
+        least = 0;
         j += NODE_WORDS;
     }
     handed

@@ -18,7 +18,8 @@ ghost use Rattle.laws.specs.Choose.{All};
 ghost use Rattle.nodes.specs.Node.{afterb, openb, MOST-LEVELS};
 ghost use Rattle.nodes.specs.Words.{NODE-WORDS, nodes};
 ghost use Rattle.lists.specs.Check.{checkWords};
-ghost use Rattle.lists.specs.Private.Walk.{opened, unended, Chain, Fits};
+ghost use Rattle.lists.specs.Private.Walk.{unended, Chain};
+ghost use Rattle.pairs.specs.Private.Stack.{opened, Fits};
 ghost use Rattle.pairs.specs.Private.Sweep.{Opening};
 
 // The number of words in the stack: one node for each level.
@@ -43,7 +44,7 @@ pub(crate) fn still_open(stack: &[u32; STACK_WORDS], used: usize, node: Node) ->
     } ⌝ }
 {
     let mut left = used;
-    // Rests on lists: WalkLaws: head-open, head-shut, head-none.
+    // Rests on StackNodes: head-open, head-shut, head-none.
     while 0 < left {
         if is_open(node, node_from(stack, left - NODE_WORDS)) {
             return left;

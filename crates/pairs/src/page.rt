@@ -7,9 +7,12 @@ use answers::verdict::Verdict;
 use answers::verdict::without_node;
 use lists::two::check_two;
 use nodes::node::node_at;
+use tickets::leader::past_from;
+use tickets::leader::served_count;
 use tickets::ticket::Key;
 use tickets::ticket::Order;
 use tickets::ticket::Place;
+use tickets::ticket::Relation;
 use tickets::ticket::Ticket;
 ghost use mathlib.Core.Path.{_≡_};
 ghost use Prim.Native.Nat.{_≤_};
@@ -17,7 +20,7 @@ ghost use Rattle.answers.specs.Answer.{TAKEN};
 ghost use Rattle.nodes.specs.Words.{nodes};
 ghost use Rattle.lists.specs.Two.{checkTwo};
 ghost use Rattle.tickets.specs.PairWords.{room};
-ghost use Rattle.tickets.specs.Ticket.{askedBy, ticketAt};
+ghost use Rattle.tickets.specs.Ticket.{asked, askedBy, ticketAt};
 ghost use Rattle.pairs.specs.Page.{pageOf, outputAfter};
 ghost use Rattle.pairs.specs.Private.Sweep.{keyIn, placeReached, servedAll};
 
@@ -30,6 +33,53 @@ pub struct Page {
     pub ticket: Ticket,
 }
 
+// Hands out what remains of the listing in descendant order. A fresh listing need not look for its
+// beginning: it begins at the first descendant, with every ancestor. With two calls the sweep stays
+// a function of its own, so that its stack isn't taken up while the lists are checked.
+fn list_by_descendants(
+    ancestors: &[u32],
+    descendants: &[u32],
+    relation: Relation,
+    place: Place,
+    out: &mut [u32],
+) -> Handed
+    requires { ⌜ checkTwo (now ancestors) (now descendants) .answer ≡ TAKEN ⌝ }
+    ensures { λ r. ⌜ (now (out .exit), r .count, r .done) ≡ servedAll (asked relation Order.Descendant) place
+        (now (out .entry)) (now (ancestors .entry)) (now (descendants .entry)) ⌝ }
+{
+    match place {
+        Place::Fresh => sweep_descendants(ancestors, descendants, relation, 0, 0, out),
+        Place::After(_) => {
+            let first = served_count(place, descendants);
+            let past = past_from(place, node_at(descendants, first));
+            sweep_descendants(ancestors, descendants, relation, first, past, out)
+        }
+    }
+}
+
+// Hands out what remains of the listing in ancestor order, in the same way and with two calls for
+// the same reason.
+fn list_by_ancestors(
+    ancestors: &[u32],
+    descendants: &[u32],
+    relation: Relation,
+    place: Place,
+    out: &mut [u32],
+) -> Handed
+    requires { ⌜ checkTwo (now ancestors) (now descendants) .answer ≡ TAKEN ⌝ }
+    ensures { λ r. ⌜ (now (out .exit), r .count, r .done) ≡ servedAll (asked relation Order.Ancestor) place
+        (now (out .entry)) (now (ancestors .entry)) (now (descendants .entry)) ⌝ }
+{
+    match place {
+        Place::Fresh => sweep_ancestors(ancestors, descendants, relation, 0, 0, out),
+        Place::After(_) => {
+            let first = served_count(place, ancestors);
+            let past = past_from(place, node_at(ancestors, first));
+            sweep_ancestors(ancestors, descendants, relation, first, past, out)
+        }
+    }
+}
+
 // Hands out what remains of the listing that `ticket` asks for, as much as fits into `out`.
 fn sweep(ancestors: &[u32], descendants: &[u32], ticket: Ticket, out: &mut [u32]) -> Handed
     requires { ⌜ checkTwo (now ancestors) (now descendants) .answer ≡ TAKEN ⌝ }
@@ -40,8 +90,8 @@ fn sweep(ancestors: &[u32], descendants: &[u32], ticket: Ticket, out: &mut [u32]
     let order = ticket.order;
     let place = ticket.place;
     match order {
-        Order::Descendant => sweep_descendants(ancestors, descendants, relation, place, out),
-        Order::Ancestor => sweep_ancestors(ancestors, descendants, relation, place, out),
+        Order::Descendant => list_by_descendants(ancestors, descendants, relation, place, out),
+        Order::Ancestor => list_by_ancestors(ancestors, descendants, relation, place, out),
     }
 }
 

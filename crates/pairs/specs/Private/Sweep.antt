@@ -14,7 +14,7 @@ use Rattle.nodes.specs.Node.{afterb, openb}
 use Rattle.nodes.specs.Words.{NODE-WORDS, node, nodes, count, nodeAt}
 use Rattle.lists.specs.Check.{checkWords}
 use Rattle.lists.specs.Two.{oddsb, checkTwo}
-use Rattle.lists.specs.Private.Walk.{firsts, opened, Fits, Stands}
+use Rattle.lists.specs.Private.Walk.{Stands}
 use Rattle.paging.specs.Page.{remains}
 use Rattle.paging.specs.Private.Serve.{serve}
 use Rattle.tickets.specs.declared.ticket.Key.{Key}
@@ -23,10 +23,12 @@ use Rattle.tickets.specs.declared.ticket.Order.the-variants.{Ancestor}
 use Rattle.tickets.specs.declared.ticket.Place.{Place}
 use Rattle.tickets.specs.declared.ticket.Place.the-variants.{After}
 use Rattle.tickets.specs.declared.ticket.Relation.{Relation}
+use Rattle.tickets.specs.Leaders.{pastFrom, servedIn}
 use Rattle.tickets.specs.Listing.{keyOf, sortKey, listing}
 use Rattle.tickets.specs.PairWords.{PAIR-WORDS, pairWords}
 use Rattle.tickets.specs.Private.Group.{group, matches}
 use Rattle.tickets.specs.Ticket.{spotOf, Asked, asked}
+use Rattle.pairs.specs.Private.Stack.{firsts, opened, Fits}
 
 -- `at` is a place in a list of whole nodes: a word at which a node starts, or the end of the list.
 abbrev pub Placed : List ℕ → ℕ → Type 0
@@ -53,6 +55,11 @@ servedGroup order out written leader ns = serve pairWords PAIR-WORDS out written
 abbrev pub servedAll : Asked → Place → List ℕ → List ℕ → List ℕ → List ℕ × ℕ × Bool
 servedAll ask place out ancestors descendants =
     serve pairWords PAIR-WORDS out 0 (remains (sortKey (ask .order)) (spotOf place) (listing ask (nodes ancestors) (nodes descendants)))
+
+-- A sweep for the place begins with the leader at the index `first`. Of that leader's group it
+-- hands out only followers that start at `past` or later.
+abbrev pub Started : Place → List ℕ → ℕ → ℕ → Type 0
+Started place leaders first past = (first ≡ servedIn place (nodes leaders)) × (past ≡ pastFrom place (nodeAt leaders first))
 
 -- `n` comes from `d` on: it is `d`, or stands after it.
 abbrev pub From : Node → Node → Type 0

@@ -9,7 +9,8 @@ use Prim.Native.Nat.{_/_}
 use native.Mathlib.Omega.{arith}
 use denote.Ref.{now}
 use Rattle.nodes.specs.Words.{nodeAt}
-use Rattle.lists.specs.Private.Walk.{opened, Upon}
+use Rattle.lists.specs.Private.Walk.{Upon}
+use Rattle.pairs.specs.Private.Stack.{opened}
 use Rattle.pairs.proofs.Stretches.{ahead-in}
 use Rattle.pairs.proofs.StackMatches.{serve-ahead}
 use Rattle.pairs.proofs.descendants.hand_descendant.Statement.{statement}

@@ -1,7 +1,7 @@
 -- Function: `sweep_descendants` (src/descendants.rt).
 -- Why it holds: At each turn, handing out the groups of the descendants from `j` on gives what
--- handing out all that remains gives. This holds for each place at which the sweep starts as it
--- did, since the loop doesn't read the place. The stack stands for the ancestors passed.
+-- handing out all that remains gives. This holds for every place for which the sweep begins as it
+-- is told to. The stack stands for the ancestors passed.
 -- Measure: `length descendants - j`, the words of the descendants still to come.
 -- What would break it: A group that is lost, served twice or served after the room has run out
 -- would be caught at a return or at the next turn.
@@ -22,50 +22,40 @@ use Rattle.laws.proofs.Tests.{not-read, not-none}
 use Rattle.paging.proofs.Serving.{left-end}
 use Rattle.tickets.proofs.Groups.{rest-of}
 use Rattle.tickets.specs.Ticket.{asked}
-use Rattle.pairs.specs.Private.Sweep.{servedAll}
+use Rattle.pairs.specs.Private.Sweep.{Started, servedAll}
 use Rattle.pairs.proofs.Descending.{Ready, ready-start, ready-next, taken-as, taken-ds, left-at, at-descendant, descend-on, descend-stop}
 use Rattle.pairs.proofs.ListingGroups.{sweep-start, sweep-end}
-use Rattle.pairs.proofs.SweepStart.{Started, Tells, served-in, started, tells-first, tells-next}
+use Rattle.pairs.proofs.SweepStart.{Tells, tells-first, tells-next}
 use Rattle.pairs.proofs.descendants.sweep_descendants.Statement.{statement}
 use Rattle.pairs.proofs.descendants.sweep_descendants.Tie as tie
 
 abbrev Inv-loop : tie.InvT-loop
-Inv-loop ancestors descendants relation out₀ stack₀ used₀ passed₀ handed₀ first past₀ j₀ out stack used passed handed past j =
+Inv-loop ancestors descendants relation first past out₀ stack₀ used₀ passed₀ handed₀ least₀ j₀ out stack used passed handed least j =
     (length out ≡ length out₀) × Ready ancestors descendants j used passed stack × (handed .done ≡ true)
-    × ((place : Place) → Started place descendants first past₀ → Tells place descendants past j
+    × ((place : Place) → Started place descendants first past → Tells place descendants least j
     × (serve pairWords PAIR-WORDS out (handed .count) (rest-of relation Descendant place (drop (j / 4) (nodes descendants)) (nodes ancestors))
     ≡ servedAll (asked relation Descendant) place out₀ ancestors descendants))
 
 abbrev μ-loop : tie.MeasureT-loop
-μ-loop ancestors descendants relation out₀ stack₀ used₀ passed₀ handed₀ first past₀ j₀ out stack used passed handed past j = length descendants - j
-
-served-count-requires : tie.Need-served-count-requires Inv-loop μ-loop
-served-count-requires c κs = search needs
-
-node-at-requires : tie.Need-node-at-requires Inv-loop μ-loop
-node-at-requires c κs = search needs
-
-past-from-requires : tie.Need-past-from-requires Inv-loop μ-loop
-past-from-requires c κs = search needs
+μ-loop ancestors descendants relation first past out₀ stack₀ used₀ passed₀ handed₀ least₀ j₀ out stack used passed handed least j = length descendants - j
 
 mul-j : tie.Need-mul-j Inv-loop μ-loop
-mul-j c = let h = served-in _ _ _ (c .before .before .served-count .ensures) in search needs
+mul-j c = search needs
 
 loop-holds : tie.Need-loop-holds Inv-loop μ-loop
 unfolding leaders followers
 loop-holds c =
-    let given = c .before .before .before .before .before .before in
+    let given = c .before .before .before in
     let a = given .args in
-    let first = c .before .before .served-count .result in
-    let same : 4 * first / 4 ≡ first = omega arith in
-    let r = ready-start (now (a .ancestors)) (now (a .descendants)) (given .pre) (a .place) first _ (c .before .before .served-count .ensures) in (
+    let same : 4 * a .first / 4 ≡ a .first = omega arith in
+    let r = ready-start (now (a .ancestors)) (now (a .descendants)) (given .pre .0) (a .first) _ (given .pre .1) in (
       refl,
       r,
       refl,
       λ place s. (
-        tells-first place (now (a .descendants)) (taken-ds (now (a .ancestors)) (now (a .descendants)) (given .pre)) first _ s,
+        tells-first place (now (a .descendants)) (taken-ds (now (a .ancestors)) (now (a .descendants)) (given .pre .0)) (a .first) _ s,
         ap (serve pairWords PAIR-WORDS (now (a .out)) 0)
-            (sweep-start (a .relation) Descendant place (nodes (now (a .ancestors))) (nodes (now (a .descendants))) (4 * first / 4) (same ∙ s .0)),
+            (sweep-start (a .relation) Descendant place (nodes (now (a .ancestors))) (nodes (now (a .descendants))) (4 * a .first / 4) (same ∙ s .0)),
       ),
     )
 
@@ -77,22 +67,22 @@ still-open-requires c κs = c .before .before .before .loop .inv .1 .stands (c .
 
 open-before-requires : tie.Need-open-before-requires Inv-loop μ-loop
 open-before-requires c κs =
-    let given = c .before .before .before .before .before .before .before .before .before .before .before .before in
+    let given = c .before .before .before .before .before .before .before .before .before in
     let a = given .args in
     let l = c .before .before .before .before .before .loop in
     let s = c .before .still-open .ensures in
-    let here = left-at (now (a .ancestors)) (now (a .descendants)) (given .pre) (l .j) (c .before .before .before .before .loop-test .taken) _
+    let here = left-at (now (a .ancestors)) (now (a .descendants)) (given .pre .0) (l .j) (c .before .before .before .before .loop-test .taken) _
     (c .before .before .before .node-from .ensures) _ _ _ _ (l .inv .1) (s .fits) (s .left) in
-    (taken-as (now (a .ancestors)) (now (a .descendants)) (given .pre), here .0, here .1)
+    (taken-as (now (a .ancestors)) (now (a .descendants)) (given .pre .0), here .0, here .1)
 
 hand-descendant-requires : tie.Need-hand-descendant-requires Inv-loop μ-loop
 hand-descendant-requires c κs =
-    let given = c .before .before .before .before .before .before .before .before .before .before .before .before .before .before .before in
+    let given = c .before .before .before .before .before .before .before .before .before .before .before .before in
     let a = given .args in
     let l = c .before .before .before .before .before .before .before .before .loop in
     let o = c .before .before .open-before .ensures in
     let test = c .before .before .before .before .before .before .before .loop-test .taken in
-    let t = at-descendant (now (a .ancestors)) (now (a .descendants)) (given .pre) (l .j) test _
+    let t = at-descendant (now (a .ancestors)) (now (a .descendants)) (given .pre .0) (l .j) test _
     (c .before .before .before .before .before .before .node-from .ensures) _ _ _ (o .opening) (o .all-open) (o .rest) in
     (l .inv .1 .at, test, t .opening .used-in, t .opening .held .stands .chain, t .upon)
 
@@ -102,25 +92,23 @@ same-length c = search needs
 returns : tie.Need-returns Inv-loop μ-loop
 returns c =
     let here = c .before .before .before .before .before in
-    let given = here .before .before .before .before .before .before .before .before .before .before .before .before .before .before .before in
+    let given = here .before .before .before .before .before .before .before .before .before .before .before .before in
     let a = given .args in
     let l = here .before .before .before .before .before .before .before .before .loop in
     let test = here .before .before .before .before .before .before .before .loop-test .taken in
     let o = here .before .before .open-before .ensures in
-    let t = at-descendant (now (a .ancestors)) (now (a .descendants)) (given .pre) (l .j) test _
+    let t = at-descendant (now (a .ancestors)) (now (a .descendants)) (given .pre .0) (l .j) test _
     (here .before .before .before .before .before .before .node-from .ensures) _ _ _ (o .opening) (o .all-open) (o .rest) in
-    let past = here .before .before .before .before .before .before .before .before .before in
-    let s = started (a .place) (now (a .descendants)) _ _ _ (past .before .before .served-count .ensures) (past .before .node-at .ensures)
-    (past .past-from .ensures) in
-    let left = l .inv .3 (a .place) s in
-    descend-stop (now (a .ancestors)) (now (a .descendants)) (given .pre) (l .j) test _ _ _ t (a .relation) (a .place) _ (left .0) _ _
+    λ place s.
+    let left = l .inv .3 place s in
+    descend-stop (now (a .ancestors)) (now (a .descendants)) (given .pre .0) (l .j) test _ _ _ t (a .relation) place _ (left .0) _ _
     (c .before .before .before .before .hand-descendant .ensures) (not-read _ (c .if1 .taken)) (left .1)
 
 add-j : tie.Need-add-j Inv-loop μ-loop
 add-j c =
     let test = c .before .before .before .before .before .before .before .before .before .before .before .before in
     let t = test .loop-test .taken in
-    let fits = test .before .before .before .before .before .before .before .before .good in
+    let fits = test .before .before .before .before .before .good in
     omega arith
 
 loop-less : tie.Need-loop-less Inv-loop μ-loop
@@ -129,21 +117,21 @@ loop-less c = search needs
 loop-again : tie.Need-loop-again Inv-loop μ-loop
 loop-again c =
     let here = c .before .before .before .before .before in
-    let given = here .before .before .before .before .before .before .before .before .before .before .before .before .before .before .before in
+    let given = here .before .before .before .before .before .before .before .before .before .before .before .before in
     let a = given .args in
     let l = here .before .before .before .before .before .before .before .before .loop in
     let test = here .before .before .before .before .before .before .before .loop-test .taken in
     let o = here .before .before .open-before .ensures in
-    let t = at-descendant (now (a .ancestors)) (now (a .descendants)) (given .pre) (l .j) test _
+    let t = at-descendant (now (a .ancestors)) (now (a .descendants)) (given .pre .0) (l .j) test _
     (here .before .before .before .before .before .before .node-from .ensures) _ _ _ (o .opening) (o .all-open) (o .rest) in
     let done : c .before .before .before .before .hand-descendant .result .done ≡ true = not-none _ (c .if1 .left) in (
       omega arith,
-      ready-next (now (a .ancestors)) (now (a .descendants)) (given .pre) (l .j) test _ _ _ t (l .inv .1 .at),
+      ready-next (now (a .ancestors)) (now (a .descendants)) (given .pre .0) (l .j) test _ _ _ t (l .inv .1 .at),
       done,
       λ place s.
           let left = l .inv .3 place s in (
-            tells-next place (now (a .descendants)) (taken-ds (now (a .ancestors)) (now (a .descendants)) (given .pre)) _ (l .j) (left .0),
-            descend-on (now (a .ancestors)) (now (a .descendants)) (given .pre) (l .j) test _ _ _ t (a .relation) place _ (left .0) _ _
+            tells-next place (now (a .descendants)) (taken-ds (now (a .ancestors)) (now (a .descendants)) (given .pre .0)) _ (l .j) (left .0),
+            descend-on (now (a .ancestors)) (now (a .descendants)) (given .pre .0) (l .j) test _ _ _ t (a .relation) place _ (left .0) _ _
                 (c .before .before .before .before .hand-descendant .ensures) done (left .1),
           ),
     )
@@ -153,15 +141,12 @@ same-length-2 c = search needs
 
 returns-2 : tie.Need-returns-2 Inv-loop μ-loop
 returns-2 c =
-    let a = c .before .before .before .before .before .before .before .before .args in
+    let a = c .before .before .before .before .before .args in
     let l = c .before .loop in
-    let past = c .before .before in
-    let s = started (a .place) (now (a .descendants)) _ _ _ (past .before .before .served-count .ensures) (past .before .node-at .ensures)
-    (past .past-from .ensures) in
-    let left = l .inv .3 (a .place) s in
     let at = l .inv .1 .at in
-    let none = sweep-end (a .relation) Descendant (a .place) (now (a .descendants)) (nodes (now (a .ancestors))) (l .j / 4) (omega arith) in
-    left-end pairWords PAIR-WORDS _ _ (l .inv .2) none (left .1)
+    λ place s.
+    let none = sweep-end (a .relation) Descendant place (now (a .descendants)) (nodes (now (a .ancestors))) (l .j / 4) (omega arith) in
+    left-end pairWords PAIR-WORDS _ _ (l .inv .2) none (l .inv .3 place s .1)
 
 pub sweep-descendants-spec : {M : Type 1} → statement M
 sweep-descendants-spec =
@@ -169,9 +154,6 @@ sweep-descendants-spec =
     (tie.spec
     Inv-loop
     μ-loop
-    served-count-requires
-    node-at-requires
-    past-from-requires
     mul-j
     loop-holds
     node-from-requires

@@ -2,11 +2,20 @@
 -- Why it holds: The four words from the word `at` on are those of the node there.
 -- What would break it: A word read one off would be caught at the return.
 use borrow.Author.Needs.{needs}
+use mathlib.Core.Path.{_≡_, sym}
+use mathlib.Core.List.{List}
+use Prim.Native.Nat.{ℕ, _*_, _<_}
 use native.Mathlib.Omega.{arith}
+use Rattle.nodes.specs.Words.{count, nodeAt}
+use Rattle.nodes.proofs.WordLaws.{node-words}
 use Rattle.lists.specs.Private.Walk.{nodeFrom}
-use Rattle.lists.proofs.WalkLaws.{words-at}
 use Rattle.pairs.proofs.groups.node_from.Statement.{statement}
 use Rattle.pairs.proofs.groups.node_from.Tie as tie
+
+-- The node whose words start at 4 * k is node k.
+words-at : (ws : List ℕ) (w k : ℕ) → w ≡ 4 * k → k < count ws → nodeFrom ws w ≡ nodeAt ws k
+unfolding nodeFrom
+words-at ws w k q h = rw q (sym (node-words ws k h))
 
 mul-t3 : tie.Need-mul-t3
 mul-t3 c = search needs

@@ -15,7 +15,7 @@ use denote.Ref.{now}
 use borrow.Author.Tests.{not-true, not-false}
 use Rattle.laws.specs.Choose.{All}
 use Rattle.nodes.specs.Node.{afterb, openb}
-use Rattle.lists.specs.Private.Walk.{opened}
+use Rattle.pairs.specs.Private.Stack.{opened}
 use Rattle.pairs.specs.Private.Sweep.{Opening}
 use Rattle.pairs.proofs.OpenStack.{next-fits, next-passed, passing-ends, passing-done}
 use Rattle.pairs.proofs.open.open_before.Statement.{statement}

@@ -16,8 +16,10 @@ use Rattle.nodes.specs.declared.node.Node.{Node}
 use Rattle.nodes.specs.Node.{openb, MOST-LEVELS}
 use Rattle.nodes.specs.Words.{nodes, count, wordsOf}
 use Rattle.nodes.proofs.WordLaws.{words-put}
-use Rattle.lists.specs.Private.Walk.{opened, Chain, Fits}
-use Rattle.lists.proofs.WalkLaws.{length-firsts, top-put, chain-length}
+use Rattle.lists.specs.Private.Walk.{Chain}
+use Rattle.lists.proofs.WalkLaws.{chain-length}
+use Rattle.pairs.specs.Private.Stack.{opened, Fits}
+use Rattle.pairs.proofs.StackNodes.{length-firsts, top-put}
 use Rattle.pairs.proofs.open.open_next.Statement.{statement}
 use Rattle.pairs.proofs.open.open_next.Tie as tie
 

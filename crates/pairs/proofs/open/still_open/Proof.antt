@@ -15,8 +15,9 @@ use borrow.Author.Needs.{needs}
 use Rattle.nodes.specs.declared.node.Node.{Node}
 use Rattle.nodes.specs.Node.{openb}
 use Rattle.nodes.specs.Words.{nodes, nodeAt}
-use Rattle.lists.specs.Private.Walk.{firsts, opened, unended, Fits}
-use Rattle.lists.proofs.WalkLaws.{head-open, head-shut, head-none}
+use Rattle.lists.specs.Private.Walk.{unended}
+use Rattle.pairs.specs.Private.Stack.{firsts, opened, Fits}
+use Rattle.pairs.proofs.StackNodes.{head-open, head-shut, head-none}
 use Rattle.pairs.proofs.open.still_open.Statement.{statement}
 use Rattle.pairs.proofs.open.still_open.Tie as tie
 

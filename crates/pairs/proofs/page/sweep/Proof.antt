@@ -22,14 +22,14 @@ in-order as′ ds t out order q p = p ∙ ap (λ o. servedAll (asked (t .relatio
 enum-told : tie.Need-enum-told
 enum-told c = search needs
 
-sweep-descendants-requires : tie.Need-sweep-descendants-requires
-sweep-descendants-requires c κs = search needs
+list-by-descendants-requires : tie.Need-list-by-descendants-requires
+list-by-descendants-requires c κs = search needs
 
 enum-told-2 : tie.Need-enum-told-2
 enum-told-2 c = search needs
 
-sweep-ancestors-requires : tie.Need-sweep-ancestors-requires
-sweep-ancestors-requires c κs = search needs
+list-by-ancestors-requires : tie.Need-list-by-ancestors-requires
+list-by-ancestors-requires c κs = search needs
 
 same-length : tie.Need-same-length
 same-length c = search needs
@@ -38,7 +38,7 @@ returns : tie.Need-returns
 returns c =
     let a = c .before .before .before .before .before .before .before .before .before .args in
     in-order (now (a .ancestors)) (now (a .descendants)) (a .ticket) (now (a .out)) _ (c .before .before .before .before .enum-told .given .1)
-    (c .before .before .sweep-descendants .ensures)
+    (c .before .before .list-by-descendants .ensures)
 
 same-length-2 : tie.Need-same-length-2
 same-length-2 c = search needs
@@ -47,16 +47,16 @@ returns-2 : tie.Need-returns-2
 returns-2 c =
     let a = c .before .before .before .before .before .before .before .before .before .args in
     in-order (now (a .ancestors)) (now (a .descendants)) (a .ticket) (now (a .out)) _ (c .before .before .before .before .enum-told2 .given .1)
-    (c .before .before .sweep-ancestors .ensures)
+    (c .before .before .list-by-ancestors .ensures)
 
 pub sweep-spec : {M : Type 1} → statement M
 sweep-spec =
     tie.close
     (tie.spec
     enum-told
-    sweep-descendants-requires
+    list-by-descendants-requires
     enum-told-2
-    sweep-ancestors-requires
+    list-by-ancestors-requires
     same-length
     returns
     same-length-2
