@@ -2,25 +2,29 @@
 -- of all of them. A node that has ended is open at no later one.
 -- What would break it: An open node lost, or an ended node kept in its place, would be caught at
 -- `stands-pop` or `top-tells`.
-use mathlib.Core.Path.{_≡_, refl, ap, _∙_}
-use mathlib.Core.Logic.{_⊎_, inl, inr}
+use mathlib.Core.Path.{_≡_, refl, sym, ap, _∙_}
+use mathlib.Core.Logic.{_⊎_, inl, inr, ⊎-elim}
 use mathlib.Core.Bool.{Bool, true, false, cond, not, _||_}
 use mathlib.Core.List.{List, [], _∷_}
-use Prim.Native.Nat.{ℕ, _≤_, _<_}
+use Prim.Native.Nat.{ℕ, _+_, _≤_, _<_}
+use native.Mathlib.Numerals.{add-one}
 use native.Mathlib.Omega.{arith}
-use lib.Dec.{ltb}
-use borrow.Author.Tests.{lt-ltb, ltb-true}
+use lib.Dec.{ltb, eqb}
+use borrow.Author.Tests.{lt-ltb, ltb-true, leb-true, le-leb, eqb-true, eq-eqb, ne-eqb}
 use Rattle.nodes.specs.declared.node.Node.{Node}
-use Rattle.answers.specs.Answer.{TAKEN, ORDER, CROSS, DEPTH}
+use Rattle.answers.specs.Answer.{TAKEN, CROSS, DEPTH}
+use Rattle.answers.specs.declared.verdict.Verdict.{Verdict}
+use Rattle.answers.specs.Verdict.{ANCESTORS, verdict}
 use Rattle.laws.specs.Choose.{All, any, keep}
 use Rattle.nodes.specs.Node.{insideb, openb, afterb}
 use Rattle.laws.proofs.Choices.{all-map, none-any, any-same, keep-failed}
-use Rattle.nodes.proofs.NodeLaws.{inside-trans, inside-open, after-trans, shut-later}
-use Rattle.laws.proofs.Tests.{either, never, not-so, and-read, not-read, not-none}
+use Rattle.nodes.proofs.NodeLaws.{inside-trans, inside-open, after-document, after-start, open-read, shut-later}
+use Rattle.laws.proofs.Tests.{either, never, not-so, and-read, and-make, or-read, or-left, or-right, not-read, not-none}
+use Rattle.lists.specs.Check.{checkFrom}
 use Rattle.lists.specs.Fault.{levelb, spanb, orderb, crossb, depthb, fault}
-use Rattle.lists.specs.Private.Walk.{Stands, unended, Upon, Chain, headFault, topFault}
-use Rattle.lists.proofs.WalkLaws.{chain-after}
-use Rattle.lists.proofs.Faults.{skip, level-sound, span-sound, crosses, rises}
+use Rattle.lists.specs.Private.Open.{Earlier}
+use Rattle.lists.specs.Private.Walk.{Stands, unended, Upon, Chain, nextb, Kept, headFault, nodeFault, stepFault}
+use Rattle.lists.proofs.Faults.{Sound, skip, level-sound, span-sound, crosses, rises}
 
 module _ {P : Node → Type 0} {before s : List Node} where
   -- A chain that stands for the nodes before still does where fewer nodes may come next.
@@ -36,7 +40,7 @@ module _ {P : Node → Type 0} {before s : List Node} where
   }
 
 -- A head that is open at none of the nodes that may come is taken off.
-pub stands-pop : {P : Node → Type 0} {before s : List Node} (e : Node) → ((n : Node) → P n → openb n e ≡ false) → Stands P before (e ∷ s)
+stands-pop : {P : Node → Type 0} {before s : List Node} (e : Node) → ((n : Node) → P n → openb n e ≡ false) → Stands P before (e ∷ s)
     → Stands P before s
 stands-pop e shut k = record {
   chain = k .chain .2;
@@ -90,12 +94,6 @@ top-tells n span (e ∷ s) ch = elim (either (openb n e)) [ inl o ↦ opened o (
         → cond (crossb (e ∷ s) n) CROSS (cond (depthb (e ∷ s) n) DEPTH TAKEN) ≡ headFault (unended n (e ∷ s)) n
     ended o h = rw (o, not-so (λ i. never (inside-open n e span i) o)) h
 
--- What a walk along a list keeps of the open nodes: their chain stands for all nodes before, and
--- its head is the node before.
-pub record Kept (before s : List Node) : Type 0 where
-  pub stands : Stands (λ n. orderb before n ≡ false) before s
-  pub last : (n : Node) → orderb before n ≡ orderb s n
-
 -- CROSS and DEPTH are tests that only open nodes pass, so they say the same of the chain.
 same-crosses : (before s : List Node) (n : Node)
     → ((test : Node → Bool) → ((e : Node) → test e ≡ true → openb n e ≡ true) → keep test before ≡ keep test s) → crossb before n ≡ crossb s n
@@ -107,29 +105,64 @@ same-rises : (before s : List Node) (n : Node) → n .start ≤ n .end
 unfolding depthb
 same-rises before s n span keeps = any-same (rises n) before s (keeps (rises n) (λ e h. inside-open n e span (and-read (insideb n e) h .0)))
 
--- What is wrong at a node, given all nodes before, is what the chain tells.
-pub fault-told : (before s : List Node) (n : Node) → Kept before s → fault before n ≡ topFault s n
-unfolding fault topFault
-fault-told before s n k =
+-- n comes next in document d: what that says of its words.
+next-read : (d from : ℕ) (n : Node) → nextb d from n ≡ true → (d < n .document) ⊎ ((n .document ≡ d) × (from ≤ n .start))
+unfolding nextb
+next-read d from n h =
+    elim (or-read (ltb d (n .document)) h) [
+      | inl l ↦ inl (ltb-true d (n .document) l)
+      | inr r ↦ let p = and-read (eqb (n .document) d) r in inr (eqb-true (n .document) d (p .0), leb-true from (n .start) (p .1))
+    ]
+
+pub next-there : (d from : ℕ) (n : Node) → n .document ≡ d → from ≤ n .start → nextb d from n ≡ true
+unfolding nextb
+next-there d from n q l = or-right (ltb d (n .document)) (and-make (eq-eqb (n .document) d q) (le-leb from (n .start) l))
+
+pub next-beyond : (d from : ℕ) (n : Node) → d < n .document → nextb d from n ≡ true
+unfolding nextb
+next-beyond d from n l = or-left _ (lt-ltb d (n .document) l)
+
+-- A node of an earlier document doesn't come next, nor one that starts too early in the document.
+module _ (d from : ℕ) (n : Node) where
+  pub next-passed : n .document < d → nextb d from n ≡ false
+  next-passed l = not-so (λ h. ⊎-elim (λ p. omega arith) (λ p. let q = p .0 in omega arith) (next-read d from n h))
+
+  pub next-begun : n .document ≡ d → n .start < from → nextb d from n ≡ false
+  next-begun q l = not-so (λ h. ⊎-elim (λ p. omega arith) (λ p. let s = p .1 in omega arith) (next-read d from n h))
+
+-- A node that comes next stands after every open node.
+next-after : (d from : ℕ) (n e : Node) → nextb d from n ≡ true → Earlier d from e → afterb n e ≡ true
+next-after d from n e h w =
+    let q = w .0 in let s = w .1 in
+    elim (next-read d from n h) [ inl l ↦ after-document n e (omega arith) | inr p ↦ after-start n e (p .0 ∙ sym q) (omega (arith, p .1)) ]
+
+-- After n, the nodes that come next are those that stand after it.
+pub next-from : (n m : Node) → nextb (n .document) (n .start + 1) m ≡ afterb m n
+unfolding nextb afterb
+next-from n m = rw (add-one (n .start)) refl
+
+-- What is wrong at a node that comes next, given all nodes before, is what the chain tells.
+pub fault-told : (before s : List Node) (d from : ℕ) (n : Node) → Kept before s d from → nextb d from n ≡ true → fault before n ≡ nodeFault s n
+unfolding fault nodeFault
+fault-told before s d from n k h =
     elim (either (levelb n)) [
       | inl l ↦ rw l refl
-      | inr l ↦ rw l (elim (either (spanb n)) [ inl p ↦ rw p refl | inr p ↦ rw (p, k .last n) (ordered p (either (orderb s n))) ])
+      | inr l ↦ rw l (elim (either (spanb n)) [ inl p ↦ rw p refl | inr p ↦ rw (p, k .next n h, same-cross, same-depth p) (top-tells n (span p) s (k .stands .chain)) ])
     ]
   where
-    ordered : spanb n ≡ false → (orderb s n ≡ true) ⊎ (orderb s n ≡ false)
-        → cond (orderb s n) ORDER (cond (crossb before n) CROSS (cond (depthb before n) DEPTH TAKEN))
-        ≡ cond (orderb s n) ORDER (headFault (unended n s) n)
-    ordered p (inl o) = rw o refl
-    ordered p (inr o) = rw (o, same-cross, same-depth) (top-tells n span s (k .stands .chain))
-      where
-        span : n .start ≤ n .end
-        span = span-sound n .0 p
+    span : spanb n ≡ false → n .start ≤ n .end
+    span p = span-sound n .0 p
 
-        same-cross : crossb before n ≡ crossb s n
-        same-cross = same-crosses before s n (k .stands .keeps n (k .last n ∙ o))
+    same-cross : crossb before n ≡ crossb s n
+    same-cross = same-crosses before s n (k .stands .keeps n h)
 
-        same-depth : depthb before n ≡ depthb s n
-        same-depth = same-rises before s n span (k .stands .keeps n (k .last n ∙ o))
+    same-depth : spanb n ≡ false → depthb before n ≡ depthb s n
+    same-depth p = same-rises before s n (span p) (k .stands .keeps n h)
+
+-- For a node that comes next, ORDER is out of the question.
+pub step-told : (d from : ℕ) (s : List Node) (n : Node) → nextb d from n ≡ true → stepFault d from s n ≡ nodeFault s n
+unfolding stepFault nodeFault
+step-told d from s n h = rw h refl
 
 -- A node at which the head tells of nothing wrong lies inside the head and is deeper.
 head-taken : (n : Node) (s : List Node) → headFault s n ≡ TAKEN → Upon n s
@@ -140,43 +173,77 @@ head-taken n (e ∷ s) h =
     let q = skip (not (ltb (e .level) (n .level))) _ _ .0 (p .1) in
     (not-none _ (p .0), ltb-true _ _ (not-none _ (q .0)))
 
--- The chain tells of nothing wrong at n: its level is right, it stands after the head, and the head
--- of what is left tells of nothing wrong.
-record Clean (s : List Node) (n : Node) : Type 0 where
-  level : 1 ≤ n .level
-  next : orderb s n ≡ false
-  head : headFault (unended n s) n ≡ TAKEN
-
-clean : (s : List Node) (n : Node) → topFault s n ≡ TAKEN → Clean s n
-unfolding topFault
+-- The chain tells of nothing wrong at n: n is sound, and the head of what is left tells of nothing
+-- wrong.
+pub clean : (s : List Node) (n : Node) → nodeFault s n ≡ TAKEN → Sound n × (headFault (unended n s) n ≡ TAKEN)
+unfolding nodeFault
 clean s n h =
     let p = skip (levelb n) _ _ .0 h in
     let q = skip (spanb n) _ _ .0 (p .1) in
-    let r = skip (orderb s n) _ _ .0 (q .1) in
-    record { level = level-sound n .0 (p .0) .0; next = r .0; head = r .1 }
+    let l = level-sound n .0 (p .0) in
+    (record { lowest = l .0; highest = l .1; span = span-sound n .0 (q .0) }, q .1)
 
--- A node after one that may come next may also come next.
-later : (before : List Node) (m n : Node) → orderb before n ≡ false → afterb m n ≡ true → orderb before m ≡ false
-unfolding orderb
-later [] m n o a = refl
-later (e ∷ before) m n o a = ap not (after-trans m n e a (not-none (afterb n e) o))
+module _ (before s : List Node) (d from : ℕ) (k : Kept before s d from) where
+  module _ (w : All (Earlier d from) s) where
+    -- A node after one that comes next comes next as well.
+    onward : (n m : Node) → nextb d from n ≡ true → nextb (n .document) (n .start + 1) m ≡ true → nextb d from m ≡ true
+    onward n m h g =
+        elim (next-read d from n h) [
+          | inl l ↦ elim (next-read (n .document) (n .start + 1) m g)
+              [ inl p ↦ next-beyond d from m (omega arith) | inr p ↦ let q = p .0 in next-beyond d from m (omega arith) ]
+          | inr r ↦ let z = r .0 in elim (next-read (n .document) (n .start + 1) m g) [
+            | inl p ↦ next-beyond d from m (omega arith)
+            | inr p ↦ next-there d from m (p .0 ∙ r .0) (omega (arith, r .1, p .1))
+          ]
+        ]
 
--- After a node at which nothing is wrong, the chain is that node upon what is left.
-pub kept-next : (before s : List Node) (n : Node) → topFault s n ≡ TAKEN → Kept before s → Kept (n ∷ before) (n ∷ unended n s)
-unfolding orderb
-kept-next before s n h k =
-    let c = clean s n h in
-    let first : orderb before n ≡ false = k .last n ∙ c .next in
-    record {
-      stands =
-          stands-later (λ m o. not-none (afterb m n) o)
-          (stands-push n (c .level) (head-taken n (unended n s) (c .head))
-          (stands-left n (λ m e p o a. shut-later m n e o a p) s (chain-after n s (k .stands .chain) (c .next))
-          (stands-later (λ m a. later before m n first a) (k .stands))));
-      last = λ m. refl;
+    -- After a node at which nothing is wrong, the chain is that node upon what is left.
+    pub kept-next : (n : Node) → nextb d from n ≡ true → nodeFault s n ≡ TAKEN → Kept (n ∷ before) (n ∷ unended n s) (n .document) (n .start + 1)
+    unfolding orderb
+    kept-next n h f =
+        let c = clean s n f in
+        record {
+          stands =
+              stands-push n (c .0 .lowest) (head-taken n (unended n s) (c .1))
+              (stands-left n (λ m e p o a. shut-later m n e o a (sym (next-from n m) ∙ p)) s (all-map (λ e. next-after d from n e h) s w)
+              (stands-later (λ m g. onward n m h g) (k .stands)));
+          next = λ m g. ap not (sym (next-from n m) ∙ g);
+        }
+
+    -- In a later document nothing is open yet.
+    pub kept-later : (d′ : ℕ) → d < d′ → Kept before [] d′ 0
+    unfolding keep
+    kept-later d′ l = record {
+      stands = record { chain = tt; keeps = λ n h test only. k .stands .keeps n (beyond n h) test only ∙ none n h test only s w };
+      next = λ n h. k .next n (beyond n h);
     }
+      where
+        later : (n : Node) → nextb d′ 0 n ≡ true → d < n .document
+        later n h = elim (next-read d′ 0 n h) [ inl p ↦ omega arith | inr p ↦ let q = p .0 in omega arith ]
 
--- Before any node nothing is open.
-pub kept-none : Kept [] []
+        beyond : (n : Node) → nextb d′ 0 n ≡ true → nextb d from n ≡ true
+        beyond n h = next-beyond d from n (later n h)
+
+        none : (n : Node) → nextb d′ 0 n ≡ true → (test : Node → Bool) → ((e : Node) → test e ≡ true → openb n e ≡ true)
+            → (es : List Node) → All (Earlier d from) es → keep test es ≡ []
+        none n h test only [] a = refl
+        none n h test only (e ∷ es) a =
+            let q = a .0 .0 in
+            let g = later n h in
+            keep-failed test e es (not-so (λ t. let o = open-read n e (only e t) .document in omega arith)) ∙ none n h test only es (a .1)
+
+-- Before any node nothing is open, and every node is in order.
+pub kept-none : (d from : ℕ) → Kept [] [] d from
 unfolding orderb
-kept-none = record { stands = record { chain = tt; keeps = λ n p test only. refl }; last = λ n. refl }
+kept-none d from = record { stands = record { chain = tt; keeps = λ n p test only. refl }; next = λ n h. refl }
+
+-- The check of the rest goes past a node at which nothing is wrong, and ends at one at which
+-- something is.
+module _ (before : List Node) (index : ℕ) (n : Node) (rest : List Node) (whole : Verdict) (same : checkFrom before index (n ∷ rest) ≡ whole) where
+  pub goes-past : fault before n ≡ TAKEN → checkFrom (n ∷ before) (index + 1) rest ≡ whole
+  unfolding checkFrom
+  goes-past f = rw (add-one index) (rw (eq-eqb _ _ f) at same)
+
+  pub stops-at : (fault before n ≡ TAKEN → ⊥) → verdict (fault before n) ANCESTORS index ≡ whole
+  unfolding checkFrom
+  stops-at f = rw (ne-eqb _ _ f) at same

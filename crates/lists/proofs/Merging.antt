@@ -81,7 +81,7 @@ module _ (x y : Node) where
       ⊎-elim (λ s. never s (q .0)) (λ a. never a (q .1)) (f (eqb-true _ _ (p .0))))
 
   -- Two sound nodes that start at the same place and aren't the same are at odds.
-  tied : Sound x → Sound y → y .document ≡ x .document → y .start ≡ x .start → sameb x y ≡ false → oddsb x y ≡ false → ⊥
+  pub tied : Sound x → Sound y → y .document ≡ x .document → y .start ≡ x .start → sameb x y ≡ false → oddsb x y ≡ false → ⊥
   tied s t d e n o =
       elim (even-read o (sym d)) [
         | inl p ↦ never p n

@@ -1,7 +1,8 @@
 // The check of a list that lies in bytes.
-use crate::walk::ListPlace;
-use crate::walk::STACK_WORDS;
+use crate::stack::STACK_WORDS;
+use crate::stack::put_bottom;
 use crate::walk::Step;
+use crate::walk::first_place;
 use crate::walk::pass_node;
 use crate::walk::verdict_of;
 use answers::answer::LONG;
@@ -26,7 +27,8 @@ fn pass_bytes(bytes: &[u8]) -> Step
     ensures { λ r. ⌜ verdictOf r ≡ checkNodes (nodes (numbers (now (bytes .entry)))) ⌝ }
 {
     let mut stack = [0u32; STACK_WORDS];
-    let mut place = ListPlace { index: 0, used: 0 };
+    put_bottom(&mut stack);
+    let mut place = first_place();
     let mut index = 0;
     // Rests on Walking: walk-on, walk-stop, walk-end.
     while index < bytes.len() / NODE_BYTES {

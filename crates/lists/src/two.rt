@@ -1,8 +1,8 @@
 // The check of two lists that are to be joined.
-use crate::list::check_list;
+use crate::both::pass_both;
+use crate::list::check_on;
 use crate::list::word_fault;
-use crate::merge::pass_both;
-use crate::walk::verdict_of;
+use crate::stack::STACK_WORDS;
 use answers::answer::JOINT;
 use answers::answer::TAKEN;
 use answers::verdict::DESCENDANTS;
@@ -13,8 +13,9 @@ ghost use mathlib.Core.Bool.{not};
 ghost use Rattle.lists.specs.Two.{checkTwo};
 ghost use Rattle.answers.specs.Verdict.{refusedb};
 
-// Returns whether both lists are accepted and agree. One walk along their merge settles it.
-fn are_agreeing(ancestors: &[u32], descendants: &[u32]) -> bool
+// Returns whether both lists are accepted and agree. One walk along both settles it, with `stack`
+// for the open nodes.
+fn are_agreeing(stack: &mut [u32; STACK_WORDS], ancestors: &[u32], descendants: &[u32]) -> bool
     ensures { λ r. ⌜ r ≡ not (refusedb (checkTwo (now (ancestors .entry)) (now (descendants .entry)))) ⌝ }
 {
     if word_fault(ancestors) != TAKEN {
@@ -23,24 +24,25 @@ fn are_agreeing(ancestors: &[u32], descendants: &[u32]) -> bool
     if word_fault(descendants) != TAKEN {
         return false;
     }
-    let verdict = verdict_of(pass_both(ancestors, descendants));
-    verdict.answer == TAKEN
+    pass_both(stack, ancestors, descendants)
 }
 
 // Checks two lists and returns TAKEN, or why they are refused, in which list and at which node.
-// Where the walk along the merge finds a fault, the lists are walked one after the other to say
-// which. Where both pass alone, the answer is JOINT.
+// Where they don't both pass at once, they are checked one after the other to say why. Where both
+// pass alone, the answer is JOINT. No two walks are under way at once, so one stack serves them
+// all.
 pub fn check_two(ancestors: &[u32], descendants: &[u32]) -> Verdict
     ensures { λ r. ⌜ r ≡ checkTwo (now (ancestors .entry)) (now (descendants .entry)) ⌝ }
 {
-    if are_agreeing(ancestors, descendants) {
+    let mut stack = [0u32; STACK_WORDS];
+    if are_agreeing(&mut stack, ancestors, descendants) {
         return without_node(TAKEN);
     }
-    let first = check_list(ancestors);
+    let first = check_on(&mut stack, ancestors);
     if first.answer != TAKEN {
         return first;
     }
-    let second = check_list(descendants);
+    let second = check_on(&mut stack, descendants);
     if second.answer != TAKEN {
         return Verdict {
             answer: second.answer,

@@ -1,12 +1,13 @@
--- The merge of two lists in node order, in which a node that stands in both comes once.
-use Prim.Native.Nat.{ℕ, _+_, _-_, _%_, _≤_}
+-- The merge of two lists in node order, in which a node that stands in both comes once. And what it
+-- is for words to make whole nodes. No public contract cites this file.
+use Prim.Native.Nat.{ℕ, _%_, _≤_}
 use mathlib.Core.Path.{_≡_}
 use mathlib.Core.Bool.{cond}
 use mathlib.Core.List.{List, [], _∷_}
-use lib.ListN.{length, drop}
+use lib.ListN.{length}
 use Rattle.nodes.specs.declared.node.Node.{Node}
 use Rattle.nodes.specs.Node.{afterb, sameb}
-use Rattle.nodes.specs.Words.{NODE-WORDS, MOST-NODES, nodes, count}
+use Rattle.nodes.specs.Words.{NODE-WORDS, MOST-NODES, count}
 
 -- x followed by xs, merged with a list; `later` merges xs with any list.
 unfoldable pub mergeInto : Node → List Node → (List Node → List Node) → List Node → List Node
@@ -25,14 +26,6 @@ merge (x ∷ xs) ys = mergeInto x xs (merge xs) ys
 abbrev pub Whole : List ℕ → Type 0
 Whole words = (length words % NODE-WORDS ≡ 0) × (count words ≤ MOST-NODES)
 
--- From word i on, the words make whole nodes.
+-- The words make whole nodes, and word i begins one of them or is past the last.
 abbrev pub Cut : ℕ → List ℕ → Type 0
-Cut i words = (i ≤ length words) × ((length words - i) % NODE-WORDS ≡ 0)
-
--- n is the next node of the merge of xs, from word i on, and ys, from word j on. After it the merge
--- goes on at word `first` of xs and word `second` of ys.
-pub record Drawn (xs ys : List ℕ) (i j : ℕ) (n : Node) (first second : ℕ) : Type 0 where
-  pub next : merge (nodes (drop i xs)) (nodes (drop j ys)) ≡ n ∷ merge (nodes (drop first xs)) (nodes (drop second ys))
-  pub on : i + j + NODE-WORDS ≤ first + second
-  pub first-in : Cut first xs
-  pub second-in : Cut second ys
+Cut i words = (i ≤ length words) × (i % NODE-WORDS ≡ 0) × (length words % NODE-WORDS ≡ 0)

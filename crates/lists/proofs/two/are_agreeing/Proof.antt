@@ -3,7 +3,7 @@
 -- lists are and none of their nodes are at odds.
 -- What would break it: A list that isn't tested, or another merge, would be caught at its return.
 use borrow.Author.Needs.{needs}
-use mathlib.Core.Path.{_≡_, sym, ap, _∙_}
+use mathlib.Core.Path.{_≡_, sym, _∙_}
 use mathlib.Core.Bool.{true, false, not, Bool·not-not}
 use mathlib.Core.List.{List}
 use Prim.Native.Nat.{ℕ}
@@ -13,9 +13,8 @@ use borrow.Author.Tests.{eq-eqb, ne-eqb, eqb-true}
 use Rattle.answers.specs.Answer.{TAKEN}
 use Rattle.nodes.specs.Words.{nodes}
 use Rattle.laws.proofs.Tests.{same-test}
-use Rattle.answers.specs.declared.verdict.Verdict.{Verdict}
-use Rattle.lists.specs.Check.{checkNodes, wordFault}
-use Rattle.lists.specs.Private.Merge.{merge}
+use Rattle.lists.specs.Check.{wordFault}
+use Rattle.lists.specs.Private.Both.{wholeOf}
 use Rattle.lists.specs.Two.{checkTwo}
 use Rattle.answers.specs.Verdict.{refusedb}
 use Rattle.lists.proofs.Merging.{joint-iff, merge-taken-iff}
@@ -40,15 +39,15 @@ module _ (xs ys : List ℕ) where
 
   -- The merge is taken exactly when the two lists are.
   merged : wordFault xs ≡ TAKEN → wordFault ys ≡ TAKEN
-      → eqb (checkNodes (merge (nodes xs) (nodes ys)) .answer) TAKEN ≡ not (refusedb (checkTwo xs ys))
+      → eqb (wholeOf xs ys .answer) TAKEN ≡ not (refusedb (checkTwo xs ys))
   merged f g = same-test there back ∙ answers
     where
-      there : eqb (checkNodes (merge (nodes xs) (nodes ys)) .answer) TAKEN ≡ true → eqb (checkTwo xs ys .answer) TAKEN ≡ true
+      there : eqb (wholeOf xs ys .answer) TAKEN ≡ true → eqb (checkTwo xs ys .answer) TAKEN ≡ true
       there h =
           let m = merge-taken-iff (nodes xs) (nodes ys) .0 (eqb-true _ _ h) in
           eq-eqb _ _ (two-taken-iff xs ys .1 (words-check xs .1 (f, m .0), words-check ys .1 (g, m .1), joint-iff _ _ .0 (m .2)))
 
-      back : eqb (checkTwo xs ys .answer) TAKEN ≡ true → eqb (checkNodes (merge (nodes xs) (nodes ys)) .answer) TAKEN ≡ true
+      back : eqb (checkTwo xs ys .answer) TAKEN ≡ true → eqb (wholeOf xs ys .answer) TAKEN ≡ true
       back h =
           let t = two-taken-iff xs ys .0 (eqb-true _ _ h) in
           eq-eqb _ _ (merge-taken-iff (nodes xs) (nodes ys) .1 (words-check xs .0 (t .0) .1, words-check ys .0 (t .1) .1, joint-iff _ _ .1 (t .2)))
@@ -71,21 +70,19 @@ returns-2 c =
 
 pass-both-requires : tie.Need-pass-both-requires
 pass-both-requires c κs =
-    let a = c .before .before .before .before .before .before .args in
-    let first = c .before .before in (
+    let second = c .before in
+    let first = second .before .before in
+    let a = first .before .before .before .before .args in (
       whole-words (now (a .ancestors)) .0 (sym (first .before .word-fault .ensures) ∙ first .if1 .left),
-      whole-words (now (a .descendants)) .0 (sym (c .before .word-fault2 .ensures) ∙ c .if2 .left),
+      whole-words (now (a .descendants)) .0 (sym (second .before .word-fault2 .ensures) ∙ second .if2 .left),
     )
-
-verdict-of-requires : tie.Need-verdict-of-requires
-verdict-of-requires c κs = search needs
 
 returns-3 : tie.Need-returns-3
 returns-3 c =
-    let second = c .before .before .before in
+    let second = c .before .before in
     let first = second .before .before in
     let a = first .before .before .before .before .args in
-    ap (λ (v : Verdict). eqb (v .answer) TAKEN) (c .before .verdict-of .ensures ∙ c .before .before .pass-both .ensures)
+    c .pass-both .ensures
     ∙ merged (now (a .ancestors)) (now (a .descendants)) (sym (first .before .word-fault .ensures) ∙ first .if1 .left)
     (sym (second .before .word-fault2 .ensures) ∙ second .if2 .left)
 
@@ -98,5 +95,4 @@ are-agreeing-spec =
     word-fault-requires-2
     returns-2
     pass-both-requires
-    verdict-of-requires
     returns-3)

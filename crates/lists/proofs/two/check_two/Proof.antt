@@ -25,27 +25,27 @@ without-node-requires c κs = search needs
 
 returns : tie.Need-returns
 returns c =
-    let a = c .before .before .before .before .before .args in
+    let a = c .before .before .before .before .before .before .args in
     c .without-node .ensures ∙ two-taken (now (a .ancestors)) (now (a .descendants)) (is-taken _ (not-true _ (sym (c .before .before .are-agreeing .ensures) ∙ c .before .if1 .taken)))
 
-check-list-requires : tie.Need-check-list-requires
-check-list-requires c κs = search needs
+check-on-requires : tie.Need-check-on-requires
+check-on-requires c κs = search needs
 
 returns-2 : tie.Need-returns-2
 returns-2 c =
-    let a = c .before .before .before .before .before .before .before .args in
-    let q = c .before .before .check-list .ensures in
+    let a = c .before .before .before .before .before .before .before .before .before .args in
+    let q = c .before .before .check-on .ensures in
     q ∙ two-first (now (a .ancestors)) (now (a .descendants)) (λ t. c .if2 .taken (ap number q ∙ t))
 
-check-list-requires-2 : tie.Need-check-list-requires-2
-check-list-requires-2 c κs = search needs
+check-on-requires-2 : tie.Need-check-on-requires-2
+check-on-requires-2 c κs = search needs
 
 returns-3 : tie.Need-returns-3
 returns-3 c =
-    let first = c .before .before .before in
-    let a = first .before .before .before .before .before .before .before .args in
-    let p = first .before .before .check-list .ensures in
-    let q = c .before .before .check-list2 .ensures in
+    let first = c .before .before .before .before in
+    let a = first .before .before .before .before .before .before .before .before .before .args in
+    let p = first .before .before .check-on .ensures in
+    let q = c .before .before .check-on2 .ensures in
     ap (inList DESCENDANTS) q ∙ two-second (now (a .ancestors)) (now (a .descendants)) (sym (ap number p) ∙ first .if2 .left) (λ t. c .if3 .taken (ap number q ∙ t))
 
 without-node-requires-2 : tie.Need-without-node-requires-2
@@ -54,11 +54,11 @@ without-node-requires-2 c κs = search needs
 returns-4 : tie.Need-returns-4
 returns-4 c =
     let second = c .before in
-    let first = second .before .before .before in
-    let differ = first .before .before .before in
-    let a = differ .before .before .before .before .args in
-    let p = first .before .before .check-list .ensures in
-    let q = second .before .before .check-list2 .ensures in
+    let first = second .before .before .before .before in
+    let differ = first .before .before .before .before in
+    let a = differ .before .before .before .before .before .args in
+    let p = first .before .before .check-on .ensures in
+    let q = second .before .before .check-on2 .ensures in
     c .without-node2 .ensures
     ∙ two-joint (now (a .ancestors)) (now (a .descendants)) (sym (ap number p) ∙ first .if2 .left) (sym (ap number q) ∙ second .if3 .left)
     (not-taken _ (not-false _ (sym (differ .before .are-agreeing .ensures) ∙ differ .if1 .left)))
@@ -70,9 +70,9 @@ check-two-spec =
     are-agreeing-requires
     without-node-requires
     returns
-    check-list-requires
+    check-on-requires
     returns-2
-    check-list-requires-2
+    check-on-requires-2
     returns-3
     without-node-requires-2
     returns-4)

@@ -1,29 +1,18 @@
 -- Function: `pass_node` (src/walk.rt).
--- Why it holds: Each return is one case of `topFault`, and the tests on the way to it give the
+-- Why it holds: Each return is one case of `stepFault`, and the tests on the way to it give the
 -- facts that the case asks for.
 -- What would break it: A test left out, or tried in another order, would be caught at the return
 -- after it.
 use borrow.Author.Needs.{needs}
-use mathlib.Core.Path.{_≡_, sym, subst, _∙_}
-use mathlib.Core.Bool.{Bool, true, false, not}
-use Prim.Native.Nat.{_/_}
+use mathlib.Core.Path.{refl}
 use native.Mathlib.Omega.{arith}
-use borrow.Author.Tests.{not-true, not-false}
 use denote.Ref.{now}
-use Rattle.nodes.specs.Words.{nodes}
-use Rattle.lists.specs.Fault.{orderb}
-use Rattle.lists.specs.Private.Walk.{opened, AfterHead, Chain}
-use Rattle.lists.proofs.WalkLaws.{chain-left, chain-after, beyond-left, not-first, next-document}
-use Rattle.lists.proofs.Steps.{passed-low, passed-high, passed-span, passed-first, passed-order, passed-rest}
+use Rattle.lists.specs.Private.Walk.{unended}
+use Rattle.lists.proofs.Keeping.{next-there, next-passed, next-begun}
+use Rattle.lists.proofs.StackLaws.{held-asks}
+use Rattle.lists.proofs.Steps.{left-held, passed-low, passed-high, passed-span, passed-order, passed-first, passed-rest}
 use Rattle.lists.proofs.walk.pass_node.Statement.{statement}
 use Rattle.lists.proofs.walk.pass_node.Tie as tie
-
--- What `is_next` answers, turned into the test of ORDER.
-strays : {t o : Bool} → t ≡ not o → not t ≡ true → o ≡ true
-strays {t} {o} e h = not-false o (sym e ∙ not-true t h)
-
-follows : {t o : Bool} → t ≡ not o → not t ≡ false → o ≡ false
-follows {t} {o} e h = not-true o (sym e ∙ not-false t h)
 
 refused-requires : tie.Need-refused-requires
 refused-requires c κs = search needs
@@ -31,7 +20,7 @@ refused-requires c κs = search needs
 returns : tie.Need-returns
 returns c =
     let a = c .before .before .before .args in
-    passed-low (opened (a .place .used) (now (a .stack))) (a .node) _ _ _ (c .before .if1 .taken) (c .refused .ensures)
+    λ s h. passed-low (a .place) s (a .node) _ _ (omega arith) (c .refused .ensures)
 
 cast-if2 : tie.Need-cast-if2
 cast-if2 c = search needs
@@ -42,7 +31,7 @@ refused-requires-2 c κs = search needs
 returns-2 : tie.Need-returns-2
 returns-2 c =
     let a = c .before .before .before .before .before .args in
-    passed-high (opened (a .place .used) (now (a .stack))) (a .node) _ _ _ (omega arith) (omega arith) (c .refused2 .ensures)
+    λ s h. passed-high (a .place) s (a .node) _ _ (omega arith) (omega arith) (c .refused2 .ensures)
 
 refused-requires-3 : tie.Need-refused-requires-3
 refused-requires-3 c κs = search needs
@@ -50,71 +39,67 @@ refused-requires-3 c κs = search needs
 returns-3 : tie.Need-returns-3
 returns-3 c =
     let a = c .before .before .before .before .before .before .before .args in
-    passed-span (opened (a .place .used) (now (a .stack))) (a .node) _ _ _ (omega arith) (omega arith) (omega arith) (c .refused3 .ensures)
-
-is-first-requires : tie.Need-is-first-requires
-is-first-requires c κs = search needs
-
-push-requires : tie.Need-push-requires
-push-requires c κs = search needs
-
-returns-4 : tie.Need-returns-4
-returns-4 c =
-    let start = c .before .before .before .before .before .before .before .before .before .before .before in
-    let a = start .args in
-    passed-first (opened (a .place .used) (now (a .stack))) (a .node) _ _ _
-    (record { lowest = omega arith; highest = omega arith; span = omega arith })
-    (start .pre .2) (sym (c .before .before .before .is-first .ensures) ∙ c .before .before .if4 .taken) (now (a .stack)) (c .push .ensures)
-
-is-next-requires : tie.Need-is-next-requires
-is-next-requires c κs =
-    let a = c .before .before .before .before .before .before .before .before .before .before .args in
-    let told = sym (c .before .before .is-first .ensures) ∙ c .before .if4 .left in
-    let some = not-first (a .place .used / 4) (nodes (now (a .stack))) (a .node) told in
-    (omega arith, (omega arith, omega arith))
+    λ s h. passed-span (a .place) s (a .node) _ _ (omega arith) (omega arith) (omega arith) (c .refused3 .ensures)
 
 refused-requires-4 : tie.Need-refused-requires-4
 refused-requires-4 c κs = search needs
 
+returns-4 : tie.Need-returns-4
+returns-4 c =
+    let a = c .before .before .before .before .before .before .before .before .before .before .before .before .before .args in
+    λ s h. passed-order (a .place) s (a .node) _ _ (record { lowest = omega arith; highest = omega arith; span = omega arith })
+    (next-passed _ _ (a .node) (omega arith)) (c .refused4 .ensures)
+
+push-requires : tie.Need-push-requires
+push-requires c κs = search needs
+
 returns-5 : tie.Need-returns-5
 returns-5 c =
+    let a = c .before .before .before .before .before .before .before .before .before .before .before .before .before .before .args in
+    λ s h. passed-first (a .place) s (a .node) (now (a .stack)) _ _ (record { lowest = omega arith; highest = omega arith; span = omega arith }) h
+    (omega arith) (c .push .ensures)
+
+cast-if6 : tie.Need-cast-if6
+cast-if6 c = search needs
+
+refused-requires-5 : tie.Need-refused-requires-5
+refused-requires-5 c κs = search needs
+
+returns-6 : tie.Need-returns-6
+returns-6 c =
     let a = c .before .before .before .before .before .before .before .before .before .before .before .before .before .args in
-    passed-order (opened (a .place .used) (now (a .stack))) (a .node) _ _ _
-    (record { lowest = omega arith; highest = omega arith; span = omega arith })
-    (strays (c .before .before .is-next .ensures) (c .before .if5 .taken)) (c .refused4 .ensures)
+    λ s h. passed-order (a .place) s (a .node) _ _ (record { lowest = omega arith; highest = omega arith; span = omega arith })
+    (next-begun _ _ (a .node) (omega arith) (omega arith)) (c .refused5 .ensures)
 
 left-open-requires : tie.Need-left-open-requires
-left-open-requires c κs =
-    let start = c .before .before .before .before .before .before .before .before .before .before .before .before .before in
-    let a = start .args in
-    let at-first = c .before .before .before .before in (
-      omega arith,
-      next-document (a .node) (opened (a .place .used) (now (a .stack))) (start .pre .2)
-          (sym (at-first .before .is-first .ensures) ∙ at-first .if4 .left)
-          (follows (c .before .before .is-next .ensures) (c .before .if5 .left)),
-    )
+left-open-requires c κs = held-asks _ _ _ _ (c .before .before .before .before .before .before .before .before .before .before .before .before .before .pre .1)
 
 put-on-top-requires : tie.Need-put-on-top-requires
 put-on-top-requires c κs =
     let start = c .before .before .before .before .before .before .before .before .before .before .before .before .before .before .before in
-    let left = c .before .left-open .ensures in
-    let at-next = c .before .before .before in
-    let next : orderb (opened (start .args .place .used) (now (start .args .stack))) (start .args .node) ≡ false =
-    follows (at-next .before .is-next .ensures) (at-next .if5 .left) in (
+    let a = start .args in
+    let held = start .pre .1 in
+    let left = c .before .left-open .ensures in (
       omega arith,
       omega arith,
       omega arith,
-      subst Chain (sym (left .left)) (chain-left (start .args .node) _ (start .pre .2)),
-      subst (AfterHead (start .args .node)) (sym (left .left)) (beyond-left (start .args .node) _ (chain-after (start .args .node) _ (start .pre .2) next)),
+      omega arith,
+      record {
+        chain = unended (a .node) (held .chain);
+        holds =
+            left-held (a .place) _ (now (a .stack)) (a .node) (omega arith) (omega arith) (left .under) (held .chain) (held .holds)
+            (left .left (a .node) (held .chain) refl);
+      },
     )
 
-returns-6 : tie.Need-returns-6
-returns-6 c =
+returns-7 : tie.Need-returns-7
+returns-7 c =
     let a = c .before .before .before .before .before .before .before .before .before .before .before .before .before .before .before .before .args in
-    let at-next = c .before .before .before .before in
-    passed-rest (opened (a .place .used) (now (a .stack))) (a .node) (a .place .index) (c .put-on-top .last .0) (c .put-on-top .result)
-    (record { lowest = omega arith; highest = omega arith; span = omega arith })
-    (follows (at-next .before .is-next .ensures) (at-next .if5 .left)) _ (c .before .before .left-open .ensures .left) (c .put-on-top .ensures)
+    let left = c .before .before .left-open .ensures in
+    λ s h. passed-rest (a .place) s (a .node) (c .put-on-top .last .0) (c .put-on-top .result) (record { lowest = omega arith; highest = omega arith; span = omega arith })
+    (next-there _ _ (a .node) (omega arith) (omega arith)) (unended (a .node) s) refl
+    (c .put-on-top .ensures (unended (a .node) s)
+    (left-held (a .place) _ (now (a .stack)) (a .node) (omega arith) (omega arith) (left .under) s h (left .left (a .node) s refl)))
 
 pub pass-node-spec : {M : Type 1} → statement M
 pass-node-spec =
@@ -127,12 +112,13 @@ pass-node-spec =
     returns-2
     refused-requires-3
     returns-3
-    is-first-requires
-    push-requires
-    returns-4
-    is-next-requires
     refused-requires-4
+    returns-4
+    push-requires
     returns-5
+    cast-if6
+    refused-requires-5
+    returns-6
     left-open-requires
     put-on-top-requires
-    returns-6)
+    returns-7)

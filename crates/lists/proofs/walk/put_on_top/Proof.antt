@@ -1,81 +1,72 @@
 -- Function: `put_on_top` (src/walk.rt).
--- Why it holds: Each return is one case of `headFault`, decided by the top of the stack.
+-- Why it holds: Each return is one case of `headFault`, decided by the end and the level at the top
+-- of the stack. The bottom ends too late and lies too low to refuse a node.
 -- What would break it: A test left out would be caught at the return after it, and a stack without
--- room at the second push.
+-- room at the push.
 use borrow.Author.Needs.{needs}
-use mathlib.Core.Path.{sym, _∙_}
+use mathlib.Core.Path.{refl}
 use native.Mathlib.Omega.{arith}
-use borrow.Author.Tests.{not-true, not-false}
 use denote.Ref.{now}
-use Rattle.lists.proofs.Steps.{room-on, passed-alone, passed-cross, passed-depth, passed-on}
+use Rattle.lists.proofs.StackLaws.{room-told}
+use Rattle.lists.proofs.Steps.{onto-cross, onto-depth, onto-head}
 use Rattle.lists.proofs.walk.put_on_top.Statement.{statement}
 use Rattle.lists.proofs.walk.put_on_top.Tie as tie
 
-push-requires : tie.Need-push-requires
-push-requires c κs = search needs
+mul-if1 : tie.Need-mul-if1
+mul-if1 c = search needs
 
-returns : tie.Need-returns
-returns c =
-    let a = c .before .before .before .args in
-    passed-alone (now (a .stack)) (a .left) (a .node) _ _ _ (c .before .before .if1 .taken) (c .push .ensures)
-
-top-of-requires : tie.Need-top-of-requires
-top-of-requires c κs = search needs
-
-ends-within-requires : tie.Need-ends-within-requires
-ends-within-requires c κs = search needs
+element-copy-out-if1 : tie.Need-element-copy-out-if1
+element-copy-out-if1 c = search needs
 
 refused-requires : tie.Need-refused-requires
 refused-requires c κs = search needs
 
-returns-2 : tie.Need-returns-2
-returns-2 c =
-    let start = c .before .before .before .before .before .before .before in
-    let a = start .args in
-    let top = c .before .before .before .top-of .ensures in
-    passed-cross (now (a .stack)) (a .left) (a .node) _ _ _ _ (omega arith) (start .pre .1) top (start .pre .4)
-    (sym (c .before .before .ends-within .ensures) ∙ not-true _ (c .before .if2 .taken)) (c .refused .ensures)
+returns : tie.Need-returns
+returns c =
+    let a = c .before .before .before .before .args in
+    λ s h. onto-cross (now (a .stack)) (a .left) (a .node) _ _ _ s h (omega arith) (omega arith) (c .refused .ensures)
+
+add-if2 : tie.Need-add-if2
+add-if2 c = search needs
+
+mul-if2 : tie.Need-mul-if2
+mul-if2 c = search needs
+
+element-copy-out-if2 : tie.Need-element-copy-out-if2
+element-copy-out-if2 c = search needs
 
 refused-requires-2 : tie.Need-refused-requires-2
 refused-requires-2 c κs = search needs
 
+returns-2 : tie.Need-returns-2
+returns-2 c =
+    let a = c .before .before .before .before .before .before .before .args in
+    λ s h. onto-depth (now (a .stack)) (a .left) (a .node) _ _ _ s h (omega arith) (omega arith) (omega arith) (c .refused2 .ensures)
+
+push-requires : tie.Need-push-requires
+push-requires c κs =
+    let start = c .before .before .before .before .before .before .before in
+    let a = start .args in
+    let held = start .pre .4 in
+    (omega arith, room-told (a .node .document) (a .left) (now (a .stack)) (a .node) refl (held .chain) (held .holds) (omega arith) (omega arith))
+
 returns-3 : tie.Need-returns-3
 returns-3 c =
-    let start = c .before .before .before .before .before .before .before .before .before .before in
-    let a = start .args in
-    let at-top = c .before .before .before .before in
-    let top = at-top .before .before .top-of .ensures in
-    passed-depth (now (a .stack)) (a .left) (a .node) _ _ _ _ (omega arith) (start .pre .1) top (start .pre .4)
-    (sym (at-top .before .ends-within .ensures) ∙ not-false _ (at-top .if2 .left)) (omega arith) (c .refused2 .ensures)
-
-push-requires-2 : tie.Need-push-requires-2
-push-requires-2 c κs =
-    let start = c .before .before .before .before .before .before .before .before .before .before in
-    let a = start .args in
-    let top = c .before .before .before .before .before .before .top-of .ensures in
-    (omega arith, room-on (a .left) (now (a .stack)) (a .node) _ (omega arith) (start .pre .1) top (start .pre .3) (omega arith) (omega arith))
-
-returns-4 : tie.Need-returns-4
-returns-4 c =
-    let start = c .before .before .before .before .before .before .before .before .before .before .before in
-    let a = start .args in
-    let at-top = c .before .before .before .before .before in
-    let top = at-top .before .before .top-of .ensures in
-    passed-on (now (a .stack)) (a .left) (a .node) _ _ _ _ (omega arith) (start .pre .1) top (start .pre .4)
-    (sym (at-top .before .ends-within .ensures) ∙ not-false _ (at-top .if2 .left)) (omega arith)
-    (room-on (a .left) (now (a .stack)) (a .node) _ (omega arith) (start .pre .1) top (start .pre .3) (omega arith) (omega arith)) (c .push2 .ensures)
+    let a = c .before .before .before .before .before .before .before .before .args in
+    λ s h. onto-head (now (a .stack)) (a .left) (a .node) _ _ _ s h (omega arith) (omega arith) (omega arith) (omega arith) (c .push .ensures)
 
 pub put-on-top-spec : {M : Type 1} → statement M
 put-on-top-spec =
     tie.close
     (tie.spec
-    push-requires
-    returns
-    top-of-requires
-    ends-within-requires
+    mul-if1
+    element-copy-out-if1
     refused-requires
-    returns-2
+    returns
+    add-if2
+    mul-if2
+    element-copy-out-if2
     refused-requires-2
-    returns-3
-    push-requires-2
-    returns-4)
+    returns-2
+    push-requires
+    returns-3)
