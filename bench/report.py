@@ -24,13 +24,17 @@ CODES_HERE = TWINS if EMULATOR else CODES
 # Times of the calls are taken where the machine is an x86-64, unless counts alone are wanted.
 TIMED = not EMULATOR and "--counts" not in sys.argv
 OTHER_SHAPES = ALL_SHAPES[len(SHAPES):]
-# A document of the shape `documents` has two nodes only.
-NUMBERED_SHAPES = tuple(shape for shape in ALL_SHAPES if shape != "documents")
+# A document of the shape `documents` has two nodes only, so it has a bar of its own for the check
+# and isn't numbered.
+SMALL_DOCUMENTS = "documents"
+LARGE_DOCUMENTS = tuple(shape for shape in ALL_SHAPES if shape != SMALL_DOCUMENTS)
 
 # The bars: the most that the archive may take beside a twin, for a node or mark and of the stack.
-MOST_RATIOS = {"clang-three": 0.95, "gcc-three": 0.95, "clang-fused": 1.15}
-MOST_SHARP, SHARP_LISTING, SHARP_SHAPES = 0.5, "directly-ancestor", ("nests", "between")
-MOST_CHECK, MOST_LINKS, MOST_NUMBER, MOST_BOOK, MOST_STACK = 54.3, 80, 29.1, 41.6, 2584
+# No call but the sheet, whose walk is a recursion, may take more stack than any twin of it.
+MOST_RATIOS = {"clang-three": 0.85, "gcc-three": 0.85, "clang-fused": 0.95, "gcc-fused": 1.1}
+MOST_SHARP, SHARP_LISTING, SHARP_SHAPES = 0.4, "directly-ancestor", ("nests", "between")
+MOST_CHECK, MOST_SMALL_CHECK = 42.0, 47.0
+MOST_LINKS, MOST_NUMBER, MOST_BOOK, MOST_STACK = 68.0, 29.1, 37.5, 1.0
 
 SHAPE_WORDS = {
     "flat": "zones side by side, a sample in each",
@@ -200,7 +204,7 @@ def print_shapes():
     print("\n## Shapes")
     say(f"Each list has at most {MOST_NODES:,} nodes. Zones are the ancestors and samples the "
         f"descendants. The bars beside the twins are about the first {len(SHAPES)} shapes, the "
-        "others about all.")
+        "others about all unless they say otherwise.")
     counts = ("zones", "samples", "inside", "directly")
     table(("shape", "what it is", "zones", "samples", "pairs inside", "directly inside"),
           [(shape, SHAPE_WORDS[shape], *(f"{sizes(shape)[count]:,}" for count in counts))
@@ -216,6 +220,12 @@ def stacks():
     """
     rows = [line.split(";") for line in run("stack").splitlines()]
     return {name: [int(number) for number in taken] for name, *taken in rows}
+
+
+def worst_stack():
+    """Returns the archive's stack to the least of the twins', where that is most, and the call."""
+    return max((archive / min(filter(None, twins)), call)
+               for call, (archive, *twins) in stacks().items() if any(twins) and call != "sheet")
 
 
 def verdict(holds):
@@ -234,15 +244,18 @@ def bar_on_worst(title, measure, most, shapes=ALL_SHAPES):
 
 
 def print_simple_bars():
-    stack = max(taken[0] for call, taken in stacks().items() if call.startswith("list"))
-    rows = [bar_on_worst("checks of two lists, instructions a node", "check", MOST_CHECK),
+    stack, call = worst_stack()
+    rows = [bar_on_worst(f"checks of two lists, except on {SMALL_DOCUMENTS}, instructions a node",
+                         "check", MOST_CHECK, LARGE_DOCUMENTS),
+            bar_on_worst(f"checks of two lists on {SMALL_DOCUMENTS}, instructions a node", "check",
+                         MOST_SMALL_CHECK, (SMALL_DOCUMENTS,)),
             bar_on_worst("links, instructions a node", "links", MOST_LINKS),
             bar_on_worst("numbering, instructions a mark", "number", MOST_NUMBER,
-                         NUMBERED_SHAPES),
+                         LARGE_DOCUMENTS),
             bar_on_worst("checking a book, instructions a node", "book", MOST_BOOK),
-            ("stack of a listing, bytes", f"{stack:,}", "", f"{MOST_STACK:,}",
-             verdict(stack <= MOST_STACK))]
-    table(("bar", "archive", "worst shape", "at most", ""), rows)
+            ("stack, to the least of the twins', except of the sheet", f"{stack:.3f}", call,
+             f"{MOST_STACK:.3f}", verdict(stack <= MOST_STACK))]
+    table(("bar", "archive", "worst at", "at most", ""), rows)
     return [row[-1] for row in rows]
 
 
@@ -260,10 +273,10 @@ def ratio_cell(code, listing, shape):
 
 def holds_beside(code, listing, shape):
     """Tells whether the bar beside a twin holds, if there is one."""
-    most = MOST_RATIOS.get(code)
-    if listing == SHARP_LISTING and shape in SHARP_SHAPES and code.endswith("three"):
-        most = MOST_SHARP
-    return most is None or ratio(code, listing, shape) <= most
+    if code not in MOST_RATIOS:
+        return True
+    sharp = listing == SHARP_LISTING and shape in SHARP_SHAPES
+    return ratio(code, listing, shape) <= (MOST_SHARP if sharp else MOST_RATIOS[code])
 
 
 def twin_bar(listing, shape):
@@ -275,10 +288,10 @@ def twin_bar(listing, shape):
 def print_twin_bars():
     progress("bars")
     in_what = "in instructions; in time" if TIMED else "in instructions"
+    most_words = ", ".join(f"{most:.2f} of {code}'s" for code, most in MOST_RATIOS.items())
     say(f"The archive's whole call, checks included, to each twin's, {in_what}. A bar holds where "
-        f"the instructions are at most {MOST_RATIOS['clang-three']} of those of both three-pass "
-        f"twins and at most {MOST_RATIOS['clang-fused']} of clang-fused's. For {SHARP_LISTING} on "
-        f"{' and '.join(SHARP_SHAPES)} they have to be at most {MOST_SHARP} of the three-pass "
+        f"the instructions are at most {most_words}. For {SHARP_LISTING} on "
+        f"{' and '.join(SHARP_SHAPES)} they have to be at most {MOST_SHARP} of each of these "
         "twins'.")
     rows = [twin_bar(listing, shape) for listing in LISTINGS for shape in SHAPES]
     table(("listing", "shape", *TWINS, ""), rows)
@@ -397,7 +410,7 @@ def print_others():
     measured("Sheets", "sheet", "a node")
     print_walks()
     measured("Links", "links", "a node")
-    measured("Numbering", "number", "a mark", NUMBERED_SHAPES)
+    measured("Numbering", "number", "a mark", LARGE_DOCUMENTS)
     measured("Checking a book", "book", "a node")
 
 
