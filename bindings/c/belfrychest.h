@@ -42,8 +42,10 @@
  * - The thread's floats are in their default mode: they are rounded to the nearest, and the
  *   smallest ones aren't taken for zero; otherwise a reading below zero may be taken. Only the
  *   calls for ranges compute with floats.
- * - There is enough stack. What a call takes has a bound: less than 20,000 bytes for belfry_sheet,
- *   and less than 3,000 for any other. docs/SPEED.md of the repository gives it.
+ * - There is enough stack. The comment of each call of words gives the most that it takes on
+ *   x86-64. That includes its arguments, its answer and the return address, but not what memset
+ *   takes. docs/SPEED.md of the repository has all of them in one table. A call of nodes takes its
+ *   own frame on top of its call of words.
  */
 #ifndef BELFRYCHEST_H
 #define BELFRYCHEST_H
@@ -359,20 +361,23 @@ typedef enum {
 
 /* ---- The calls of words, which the archive holds. ---- */
 
-/* Returns the archive's version. It has to be BELFRY_VERSION. */
+/* Returns the archive's version. It has to be BELFRY_VERSION.
+ * Takes at most 8 bytes of stack. */
 BELFRY_MUST_USE
 uint32_t belfry_version(void);
 
 /* Checks one list. It reads the list and writes nothing.
  * Answers: RAGGED, LONG, then LEVEL to DEPTH for the first node at which one applies, with its
- * index; the list is 0. */
+ * index; the list is 0.
+ * Takes at most 688 bytes of stack. */
 BELFRY_MUST_USE
 BELFRY_NONNULL
 belfry_verdict belfry_check(const uint32_t *list, size_t words);
 
 /* Checks two lists that are to be joined. It reads both and writes nothing.
  * Answers: those of belfry_check for the ancestors, then for the descendants, with the list at
- * fault; then JOINT. */
+ * fault; then JOINT.
+ * Takes at most 768 bytes of stack. */
 BELFRY_MUST_USE
 BELFRY_NONNULL
 belfry_verdict belfry_check_two(const uint32_t *ancestors, size_t ancestor_words,
@@ -380,7 +385,8 @@ belfry_verdict belfry_check_two(const uint32_t *ancestors, size_t ancestor_words
 
 /* Checks two lists as belfry_check_two does, and says where to repair: the part of the list at
  * fault from the faulty node to its end. It reads both lists and writes nothing; the part is in the
- * caller's own list, from word `from` on. It is empty unless the answer is LEVEL to DEPTH. */
+ * caller's own list, from word `from` on. It is empty unless the answer is LEVEL to DEPTH.
+ * Takes at most 880 bytes of stack. */
 BELFRY_MUST_USE
 BELFRY_NONNULL
 belfry_part belfry_faulty(const uint32_t *ancestors, size_t ancestor_words,
@@ -397,7 +403,8 @@ belfry_part belfry_faulty(const uint32_t *ancestors, size_t ancestor_words,
  * Between two calls the lists may be edited. When a call says done, each pair that stood unaltered
  * in all accepted calls has been handed out, once.
  * Answers: those of belfry_check_two, never ROOM. A refusal returns the ticket as it was and isn't
- * done, so a repaired list goes on from there. */
+ * done, so a repaired list goes on from there.
+ * Takes at most 1,552 bytes of stack. */
 BELFRY_MUST_USE
 BELFRY_NONNULL
 belfry_page belfry_list(const uint32_t *ancestors, size_t ancestor_words,
@@ -415,7 +422,8 @@ belfry_page belfry_list(const uint32_t *ancestors, size_t ancestor_words,
  * TAKEN and `present` is 0. Then there is no low and no high, and the zeros there are no values.
  * Answers: those of belfry_check_two. Then RAGGED with list 0, when there aren't as many readings
  * as samples. Then READING with list 0 and the sample's index, for the first faulty reading of any
- * sample, in the zone or not. Then ABSENT, when no zone has that index. */
+ * sample, in the zone or not. Then ABSENT, when no zone has that index.
+ * Takes at most 864 bytes of stack. */
 BELFRY_MUST_USE
 BELFRY_NONNULL
 belfry_range belfry_zone_range(const uint32_t *zones, size_t zone_words, const uint32_t *samples,
@@ -430,7 +438,8 @@ belfry_range belfry_zone_range(const uint32_t *zones, size_t zone_words, const u
  * BELFRY_MOST_NODES * BELFRY_MOST_HUNDREDTHS. The answer counts zones.
  * Answers: those of belfry_check_two. Then RAGGED with list 0, when there aren't as many hundredths
  * as samples. Then READING with list 0 and the sample's index, for the first faulty word of any
- * sample, in a zone or not. Then ROOM. */
+ * sample, in a zone or not. Then ROOM.
+ * Takes at most 19,696 bytes of stack. */
 BELFRY_MUST_USE
 BELFRY_NONNULL
 belfry_result belfry_sheet(const uint32_t *zones, size_t zone_words, const uint32_t *samples,
@@ -440,7 +449,8 @@ belfry_result belfry_sheet(const uint32_t *zones, size_t zone_words, const uint3
 /* Numbers a document's marks. It reads the marks and writes a row for each element and text, in
  * start order; as many rows as there are marks are always enough.
  * Answers: LONG, then MARK, STRAY or DEEP for the first faulty mark, UNCLOSED, ROOM; list and index
- * are 0. */
+ * are 0.
+ * Takes at most 320 bytes of stack. */
 BELFRY_MUST_USE
 BELFRY_NONNULL
 belfry_result belfry_number(uint32_t document, const uint32_t *marks, size_t mark_words,
@@ -449,7 +459,8 @@ belfry_result belfry_number(uint32_t document, const uint32_t *marks, size_t mar
 /* Turns a table back into marks. It reads the table and writes the marks, a word each;
  * BELFRY_MOST_NODES words are always enough. The document's number is read from the table, and is 0
  * on refusal.
- * Answers: RAGGED, LONG, TABLE, ROOM. */
+ * Answers: RAGGED, LONG, TABLE, ROOM.
+ * Takes at most 448 bytes of stack. */
 BELFRY_MUST_USE
 BELFRY_NONNULL
 belfry_unnumbered belfry_unnumber(const uint32_t *table, size_t table_words, uint32_t *out,
@@ -457,7 +468,8 @@ belfry_unnumbered belfry_unnumber(const uint32_t *table, size_t table_words, uin
 
 /* Picks a tag's list out of a table. It reads the table and writes the node of every row that has
  * the tag, in the order of the rows. As many nodes as there are rows are always enough. It checks
- * nothing else of the table. Answers: RAGGED, LONG, ROOM; list and index are 0. */
+ * nothing else of the table. Answers: RAGGED, LONG, ROOM; list and index are 0.
+ * Takes at most 48 bytes of stack. */
 BELFRY_MUST_USE
 BELFRY_NONNULL
 belfry_result belfry_pick(const uint32_t *table, size_t table_words, uint32_t tag, uint32_t *out,
@@ -466,21 +478,24 @@ belfry_result belfry_pick(const uint32_t *table, size_t table_words, uint32_t ta
 /* Links a list's nodes to the forest of what contains what. It reads the list and writes a link for
  * each node. A link has the index of the node's parent, which is the innermost node that contains
  * it, and of its first child. Its third index is that of the next node in its document that has the
- * same parent. BELFRY_NONE says that there is none. Answers: those of belfry_check, then ROOM. */
+ * same parent. BELFRY_NONE says that there is none. Answers: those of belfry_check, then ROOM.
+ * Takes at most 736 bytes of stack. */
 BELFRY_MUST_USE
 BELFRY_NONNULL
 belfry_result belfry_links(const uint32_t *list, size_t words, uint32_t *out, size_t out_words);
 
 /* Checks a book. It reads the book and writes nothing.
  * Answers: CONTENTS, then LEVEL to DEPTH for the first body at fault, with the list's place in the
- * book and the node's index in that list. */
+ * book and the node's index in that list.
+ * Takes at most 784 bytes of stack. */
 BELFRY_MUST_USE
 BELFRY_NONNULL
 belfry_book belfry_book_check(const uint8_t *book, size_t bytes);
 
 /* Finds the body of a tag's list. It reads the book, checks all of it, and writes nothing; the body
  * is in the caller's own bytes.
- * Answers: those of belfry_book_check, then ABSENT. */
+ * Answers: those of belfry_book_check, then ABSENT.
+ * Takes at most 848 bytes of stack. */
 BELFRY_MUST_USE
 BELFRY_NONNULL
 belfry_body belfry_book_body(const uint8_t *book, size_t bytes, uint32_t tag);
@@ -489,14 +504,16 @@ belfry_body belfry_book_body(const uint8_t *book, size_t bytes, uint32_t tag);
  * all lists one after the other. It writes the book, which takes BELFRY_BOOK_BYTES. Tags must
  * ascend, and the numbers must add up to the nodes.
  * Answers: RAGGED, CONTENTS, then LEVEL to DEPTH for the first list at fault, with its place and
- * the node's index in that list, then ROOM. */
+ * the node's index in that list, then ROOM.
+ * Takes at most 800 bytes of stack. */
 BELFRY_MUST_USE
 BELFRY_NONNULL
 belfry_result belfry_book_write(const uint32_t *entries, size_t entry_words, const uint32_t *nodes,
                                 size_t node_words, uint8_t *out, size_t out_bytes);
 
 /* Writes an answer's name into all eight bytes, padded with blanks; eight blanks for a number above
- * BELFRY_READING. It is never refused. */
+ * BELFRY_READING. It is never refused.
+ * Takes at most 160 bytes of stack. */
 BELFRY_NONNULL
 void belfry_name(uint32_t answer, uint8_t out[BELFRY_NAME_BYTES]);
 
