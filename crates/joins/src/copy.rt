@@ -6,10 +6,15 @@ use answers::verdict::Verdict;
 use answers::verdict::without_node;
 use books::find::has_tag;
 use books::find::tag_body;
+use nodes::node::MOST_NODES;
+use nodes::node::NODE_WORDS;
 use numbers::little::NUMBER_BYTES;
 use numbers::part::copy_numbers;
 ghost use mathlib.Core.Path.{_≡_};
 ghost use Rattle.joins.specs.Join.{refused, lengthsOf, firstAfter, secondAfter};
+
+// The words that the longest list has.
+pub const LIST_WORDS: usize = NODE_WORDS * MOST_NODES;
 
 // What copying two lists answers: the verdict, and how many words each list has, 0 on refusal.
 pub struct Lengths {

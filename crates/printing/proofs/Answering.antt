@@ -2,11 +2,13 @@
 -- tag. Both are copied whole. So the lists that are joined are the book's.
 -- What would break it: Another list joined, or a check left out, would be caught here.
 use mathlib.Core.Path.{_≡_, refl, sym, ap, _∙_}
+use mathlib.Core.Bool.{true}
 use mathlib.Core.List.{List}
 use Prim.Native.Nat.{ℕ, _*_, _≤_, _<_}
 use native.Mathlib.Omega.{arith}
 use lib.ListN.{length, take}
 use borrow.Author.Tests.{lt-ltb, le-ltb}
+use Rattle.laws.proofs.Tests.{and-make}
 use Rattle.answers.specs.Answer.{TAKEN, LONG, ABSENT}
 use Rattle.nodes.specs.Words.{NODE-WORDS, MOST-NODES}
 use Rattle.contents.specs.declared.entry.Entry.{Entry}
@@ -17,10 +19,11 @@ use Rattle.answers.proofs.VerdictLaws.{refuses, accepts}
 use Rattle.books.specs.declared.book.Opened.{Opened}
 use Rattle.books.specs.Book.{bookVerdict, checkBook, listAt}
 use Rattle.books.specs.Find.{verdictAt}
+use Rattle.books.proofs.FindLaws.{tag-there}
 use Rattle.books.proofs.BookLaws.{opened-verdict, opened-lists}
 use Rattle.joins.specs.declared.copy.Lengths.{Lengths}
-use Rattle.joins.specs.Join.{lengthsOf, firstAfter, secondAfter}
-use Rattle.joins.proofs.Joined.{few-words, lists-copied, words-copied}
+use Rattle.joins.specs.Join.{tagWords, thereb, lengthsOf, firstAfter, secondAfter}
+use Rattle.joins.proofs.Joined.{own-words, copies-fit, copies-taken}
 use Rattle.printing.specs.Print.{MOST-BYTES, printedAnswer}
 
 module _ (book : List ℕ) where
@@ -74,28 +77,18 @@ module _ (book : List ℕ) (lists : ℕ) (ok : (bookVerdict book .answer ≡ TAK
       let two = ok .2 in
       (omega arith, omega arith)
 
-  same : {A : Type 0} (f : List ℕ → ℕ → ℕ → ℕ → List ℕ → List ℕ → A)
-      → f book lists (a .tag) (d .tag) first second ≡ f book (listsIn book) (entryAt book 0 .tag) (entryAt book 1 .tag) first second
-  same f = λ i. f book (ok .1 i) (p i .tag) (q i .tag) first second
-
-  copied-lengths : (l .ancestors ≡ length (listAt book 0)) × (l .descendants ≡ length (listAt book 1))
-  unfolding listAt
-  copied-lengths =
-      let c = e ∙ same lengthsOf ∙ lists-copied book (ok .0) 0 1 (there .0) (there .1) first second room more .0 in
-      (ap (λ k. k .ancestors) c, ap (λ k. k .descendants) c)
+  both : thereb book (listsIn book) (a .tag) (d .tag) ≡ true
+  unfolding thereb
+  both = rw (p, q) (and-make (tag-there book (ok .0) 0 (there .0)) (tag-there book (ok .0) 1 (there .1)))
 
   pub lengths-fit : (l .ancestors ≤ NODE-WORDS * MOST-NODES) × (l .descendants ≤ NODE-WORDS * MOST-NODES)
-  unfolding listAt
-  lengths-fit =
-      let c = copied-lengths in
-      (omega (arith, c .0, few-words book (ok .0) 0 (there .0)), omega (arith, c .1, few-words book (ok .0) 1 (there .1)))
+  lengths-fit = copies-fit book (ok .0) (a .tag) (d .tag) both first second room more lists (ok .1) l e
 
   pub own-lists : (f s : List ℕ) → f ≡ firstAfter book lists (a .tag) (d .tag) first second
       → s ≡ secondAfter book lists (a .tag) (d .tag) first second → (n m : ℕ) → n ≡ l .ancestors → m ≡ l .descendants
       → (take n f ≡ listAt book 0) × (take m s ≡ listAt book 1)
-  unfolding listAt
   own-lists f s x y n m u v =
-      let w = words-copied book (ok .0) 0 1 (there .0) (there .1) first second room more in (
-        (λ i. take ((u ∙ ap (λ k. k .ancestors) (e ∙ same lengthsOf)) i) ((x ∙ same firstAfter) i)) ∙ w .0,
-        (λ i. take ((v ∙ ap (λ k. k .descendants) (e ∙ same lengthsOf)) i) ((y ∙ same secondAfter) i)) ∙ w .1,
+      let w = copies-taken book (ok .0) (a .tag) (d .tag) both first second room more lists (ok .1) l e f s x y n m u v in (
+        w .0 ∙ ap (λ z. tagWords book (listsIn book) (z .tag)) p ∙ own-words book (ok .0) 0 (there .0),
+        w .1 ∙ ap (λ z. tagWords book (listsIn book) (z .tag)) q ∙ own-words book (ok .0) 1 (there .1),
       )

@@ -6,9 +6,8 @@ use answers::answer::LONG;
 use answers::answer::TAKEN;
 use books::book::check_book;
 use contents::entry::entry_at;
+use joins::copy::LIST_WORDS;
 use joins::copy::copy_lists;
-use nodes::node::MOST_NODES;
-use nodes::node::NODE_WORDS;
 ghost use mathlib.Core.Path.{_≡_};
 ghost use Prim.Native.Nat.{_<_};
 ghost use Rattle.answers.specs.Answer.{TAKEN};
@@ -19,9 +18,6 @@ ghost use Rattle.printing.specs.Print.{printedAnswer};
 
 // The most bytes of the program's input.
 pub const MOST_BYTES: usize = 61440;
-
-// The words that the longest list has.
-const LIST_WORDS: usize = NODE_WORDS * MOST_NODES;
 
 // Prints the pairs of the first two lists of a checked book, or their refusal, and returns the
 // answer. The page call takes words, so the two lists are copied, each once.
