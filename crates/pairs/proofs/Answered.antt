@@ -52,7 +52,7 @@ module _ (c : Call) where
       let t = accepted (c .ancestors) (c .descendants) a in
       (ascend (nodes (c .ancestors)) (t .fine-as), ascend (nodes (c .descendants)) (t .fine-ds))
 
-words-length : (ps : List Pair) → length (wordsIn pairWords ps) ≡ PAIR-WORDS * length ps
+pub words-length : (ps : List Pair) → length (wordsIn pairWords ps) ≡ PAIR-WORDS * length ps
 unfolding pairWords wordsOf
 words-length ps = length-items pairWords PAIR-WORDS (λ p. refl) ps
 

@@ -24,7 +24,7 @@ use Rattle.pairs.specs.Page.{handedOut, pageOf, outputAfter}
 use Rattle.pairs.specs.Private.Sweep.{keyIn, placeReached}
 
 -- Words that begin with those of pairs, read two nodes at a time, begin with the pairs.
-pairs-first : (ps : List Pair) (rest : List ℕ) → pairsIn (nodes (wordsIn pairWords ps ++ rest)) ≡ ps ++ pairsIn (nodes rest)
+pub pairs-first : (ps : List Pair) (rest : List ℕ) → pairsIn (nodes (wordsIn pairWords ps ++ rest)) ≡ ps ++ pairsIn (nodes rest)
 unfolding wordsIn flatMap pairWords wordsOf nodes pairsIn
 pairs-first [] rest = refl
 pairs-first (p ∷ ps) rest = ap (λ qs. p ∷ qs) (pairs-first ps rest)

@@ -1,5 +1,6 @@
 // A page of the full listing of two lists, in either order.
 mod ancestors;
+pub mod apart;
 mod descendants;
 mod groups;
 mod open;

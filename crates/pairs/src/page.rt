@@ -36,7 +36,7 @@ pub struct Page {
 // Hands out what remains of the listing in descendant order. A fresh listing need not look for its
 // beginning: it begins at the first descendant, with every ancestor. With two calls the sweep stays
 // a function of its own, so that its stack isn't taken up while the lists are checked.
-fn list_by_descendants(
+pub(crate) fn list_by_descendants(
     ancestors: &[u32],
     descendants: &[u32],
     relation: Relation,
@@ -59,7 +59,7 @@ fn list_by_descendants(
 
 // Hands out what remains of the listing in ancestor order, in the same way and with two calls for
 // the same reason.
-fn list_by_ancestors(
+pub(crate) fn list_by_ancestors(
     ancestors: &[u32],
     descendants: &[u32],
     relation: Relation,
@@ -118,7 +118,7 @@ fn key_at(order: Order, out: &[u32], index: usize) -> Key
 
 // Returns the ticket after `count` pairs were written to `out`. Its place is the key of the last of
 // them, or the place of `old` when there was none.
-fn ticket_after(old: Ticket, out: &[u32], count: usize) -> Ticket
+pub(crate) fn ticket_after(old: Ticket, out: &[u32], count: usize) -> Ticket
     requires { ⌜ count ≤ room (now out) ⌝ }
     ensures { λ r. ⌜ r ≡ ticketAt (askedBy old) (placeReached (old .order) (old .place) (nodes (now (out .entry))) count) ⌝ }
 {

@@ -4,13 +4,9 @@
 -- What would break it: A call that is done although its room ran out, or that moves no place, would
 -- be caught at a return. So would one that touches a refused output.
 use borrow.Author.Needs.{needs}
-use mathlib.Core.Path.{_≡_, ap, sym, _∙_}
 use native.Mathlib.Omega.{arith}
 use denote.Ref.{now}
-use Rattle.answers.specs.Answer.{TAKEN}
-use Rattle.lists.specs.Two.{checkTwo}
-use Rattle.lists.proofs.Naming.{two-taken}
-use Rattle.pairs.proofs.Paged.{page-refused, written-in, page-made}
+use Rattle.pairs.proofs.Paged.{lists-taken, page-refused, written-in, page-made}
 use Rattle.pairs.proofs.page.next_page.Statement.{statement}
 use Rattle.pairs.proofs.page.next_page.Tie as tie
 
@@ -18,12 +14,10 @@ check-two-requires : tie.Need-check-two-requires
 check-two-requires c κs = search needs
 
 returns : tie.Need-returns
-returns c =
-    let a = c .before .before .before .before .before .before .args in
-    page-refused (now (a .ancestors)) (now (a .descendants)) (a .ticket) (now (a .out)) _ (c .before .before .check-two .ensures) (λ h. omega arith)
+returns c = page-refused _ _ _ _ _ (c .before .before .check-two .ensures) (λ h. omega arith)
 
 sweep-requires : tie.Need-sweep-requires
-sweep-requires c κs = sym (ap (λ v. v .answer) (c .before .before .before .check-two .ensures)) ∙ omega arith
+sweep-requires c κs = lists-taken _ _ _ (c .before .before .before .check-two .ensures) (omega arith)
 
 without-node-requires : tie.Need-without-node-requires
 without-node-requires c κs = search needs
@@ -41,11 +35,8 @@ same-length c = search needs
 returns-2 : tie.Need-returns-2
 returns-2 c =
     let s = c .before in
-    let a = s .before .before .before .before .before .before .before .before .before .before .before .before .args in
-    let v = s .before .before .before .before .before .before .before .before .check-two .ensures in
-    let t : checkTwo (now (a .ancestors)) (now (a .descendants)) .answer ≡ TAKEN = sym (ap (λ w. w .answer) v) ∙ omega arith in
-    page-made (now (a .ancestors)) (now (a .descendants)) (a .ticket) (now (a .out)) _ _ _ (s .before .before .before .before .sweep .ensures)
-    t _ _ (c .before .before .without-node .ensures ∙ two-taken (now (a .ancestors)) (now (a .descendants)) t) (c .ticket-after .ensures)
+    page-made _ _ _ _ _ _ _ (s .before .before .before .before .sweep .ensures) _ (s .before .before .before .before .before .before .before .before .check-two .ensures)
+    (omega arith) _ _ (c .before .before .without-node .ensures) (c .ticket-after .ensures)
 
 pub next-page-spec : {M : Type 1} → statement M
 next-page-spec =

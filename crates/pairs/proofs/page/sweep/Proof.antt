@@ -3,21 +3,10 @@
 -- order.
 -- What would break it: A sweep in the other order would be caught at its return.
 use borrow.Author.Needs.{needs}
-use mathlib.Core.Path.{_≡_, ap, sym, _∙_}
-use mathlib.Core.Bool.{Bool}
-use mathlib.Core.List.{List}
-use Prim.Native.Nat.{ℕ}
 use denote.Ref.{now}
-use Rattle.tickets.specs.declared.ticket.Order.{Order}
-use Rattle.tickets.specs.declared.ticket.Ticket.{Ticket}
-use Rattle.tickets.specs.Ticket.{asked, askedBy}
-use Rattle.pairs.specs.Private.Sweep.{servedAll}
+use Rattle.pairs.proofs.Paged.{in-order}
 use Rattle.pairs.proofs.page.sweep.Statement.{statement}
 use Rattle.pairs.proofs.page.sweep.Tie as tie
-
-in-order : (as′ ds : List ℕ) (t : Ticket) (out : List ℕ) (order : Order) {r : List ℕ × ℕ × Bool} → t .order ≡ order
-    → r ≡ servedAll (asked (t .relation) order) (t .place) out as′ ds → r ≡ servedAll (askedBy t) (t .place) out as′ ds
-in-order as′ ds t out order q p = p ∙ ap (λ o. servedAll (asked (t .relation) o) (t .place) out as′ ds) (sym q)
 
 enum-told : tie.Need-enum-told
 enum-told c = search needs
