@@ -5,6 +5,7 @@
 use mathlib.Core.Path.{_≡_}
 use denote.Ref.{now}
 use Rattle.laws.proofs.Only.{only}
+use Rattle.belfrychest.proofs.ask.belfry_ask.Reads as asking
 use Rattle.belfrychest.proofs.book.belfry_book_body.Reads as book-body
 use Rattle.belfrychest.proofs.book.belfry_book_check.Reads as book-check
 use Rattle.belfrychest.proofs.book.belfry_book_write.Reads as book-write
@@ -72,3 +73,7 @@ zone-range-only κs a r r′ s s′ p q = only p q
 pub sheet-only : (κs : _) (a : _) (r r′ : _) (s s′ : _) → sheet.Post κs a r s → sheet.Post κs a r′ s′
     → (now (s .1 .1 .1 .0) ≡ now (s′ .1 .1 .1 .0)) × (r ≡ r′)
 sheet-only κs a r r′ s s′ p q = (only (p .output) (q .output), only (p .answer) (q .answer))
+
+pub ask-only : (κs : _) (a : _) (r r′ : _) (s s′ : _) → asking.Post κs a r s → asking.Post κs a r′ s′
+    → (now (s .1 .1 .0) ≡ now (s′ .1 .1 .0)) × (r ≡ r′)
+ask-only κs a r r′ s s′ p q = (only (p .output) (q .output), only (p .answer) (q .answer))

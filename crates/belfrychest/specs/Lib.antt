@@ -1,5 +1,3 @@
--- `Shown` and `Version` are what the contracts of `belfrychest` cite, and `Following` is a listing
--- that C follows through calls.
-pub mod Following
+-- `Shown` and `Version` are what the contracts of `belfrychest` cite.
 pub mod Shown
 pub mod Version

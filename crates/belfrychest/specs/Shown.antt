@@ -1,5 +1,5 @@
--- What C gets where its struct isn't the library's own: the place of the part at fault, a page with
--- its ticket in words, and the range of a zone.
+-- What C gets where its struct isn't the library's own: the place of the part at fault, and the
+-- range of a zone.
 use Prim.Native.Nat.{ℕ, _*_}
 use mathlib.Core.Bool.{cond}
 use mathlib.Core.List.{List}
@@ -13,11 +13,7 @@ use Rattle.readings.specs.Reading.{float}
 use Rattle.ranges.specs.declared.range.ZoneRange.{ZoneRange}
 use Rattle.ranges.specs.declared.range.ZoneRange.the-variants.{Found, NoReading, Refused}
 use Rattle.repairs.specs.Part.{faultyPart}
-use Rattle.pairs.specs.declared.page.Page.{Page}
-use Rattle.ticket_words.specs.declared.words.TicketWords.{TicketWords}
-use Rattle.ticket_words.specs.Words.{ticketBack}
 use Rattle.belfrychest.specs.declared.list.BelfryPart.{BelfryPart}
-use Rattle.belfrychest.specs.declared.page.BelfryPage.{BelfryPage}
 use Rattle.belfrychest.specs.declared.range.BelfryRange.{BelfryRange}
 
 -- The part at the faulty node, as its place in the list that the verdict names. It is 0
@@ -27,15 +23,6 @@ shownPart ancestors descendants =
     let v = checkTwo ancestors descendants in
     let words = length (faultyPart ancestors descendants) in
     record { verdict = v; from = cond (eqb words 0) 0 (NODE-WORDS * v .index); words = words }
-
--- The page as C gets it, for a call with these words.
-unfoldable pub shownPage : TicketWords → Page → BelfryPage
-shownPage w p = record {
-  verdict = p .verdict;
-  done = cond (p .done) 1 0;
-  count = p .count;
-  ticket = ticketBack w (p .count) (p .ticket .place);
-}
 
 -- An answer without a low and a high: nothing is present, and both are zero.
 abbrev pub withoutRange : Verdict → BelfryRange
