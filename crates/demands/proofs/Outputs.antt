@@ -1,6 +1,7 @@
 -- Demand 1 for the other calls that write: `number`, `unnumber`, `pick`, `link_list`,
--- `write_sheet`, `write_book` and `copy_lists`. A refusal counts nothing and alters nothing, and no
--- call alters a word after those that it counts. A call that did otherwise would be caught here.
+-- `write_sheet`, `write_book`, `copy_lists` and `ask`. A refusal counts nothing and alters nothing,
+-- and no call alters a word after those that it counts. A call that did otherwise would be caught
+-- here.
 use mathlib.Core.Path.{_≡_, refl}
 use mathlib.Core.List.{List}
 use mathlib.Core.Logic.{inl, inr}
@@ -30,11 +31,16 @@ use Rattle.marks.proofs.RowLaws.{length-words}
 use Rattle.forest.specs.Linked.{linksIn, linkedOf, linksOutput}
 use Rattle.forest.specs.Links.{LINK-WORDS}
 use Rattle.forest.proofs.LinkLaws.{links-length}
+use Rattle.tickets.specs.PairWords.{PAIR-WORDS}
 use Rattle.sheets.specs.Sheet.{SUBTOTAL-WORDS, sheetIn, checkSheet, sheetOf, sheetOutput}
 use Rattle.sheets.proofs.Answered.{sheet-length}
 use Rattle.writing.specs.WriteCall.{checkWanted, bytesFor, writtenOf, writtenOutput}
 use Rattle.joins.specs.declared.copy.Lengths.{Lengths}
 use Rattle.joins.specs.Join.{tagWords, thereb, fitb, copyAnswer, lengthsOf, firstAfter, secondAfter}
+use Rattle.questions.specs.declared.ask.Pages.{Pages}
+use Rattle.questions.specs.Ask.{askOf, askOutput}
+use Rattle.questions.specs.Demanded.{countIn}
+use Rattle.questions.proofs.Answered.{ask-keeps-beyond, refused-counted, refused-output}
 
 -- A call whose answer isn't TAKEN counts nothing, and its output on return is the output it was
 -- lent.
@@ -231,3 +237,16 @@ module _ (book : List ℕ) (lists ancestors descendants : ℕ) (first second : L
         | inl h ↦ rw h (kept (tagWords book lists descendants) second (fits (eqb-true _ _ h) .1))
         | inr h ↦ rw h (refl, refl)
       ]
+
+-- Asking a book several questions:
+module _ (book words out : List ℕ) where
+  abbrev asking : Pages
+  asking = askOf book words out
+
+  -- a call that is refused as a whole counts no pair and alters no word,
+  pub refused-questions-alter-nothing : AltersNothing (asking .answer) (countIn (asking .pages)) out (askOutput book words out)
+  refused-questions-alter-nothing r = (refused-counted book words out r, refused-output book words out r)
+
+  -- and no word after the pairs that the pages count is altered.
+  pub questions-keep-beyond : KeepsBeyond (PAIR-WORDS * countIn (asking .pages)) out (askOutput book words out)
+  questions-keep-beyond = ask-keeps-beyond book words out

@@ -41,11 +41,12 @@ use Rattle.lines.specs.Line.{pairLine, totalLine}
 use Rattle.printing.specs.Print.{printedAnswer, printed}
 use Rattle.printing.proofs.Printed.{pages-printed}
 use Rattle.ticket_words.specs.declared.words.TicketWords.{TicketWords}
+use Rattle.ticket_words.specs.Following.{answerToC, wordsThrough, readThrough}
+use Rattle.ticket_words.specs.Page.{shownPage}
 use Rattle.ticket_words.specs.Words.{ticketOf}
-use Rattle.belfrychest.specs.Following.{answerToC, wordsThrough, readThrough}
-use Rattle.belfrychest.specs.Shown.{shownPage, shownPart}
+use Rattle.ticket_words.proofs.Followed.{same-ticket, same-pairs, same-answer, refusal-keeps-words}
+use Rattle.belfrychest.specs.Shown.{shownPart}
 use Rattle.belfrychest.proofs.Faulty.{faulty-words}
-use Rattle.belfrychest.proofs.Followed.{same-ticket, same-pairs, same-answer, refusal-keeps-words}
 use Rattle.demands.proofs.Demands.{listed-exactly-when}
 
 -- One list.
