@@ -5,8 +5,9 @@ use mathlib.Core.Bool.{Bool, true, false, cond, _&&_}
 use mathlib.Core.List.{List, [], _∷_, _++_, map, flatMap}
 use lib.Dec.{eqb}
 use lib.Ieee.{binary32, toBits}
-use lib.ListN.{length, replicate}
-use Rattle.answers.specs.Answer.{TAKEN, RAGGED, LEVEL, ORDER, CROSS, DEPTH, JOINT, ROOM, ABSENT, STRAY, UNCLOSED, READING}
+use lib.ListN.{length, replicate, take, drop}
+use Rattle.answers.specs.Answer.{TAKEN, RAGGED, LONG, LEVEL, ORDER, CROSS, DEPTH, JOINT, ROOM, STRAY, UNCLOSED, CONTENTS, ABSENT, READING}
+use Rattle.nodes.specs.Words.{nodes}
 use Rattle.answers.specs.declared.verdict.Verdict.{Verdict}
 use Rattle.lists.specs.Check.{checkWords}
 use Rattle.lists.specs.Two.{checkTwo}
@@ -26,7 +27,7 @@ use Rattle.tickets.specs.declared.ticket.Place.the-variants.{Fresh, After}
 use Rattle.tickets.specs.declared.ticket.Relation.{Relation}
 use Rattle.tickets.specs.declared.ticket.Relation.the-variants.{Inside, Directly}
 use Rattle.tickets.specs.declared.ticket.Ticket.{Ticket}
-use Rattle.tickets.specs.PairWords.{PAIR-WORDS}
+use Rattle.tickets.specs.PairWords.{PAIR-WORDS, pairsIn}
 use Rattle.tickets.specs.Ticket.{keyWith, numbersOf, asked, ticketAt}
 use Rattle.pairs.specs.Calls.{Call, answer, shown}
 use Rattle.trees.specs.Example.{example}
@@ -38,6 +39,9 @@ use Rattle.forest.specs.Linked.{linkedOf, linksOutput}
 use Rattle.forest.specs.Links.{NONE, LINK-WORDS}
 use Rattle.sheets.specs.Hundredths.{NO-HUNDREDTHS}
 use Rattle.sheets.specs.Sheet.{SUBTOTAL-WORDS, sheetOf, sheetOutput}
+use Rattle.writing.specs.WriteCall.{bytesFor}
+use Rattle.ticket_words.specs.declared.page.PageWords.{PageWords}
+use Rattle.questions.specs.Ask.{askOf, askOutput}
 
 -- A figure: what the definitions compute, and what docs/SCOPE.md states.
 pub record Figure : Type 0 where
@@ -267,7 +271,7 @@ tenToThirty = PERCENT ∷ 1092616192 ∷ PERCENT ∷ 1101004800 ∷ PERCENT ∷ 
 abbrev pub secondFaulty : List ℕ
 secondFaulty = PERCENT ∷ 1083179008 ∷ 3 ∷ 0 ∷ []
 
--- The word that fills an output before a sheet is written into it.
+-- The word that fills an output before a sheet or pages are written into it.
 abbrev pub UNTOUCHED : ℕ
 UNTOUCHED = 4294967295
 
@@ -329,6 +333,66 @@ oneInEach level (suc n) = (2 * level + 1, 2 * level + 1, level + 1) ∷ oneInEac
 abbrev pub downFrom : ℕ → List (ℕ × ℕ × ℕ)
 downFrom zero = (0, 0, 0) ∷ []
 downFrom (suc n) = (suc n, suc n, suc n) ∷ downFrom n
+
+-- The bytes of a book of lists, each given with its tag.
+abbrev pub bookOf : List (ℕ × Nodes) → List ℕ
+bookOf lists = bytesFor (flatMap (λ l. l .0 ∷ length (l .1) ∷ []) lists) (flatMap (λ l. words (l .1)) lists)
+
+-- The scope's book: Z and S under their tags, and under 4 a list that is JOINT with Z.
+abbrev pub B : List ℕ
+B = bookOf ((2, Z) ∷ (3, S) ∷ (4, (4, 12, 2) ∷ []) ∷ [])
+
+-- The words of a question with two tags and a fresh ticket, by a relation and in an order.
+abbrev pub freshly : ℕ → ℕ → ℕ → ℕ → List ℕ
+freshly relation order ancestors descendants = ancestors ∷ descendants ∷ relation ∷ order ∷ 0 ∷ 0 ∷ 0 ∷ 0 ∷ []
+
+-- The same by inside, in descendant order.
+abbrev pub asks : ℕ → ℕ → List ℕ
+asks ancestors descendants = freshly 0 0 ancestors descendants
+
+-- The same with a ticket that stands before all pairs of document 5.
+abbrev pub placed : ℕ → ℕ → List ℕ
+placed ancestors descendants = ancestors ∷ descendants ∷ 0 ∷ 0 ∷ 1 ∷ 5 ∷ 0 ∷ 0 ∷ []
+
+-- A page as numbers: the verdict, done, the count, and the six words of its ticket.
+abbrev pub pageNumbers : PageWords → List ℕ
+pageNumbers p =
+    let t = p .ticket in
+    verdictNumbers (p .verdict) ++ (p .done ∷ p .count ∷ t .relation ∷ t .order ∷ t .placed ∷ t .document ∷ t .first ∷ t .second ∷ [])
+
+-- What a page shows that reached the place after a pair of document 5, by the starts of its leader
+-- and its follower. The question asks by a relation and in an order.
+abbrev pub reachedPage : ℕ → ℕ → ℕ → ℕ → ℕ → ℕ → List ℕ
+reachedPage relation order done count leader follower = TAKEN ∷ ANCESTORS ∷ 0 ∷ done ∷ count ∷ relation ∷ order ∷ 1 ∷ 5 ∷ leader ∷ follower ∷ []
+
+-- The same by inside, in descendant order.
+abbrev pub pageUpTo : ℕ → ℕ → ℕ → ℕ → List ℕ
+pageUpTo done count leader follower = reachedPage 0 0 done count leader follower
+
+-- What a page shows that hands out nothing, for a question with a fresh ticket,
+abbrev pub emptyPage : ℕ → ℕ → ℕ → List ℕ
+emptyPage answer list index = answer ∷ list ∷ index ∷ 0 ∷ 0 ∷ 0 ∷ 0 ∷ 0 ∷ 0 ∷ 0 ∷ 0 ∷ []
+
+-- and for one with a ticket that stands before all pairs of document 5.
+abbrev pub keptPage : ℕ → ℕ → ℕ → List ℕ
+keptPage answer list index = answer ∷ list ∷ index ∷ 0 ∷ 0 ∷ 0 ∷ 0 ∷ 1 ∷ 5 ∷ 0 ∷ 0 ∷ []
+
+-- A figure of several questions to a book, with an output that has `spare` words beyond the pairs
+-- stated. It shows the whole call's answer, how many questions it answers, the first pages, and the
+-- output: the pairs in it by their starts, and the words after them.
+abbrev pub batch : List ℕ → List (List ℕ) → ℕ → ℕ → ℕ → List (List ℕ) → List (ℕ × ℕ) → Figure
+batch book questions spare answer count pages pairs =
+    let out : List ℕ = replicate (PAIR-WORDS * length pairs + spare) UNTOUCHED in
+    let lent = flatMap (λ q. q) questions in
+    let r = askOf book lent out in
+    let last = askOutput book lent out in
+    record {
+      found =
+          r .answer ∷ r .questions ∷ flatMap pageNumbers (take (length pages) (r .pages))
+          ++ starts (map (λ p. (p .ancestor .start, p .descendant .start)) (pairsIn (nodes (take (PAIR-WORDS * length pairs) last))))
+          ++ drop (PAIR-WORDS * length pairs) last;
+      stated = answer ∷ count ∷ flatMap (λ p. p) pages ++ starts pairs ++ replicate spare UNTOUCHED;
+    }
 
 -- The table. A row's number and its meaning stand right above the row. A float is given by its
 -- bits, and the line above says which number that is.
@@ -574,6 +638,49 @@ figures =
     ∷ unwritten (words Z) (words ((8, 9, 3) ∷ (4, 6, 4) ∷ [])) [] 6 ORDER DESCENDANTS 1
     -- 117: so does a fault of the zones' own list.
     ∷ unwritten (words ((3, 7, 3) ∷ (2, 10, 2) ∷ [])) (words S) [] 6 ORDER ANCESTORS 1
+    -- 118: one question: the page and the pairs of a single call.
+    ∷ batch B (asks 2 3 ∷ []) 0 TAKEN 1 (pageUpTo 1 3 8 2 ∷ []) ((2, 4) ∷ (3, 4) ∷ (2, 8) ∷ [])
+    -- 119: the same question twice.
+    ∷ batch B (asks 2 3 ∷ asks 2 3 ∷ []) 0 TAKEN 2 (pageUpTo 1 3 8 2 ∷ pageUpTo 1 3 8 2 ∷ [])
+    ((2, 4) ∷ (3, 4) ∷ (2, 8) ∷ (2, 4) ∷ (3, 4) ∷ (2, 8) ∷ [])
+    -- 120: an output that is full after the first.
+    ∷ batch B (asks 2 3 ∷ placed 2 3 ∷ []) 0 TAKEN 2 (pageUpTo 1 3 8 2 ∷ keptPage TAKEN 0 0 ∷ []) ((2, 4) ∷ (3, 4) ∷ (2, 8) ∷ [])
+    -- 121: an output that is full in the middle of the second.
+    ∷ batch B (asks 2 3 ∷ asks 2 3 ∷ []) 0 TAKEN 2 (pageUpTo 1 3 8 2 ∷ pageUpTo 0 1 4 2 ∷ []) ((2, 4) ∷ (3, 4) ∷ (2, 8) ∷ (2, 4) ∷ [])
+    -- 122: five words more, which make no room for another pair.
+    ∷ batch B (asks 2 3 ∷ asks 2 3 ∷ []) 5 TAKEN 2 (pageUpTo 1 3 8 2 ∷ pageUpTo 0 1 4 2 ∷ []) ((2, 4) ∷ (3, 4) ∷ (2, 8) ∷ (2, 4) ∷ [])
+    -- 123: a tag that isn't there, for the descendants of a question between two.
+    ∷ batch B (asks 2 3 ∷ placed 2 5 ∷ asks 2 3 ∷ []) 0 TAKEN 3 (pageUpTo 1 3 8 2 ∷ keptPage ABSENT 0 0 ∷ pageUpTo 0 1 4 2 ∷ [])
+    ((2, 4) ∷ (3, 4) ∷ (2, 8) ∷ (2, 4) ∷ [])
+    -- 124: and for the ancestors.
+    ∷ batch B (asks 5 3 ∷ asks 2 3 ∷ []) 2 TAKEN 2 (emptyPage ABSENT 0 0 ∷ pageUpTo 1 3 8 2 ∷ []) ((2, 4) ∷ (3, 4) ∷ (2, 8) ∷ [])
+    -- 125: two lists that are JOINT, between two questions.
+    ∷ batch B (asks 2 3 ∷ placed 2 4 ∷ asks 2 3 ∷ []) 0 TAKEN 3 (pageUpTo 1 3 8 2 ∷ keptPage JOINT 0 0 ∷ pageUpTo 0 1 4 2 ∷ [])
+    ((2, 4) ∷ (3, 4) ∷ (2, 8) ∷ (2, 4) ∷ [])
+    -- 126: one tag twice: Z joined with itself.
+    ∷ batch B (asks 2 2 ∷ []) 0 TAKEN 1 (pageUpTo 1 1 3 2 ∷ []) ((2, 3) ∷ [])
+    -- 127: both relations and both orders.
+    ∷ batch B (freshly 0 1 2 3 ∷ freshly 1 0 2 3 ∷ freshly 1 1 2 3 ∷ []) 0 TAKEN 3 (reachedPage 0 1 1 3 3 4 ∷ reachedPage 1 0 1 2 8 2 ∷ reachedPage 1 1 1 2 3 4 ∷ [])
+    ((2, 4) ∷ (2, 8) ∷ (3, 4) ∷ (3, 4) ∷ (2, 8) ∷ (2, 8) ∷ (3, 4) ∷ [])
+    -- 128: a ticket that stands after 3-4.
+    ∷ batch B ((2 ∷ 3 ∷ 0 ∷ 0 ∷ 1 ∷ 5 ∷ 4 ∷ 3 ∷ []) ∷ []) 0 TAKEN 1 (pageUpTo 1 1 8 2 ∷ []) ((2, 8) ∷ [])
+    -- 129: no question.
+    ∷ batch B [] 8 TAKEN 0 (emptyPage TAKEN 0 0 ∷ []) []
+    -- 130: 32 questions.
+    ∷ batch B (replicate 32 (placed 2 3)) 0 TAKEN 32 (replicate 32 (keptPage TAKEN 0 0)) []
+    -- 131: 33 questions are LONG, and so is each of the first 32.
+    ∷ batch B (replicate 33 (placed 2 3)) 8 LONG 0 (replicate 32 (keptPage LONG 0 0)) []
+    -- 132: nine words are RAGGED, and so is the one question; the second page is zeros.
+    ∷ batch B (placed 2 3 ∷ (2 ∷ []) ∷ []) 8 RAGGED 0 (keptPage RAGGED 0 0 ∷ emptyPage TAKEN 0 0 ∷ []) []
+    -- 133: RAGGED comes before LONG, and before a fault of the book.
+    ∷ batch [] (replicate 33 (asks 2 3) ++ ((2 ∷ []) ∷ [])) 8 RAGGED 0 (replicate 32 (emptyPage RAGGED 0 0)) []
+    -- 134: LONG comes before a fault of the book.
+    ∷ batch [] (replicate 33 (asks 2 3)) 8 LONG 0 (replicate 32 (emptyPage LONG 0 0)) []
+    -- 135: no bytes are no book: each question is CONTENTS.
+    ∷ batch [] (asks 2 3 ∷ asks 2 2 ∷ []) 8 TAKEN 2 (emptyPage CONTENTS 0 0 ∷ emptyPage CONTENTS 0 0 ∷ []) []
+    -- 136: a fault in a list that no question asks about, which comes before ABSENT.
+    ∷ batch (bookOf ((2, Z) ∷ (3, S) ∷ (7, (1, 9, 3) ∷ (2, 3, 3) ∷ []) ∷ [])) (placed 2 3 ∷ placed 2 5 ∷ []) 8 TAKEN 2
+    (keptPage DEPTH 2 1 ∷ keptPage DEPTH 2 1 ∷ []) []
     ∷ []
 
 -- The two lists of numbers are equal.
