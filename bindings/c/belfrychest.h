@@ -34,7 +34,8 @@
  * - It reads its inputs and never alters them. In an output it alters nothing but the result, which
  *   starts at the first struct, word or byte.
  * - A refusal is any answer other than BELFRY_TAKEN. It leaves the whole output as it was, and the
- *   counts, lengths and places in the answer are 0.
+ *   counts, lengths and places in the answer are 0. A refused question of belfry_ask alters no
+ *   word, and the other questions still write.
  * - It allocates nothing and keeps nothing, neither an address nor a state. So calls may run at the
  *   same time, as long as none of them writes what another is lent.
  * - Nobody else writes what a call is lent before it returns, neither a thread nor a signal
@@ -43,9 +44,9 @@
  *   smallest ones aren't taken for zero; otherwise a reading below zero may be taken. Only the
  *   calls for ranges compute with floats.
  * - There is enough stack. The comment of each call of words gives the most that it takes on
- *   x86-64. That includes its arguments, its answer and the return address, but not what memset
- *   takes. docs/SPEED.md of the repository has all of them in one table. A call of nodes takes its
- *   own frame on top of its call of words.
+ *   x86-64. That includes its arguments, its answer and the return address, but not what memset and
+ *   memcpy take. docs/SPEED.md of the repository has all of them in one table. A call of nodes
+ *   takes its own frame on top of its call of words.
  */
 #ifndef BELFRYCHEST_H
 #define BELFRYCHEST_H
@@ -59,7 +60,7 @@ extern "C" {
 
 /* The version of the library that this header belongs to. It rises when something here changes:
  * belfry_version returns that of the archive, and the two have to be equal. */
-#define BELFRY_VERSION 3
+#define BELFRY_VERSION 4
 
 /* A call of words takes no null, and an answer that nobody looks at may be a refusal. A compiler
  * that has these attributes warns of a null and of a dropped answer. */
@@ -80,6 +81,8 @@ extern "C" {
 #define BELFRY_MOST_CONTAINING (BELFRY_MOST_LEVELS - 1)
 /* The most lists of a book. */
 #define BELFRY_MOST_LISTS 16
+/* The most questions of one call. */
+#define BELFRY_MOST_QUESTIONS 32
 /* The most bytes of a book that the printing program takes. The calls below have no such limit. */
 #define BELFRY_PRINTED_BYTES 61440
 
@@ -93,7 +96,7 @@ extern "C" {
  * parent, of the first child and of the next sibling. An entry for a book to be written is a tag
  * and a number of nodes. A reading is a kind and the bits of a float. A subtotal of a sheet is a
  * number of samples, how many of them have a reading, and the sum of those readings. A ticket is
- * its fields. */
+ * its fields. A question is two tags and a ticket. */
 #define BELFRY_NODE_WORDS 4
 #define BELFRY_PAIR_WORDS (2 * BELFRY_NODE_WORDS)
 #define BELFRY_ROW_WORDS (BELFRY_NODE_WORDS + 1)
@@ -102,6 +105,7 @@ extern "C" {
 #define BELFRY_READING_WORDS 2
 #define BELFRY_SUBTOTAL_WORDS 3
 #define BELFRY_TICKET_WORDS 6
+#define BELFRY_QUESTION_WORDS (2 + BELFRY_TICKET_WORDS)
 
 /* How many bytes a number in a book takes, lowest byte first. */
 #define BELFRY_NUMBER_BYTES 4
@@ -164,10 +168,11 @@ typedef enum belfry_order {
 /* The answers, written by bin/tables. */
 /* Nothing below applies. */
 #define BELFRY_TAKEN 0
-/* The words don't divide evenly into nodes, rows or entries, or there aren't as many readings or
- * hundredths as samples. */
+/* The words don't divide evenly into nodes, rows, entries or questions, or there aren't as many
+ * readings or hundredths as samples. */
 #define BELFRY_RAGGED 1
-/* There are more than 4,096 nodes, rows or marks. For the program: more than 61,440 bytes. */
+/* There are more than 4,096 nodes, rows or marks, or more than 32 questions. For the program: more
+ * than 61,440 bytes. */
 #define BELFRY_LONG 2
 /* A node's level is 0 or above 64. */
 #define BELFRY_LEVEL 3
@@ -307,6 +312,22 @@ static inline belfry_ticket BELFRY_TICKET(belfry_relation relation, belfry_order
     return ticket;
 }
 
+/* A question to a book: the tag of the list of ancestors, that of the list of descendants, and a
+ * ticket. BELFRY_QUESTION makes one that starts a listing. To go on, put the ticket of its page
+ * into it. */
+typedef struct {
+    uint32_t ancestors, descendants;
+    belfry_ticket ticket;
+} belfry_question;
+
+/* Returns the question that starts a listing of two lists of a book, by their tags. Its ticket is
+ * that of BELFRY_TICKET. */
+static inline belfry_question BELFRY_QUESTION(uint32_t ancestors, uint32_t descendants,
+                                              belfry_relation relation, belfry_order order) {
+    const belfry_question question = {ancestors, descendants, BELFRY_TICKET(relation, order)};
+    return question;
+}
+
 /* A verdict, whether nothing is left (1 or 0), how many pairs were written, and the ticket for the
  * next page. */
 typedef struct {
@@ -315,6 +336,15 @@ typedef struct {
     size_t count;
     belfry_ticket ticket;
 } belfry_page;
+
+/* The answer of the whole call, how many questions it answered, and the page of each question, in
+ * their order. Look at `answer` first. A call that is refused as a whole answered 0 questions. The
+ * pages after the last question are zero in every field, which reads as BELFRY_TAKEN and not done.
+ * So look at the first `questions` pages only. */
+typedef struct {
+    uint32_t answer, questions;
+    belfry_page pages[BELFRY_MOST_QUESTIONS];
+} belfry_pages;
 
 /* A verdict, whether the zone has a present reading (1 or 0), and the lowest and the highest of its
  * present readings, in percent. Look at `present` first. Where it is 0, there is no low and no
@@ -510,6 +540,29 @@ BELFRY_MUST_USE
 BELFRY_NONNULL
 belfry_result belfry_book_write(const uint32_t *entries, size_t entry_words, const uint32_t *nodes,
                                 size_t node_words, uint8_t *out, size_t out_bytes);
+
+/* Asks a book several questions at once, at most BELFRY_MOST_QUESTIONS. It reads the book and the
+ * questions, and writes pairs. A question has eight words: the tag of the ancestors, the tag of the
+ * descendants, and the six of a ticket.
+ * Each question in turn writes its page from where the one before stopped, and has all the room
+ * left. So its pairs start after as many as the pages before it count together. Its page is what
+ * belfry_list answers for the book's two lists with that room.
+ * A question that is refused writes nothing, takes no room and doesn't stop the others. It isn't
+ * done, and its page has its own ticket.
+ * To go on, ask again with the tickets of the pages, until each question is done or refused. The
+ * book may be edited in between: what belfry_list says of pairs that stood unaltered is true of
+ * each question. With room for no pair nothing can be written: give room for BELFRY_PAGE_PAIRS.
+ * Answers of a question: those of belfry_book_check, whichever list of the book is at fault. The
+ * verdict's list is then that list's place in the book, and neither BELFRY_ANCESTORS nor
+ * BELFRY_DESCENDANTS. Then ABSENT, when one of its tags isn't in the book. Then JOINT; never ROOM.
+ * Answers of the whole call: RAGGED when the words don't make whole questions, then LONG. Each
+ * whole question among the first BELFRY_MOST_QUESTIONS then has a page with that answer and its own
+ * ticket, and nothing is written.
+ * Takes at most 135,760 bytes of stack. */
+BELFRY_MUST_USE
+BELFRY_NONNULL
+belfry_pages belfry_ask(const uint8_t *book, size_t bytes, const uint32_t *questions,
+                        size_t question_words, uint32_t *out, size_t out_words);
 
 /* Writes an answer's name into all eight bytes, padded with blanks; eight blanks for a number above
  * BELFRY_READING. It is never refused.
@@ -714,6 +767,20 @@ static inline belfry_result belfry_read_nodes(const uint8_t *book, size_t bytes,
     for (size_t i = 0; i < result.count; i++)
         out[i] = belfry_read_node(book + body.from + node_bytes * i);
     return result;
+}
+
+/* Asks a book several questions at once, as belfry_ask does. The pairs of a question start at the
+ * index that the counts of the pages before it add up to. Give room for BELFRY_PAGE_PAIRS: with
+ * room for no pair, a loop until done would never end.
+ * Answers of a question: those of belfry_book_check, then ABSENT, then JOINT. Answer of the whole
+ * call: LONG. */
+BELFRY_MUST_USE
+static inline belfry_pages belfry_ask_pairs(const uint8_t *book, size_t bytes,
+                                            const belfry_question *questions, size_t count,
+                                            belfry_pair *out, size_t room) {
+    return belfry_ask(bytes != 0 ? book : belfry_no_bytes(), bytes,
+                      BELFRY_WORDS_OF(questions, count, ancestors),
+                      BELFRY_WORDS_OF(out, room, ancestor.document));
 }
 
 /* Writes an answer's name as a string, without blanks, and returns `out`. */

@@ -13,8 +13,10 @@ read it.
 `page` writes one page. These take lists of at most MOST nodes; `Pieces` takes lists of any length.
 `zone_range` returns the low and the high of the lab readings in a zone, and None where it has none.
 `sheet` adds up the readings of every zone at once, in whole numbers.
+`ask` asks a book several questions in one call.
 
 A refusal of the library is raised as `Refused`, and leaves whatever was lent for writing as it was.
+`verdict` and `verdict_two` return it instead. So does `ask` for each question, in its `Reply`.
 Memory that can't be lent is a TypeError or a ValueError, and so is a number that doesn't have 32
 bits; neither reaches the archive.
 
@@ -31,20 +33,22 @@ from ._nodes import Link, Node, Pair, Row, Subtotal
 from ._nodes import node_links, node_pairs, nodes, rows, subtotals, words
 from ._pages import Order, Page, Relation, Ticket, listing, page, pairs
 from ._pieces import Pieces
+from ._questions import Question, Reply, ask
 from ._readings import Grams, Percent, Range, Reading, reading_words, zone_range
 from ._sheets import sheet, sheet_into
-from ._table import CLOSE, HINTS, MOST_HUNDREDTHS, MOST_LEVELS, MOST_LISTS, NO_HUNDREDTHS
-from ._table import NONE, PAGE_PAIRS, TEXT
+from ._table import CLOSE, HINTS, MOST_HUNDREDTHS, MOST_LEVELS, MOST_LISTS, MOST_QUESTIONS
+from ._table import NO_HUNDREDTHS, NONE, PAGE_PAIRS, TEXT
 from ._table import MOST_NODES as MOST
 from ._table import Answer, __version__
 
 __all__ = [
     "Answer", "Buffer", "CLOSE", "Grams", "HINTS", "Link", "MOST", "MOST_HUNDREDTHS",
-    "MOST_LEVELS", "MOST_LISTS", "NONE", "NO_HUNDREDTHS", "Node", "Order", "PAGE_PAIRS", "Page",
-    "Pair", "Percent", "Pieces", "Range", "Reading", "Refused", "Relation", "Row", "Subtotal",
-    "TEXT", "Ticket", "Verdict", "Words", "__version__", "book_body", "book_check", "book_lists",
-    "book_write", "book_write_into", "check", "check_two", "faulty", "links", "links_into",
-    "listing", "name", "node_links", "node_pairs", "nodes", "number", "number_into", "page",
-    "pairs", "pick", "pick_into", "reading_words", "rows", "sheet", "sheet_into", "subtotals",
-    "unnumber", "unnumber_into", "verdict", "verdict_two", "words", "write_book", "zone_range",
+    "MOST_LEVELS", "MOST_LISTS", "MOST_QUESTIONS", "NONE", "NO_HUNDREDTHS", "Node", "Order",
+    "PAGE_PAIRS", "Page", "Pair", "Percent", "Pieces", "Question", "Range", "Reading", "Refused",
+    "Relation", "Reply", "Row", "Subtotal", "TEXT", "Ticket", "Verdict", "Words", "__version__",
+    "ask", "book_body", "book_check", "book_lists", "book_write", "book_write_into", "check",
+    "check_two", "faulty", "links", "links_into", "listing", "name", "node_links", "node_pairs",
+    "nodes", "number", "number_into", "page", "pairs", "pick", "pick_into", "reading_words",
+    "rows", "sheet", "sheet_into", "subtotals", "unnumber", "unnumber_into", "verdict",
+    "verdict_two", "words", "write_book", "zone_range",
 ]

@@ -6,7 +6,7 @@ import sys
 from pathlib import Path
 from typing import Any
 
-from ._table import __version__
+from ._table import MOST_QUESTIONS, __version__
 
 MADE_FOR = "the archive is for x86-64 Linux and nothing else"
 MADE_BY = "bin/shared makes it, and the package in dist/ has it in place"
@@ -108,6 +108,10 @@ class PageStruct(ctypes.Structure):
     _fields_ = [
         ("verdict", VerdictStruct), ("done", word32), ("count", size), ("ticket", TicketStruct),
     ]
+
+
+class PagesStruct(ctypes.Structure):
+    _fields_ = [("answer", word32), ("questions", word32), ("pages", PageStruct * MOST_QUESTIONS)]
 
 
 class RangeStruct(ctypes.Structure):

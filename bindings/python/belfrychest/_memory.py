@@ -2,13 +2,16 @@
 import ctypes
 import operator
 from array import array
+from collections.abc import Mapping, Set
 from contextlib import contextmanager
 from mmap import mmap
-from typing import TYPE_CHECKING, Any, Dict, Iterator, NamedTuple, Protocol, Union
+from typing import (
+    TYPE_CHECKING, Any, Callable, Dict, Iterable, Iterator, NamedTuple, Protocol, Union,
+)
 
 from ._table import (
-    ENTRY_WORDS, LINK_WORDS, MOST_NODES, NODE_WORDS, NONE, NUMBER_BYTES, PAIR_WORDS, READING_WORDS,
-    ROW_WORDS, SUBTOTAL_WORDS,
+    ENTRY_WORDS, LINK_WORDS, MOST_NODES, NODE_WORDS, NONE, NUMBER_BYTES, PAIR_WORDS, QUESTION_WORDS,
+    READING_WORDS, ROW_WORDS, SUBTOTAL_WORDS,
 )
 
 
@@ -56,6 +59,7 @@ ENTRIES = _words(ENTRY_WORDS, "an entry")
 READINGS = _words(READING_WORDS, "a reading")
 HUNDREDTHS = _words(1, "a sample's hundredths")
 SUBTOTALS = _words(SUBTOTAL_WORDS, "a subtotal")
+QUESTIONS = _words(QUESTION_WORDS, "a question")
 BYTES = Kind("Bbc", 1, "a buffer of bytes", 1, "a byte")
 
 
@@ -137,6 +141,28 @@ def lent(what: str, buffer: Buffer, kind: Kind, writable: bool = False) -> Itera
         if address % kind.number_bytes != 0:
             raise ValueError(f"{what} must start at a multiple of {kind.number_bytes} bytes")
         yield Lent(address, view.nbytes // kind.number_bytes, address + view.nbytes)
+
+
+def in_order(what: str, items: Iterable[Any], wanted: str, order: str) -> Iterator[Any]:
+    """Returns an iterator over items. A set has no order, and a dict would give its keys."""
+    kind = type(items).__name__
+    if isinstance(items, (Set, Mapping)):
+        raise TypeError(f"{what} must come in {order}, not as {kind}")
+    try:
+        return iter(items)
+    except TypeError:
+        raise TypeError(
+            f"{what} must be a list of {wanted}, or a buffer of their words, not {kind}") from None
+
+
+def memory_of(items: Union[Buffer, Iterable[Any]],
+              to_words: Callable[[Iterable[Any]], Words]) -> Buffer:
+    """Returns items as memory: as they are where they lend theirs, or else their words."""
+    try:
+        memoryview(items).release()  # type: ignore[arg-type]
+    except TypeError:
+        return to_words(items)  # type: ignore[arg-type]
+    return items  # type: ignore[return-value]
 
 
 def keep_apart(out: Lent, *inputs: Lent) -> None:

@@ -107,6 +107,11 @@ class Ticket:
         return cls.from_words(words)
 
 
+def ticket_of(found: TicketStruct) -> Ticket:
+    """Returns the ticket of the archive's struct."""
+    return Ticket.from_words([getattr(found, field) for field, *_ in TicketStruct._fields_])
+
+
 @dataclass(frozen=True)
 class Page:
     """What a page call wrote: how many pairs, whether these were all that remained, and the ticket
@@ -147,8 +152,7 @@ def page(ancestors: Buffer, descendants: Buffer, ticket: Ticket, out: Buffer) ->
         found = _list(zones.address, zones.length, samples.address, samples.length, given,
                       room.address, room.length)
     settle(verdict_of(found.verdict, two_lists=True))
-    reached = [getattr(found.ticket, field) for field, *_ in TicketStruct._fields_]
-    return Page(found.count, found.done != 0, Ticket.from_words(reached))
+    return Page(found.count, found.done != 0, ticket_of(found.ticket))
 
 
 def pairs(ancestors: Buffer, descendants: Buffer, *, relation: Relation = Relation.INSIDE,
@@ -178,15 +182,15 @@ def listing(ancestors: Buffer, descendants: Buffer, *, relation: Relation = Rela
     return whole
 
 
-def page_room(pairs: int) -> Words:
-    """Returns an output with room for this many pairs."""
-    return array("I", bytes(NUMBER_BYTES * PAIR_WORDS * pairs))
+def page_room(room: int) -> Words:
+    """Returns an output with room for this many pairs, which must be at least one."""
+    if operator.index(room) < 1:
+        raise ValueError(f"room must be at least 1, not {room}")
+    return array("I", bytes(NUMBER_BYTES * PAIR_WORDS * room))
 
 
 def turned(turn: Turn, ticket: Ticket, room: int) -> Iterator[Pair]:
     """Lists the pairs of page after page, until one says done. Wrong numbers are told at once."""
-    if operator.index(room) < 1:
-        raise ValueError(f"room must be at least 1, not {room}")
     return _turned(turn, ticket, page_room(room))
 
 

@@ -6,8 +6,8 @@ from typing import Iterable, NamedTuple, Optional, Union
 
 from ._answers import settle
 from ._archive import RangeStruct, function, lent_memory, word32
-from ._memory import NODES, READINGS, Buffer, Words, lent, word
-from ._samples import in_order, memory_of, verdict_with
+from ._memory import NODES, READINGS, Buffer, Words, lent, memory_of, word
+from ._samples import of_samples, verdict_with
 from ._table import GRAMS, MISSING, PERCENT
 
 _zone_range = function("zone_range", RangeStruct, *lent_memory, *lent_memory, *lent_memory, word32)
@@ -55,7 +55,7 @@ def reading_words(readings: Iterable[Reading]) -> Words:
     `zone_range` takes readings as they are. To ask for many zones, make the words once.
     """
     out = array("I")
-    given = in_order("readings", readings, "Percent, Grams or None")
+    given = of_samples("readings", readings, "Percent, Grams or None")
     for index, reading in enumerate(given):
         if reading is None:
             out.extend((MISSING, 0))

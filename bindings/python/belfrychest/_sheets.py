@@ -5,10 +5,10 @@ from typing import Iterable, List, Optional, Union
 from ._answers import settle
 from ._archive import WrittenStruct, function, lent_memory
 from ._memory import (
-    HUNDREDTHS, NODES, SUBTOTALS, Buffer, Words, keep_apart, lent, room_for, word,
+    HUNDREDTHS, NODES, SUBTOTALS, Buffer, Words, keep_apart, lent, memory_of, room_for, word,
 )
 from ._nodes import Subtotal, subtotals
-from ._samples import in_order, memory_of, verdict_with
+from ._samples import of_samples, verdict_with
 from ._table import NO_HUNDREDTHS, SUBTOTAL_WORDS
 
 _sheet = function(
@@ -30,7 +30,7 @@ def _word(index: int, given: Optional[int]) -> int:
 
 def _words(hundredths: Iterable[Optional[int]]) -> Words:
     """Returns the words of hundredths, one for each."""
-    given = in_order("hundredths", hundredths, "whole numbers or None")
+    given = of_samples("hundredths", hundredths, "whole numbers or None")
     return array("I", [_word(index, number) for index, number in enumerate(given)])
 
 

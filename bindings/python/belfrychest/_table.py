@@ -1,12 +1,13 @@
 """The version, the limits of the C header, and the answers. Written by bin/tables."""
 from enum import IntEnum
 
-__version__ = "3"
+__version__ = "4"
 
 MOST_NODES = 4096
 MOST_LEVELS = 64
 MOST_CONTAINING = 63
 MOST_LISTS = 16
+MOST_QUESTIONS = 32
 PRINTED_BYTES = 61440
 PAGE_PAIRS = 4096
 NODE_WORDS = 4
@@ -17,6 +18,7 @@ ENTRY_WORDS = 2
 READING_WORDS = 2
 SUBTOTAL_WORDS = 3
 TICKET_WORDS = 6
+QUESTION_WORDS = 8
 NUMBER_BYTES = 4
 CONTENTS_NUMBERS = 3
 TICKET_FORM = 1
@@ -70,16 +72,17 @@ HINTS = {
         "Nothing: the call did what it says."
     ),
     Answer.RAGGED: (
-        "Give whole nodes of 4 words, rows of 5 or entries of 2, and for each sample one reading "
-        "of 2, or one word of hundredths for a sheet. A length is cut off, or counts bytes or "
-        "nodes instead of words."
+        "Give whole nodes of 4 words, rows of 5, entries of 2 or questions of 8. For each sample "
+        "give one reading of 2 words, or one word of hundredths for a sheet. A length is cut off, "
+        "or counts bytes, nodes or questions instead of words."
     ),
     Answer.LONG: (
         "Join longer lists with Pieces (Python, Rust). Or cut them yourself: check each piece "
         "alone, and every two pieces of a list together. The first node of each piece must come "
         "after the last node of the piece before it, by document and start. Then join every piece "
         "of one list with every piece of the other. One call takes at most 4,096 marks or rows, "
-        "and the program a book of at most 61,440 bytes."
+        "and the program a book of at most 61,440 bytes. Spread more than 32 questions over "
+        "several calls."
     ),
     Answer.LEVEL: (
         "Give the node a level from 1 to 64."

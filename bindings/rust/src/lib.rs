@@ -31,6 +31,9 @@
 //! read none of its samples it returns `None`, and never 0. [`sheet()`] adds up the readings of
 //! every zone at once, in whole numbers, and counts the samples that have one.
 //!
+//! [`ask`] asks a book several questions in one call, each with its own [`Ticket`]. A question that
+//! is refused doesn't stop the others.
+//!
 //! Lists that come as words, four for each node, are lent as they lie: [`nodes`] takes words, and
 //! [`words`] gives them. All that is unsafe is in [`raw`], the C interface as it is. Every call
 //! panics where the archive that was linked has another version than [`VERSION`].
@@ -47,6 +50,7 @@ mod marks;
 mod node;
 mod page;
 mod pieces;
+mod question;
 #[allow(unsafe_code, missing_docs)]
 pub mod raw;
 mod reading;
@@ -63,6 +67,7 @@ pub use marks::{number, number_into, pick, pick_into, unnumber, unnumber_into};
 pub use node::{nodes, rows, Entry, Link, Node, Pair, Row};
 pub use page::{next_page, Page};
 pub use pieces::Pieces;
+pub use question::{ask, Found, Question, Replies, Reply};
 pub use raw::{version, words};
 pub use reading::{zone_range, Range, Reading};
 pub use sheet::{sheet, sheet_into, Hundredths, Subtotal};

@@ -9,6 +9,8 @@ pub const MOST_LEVELS: usize = 64;
 pub const MOST_CONTAINING: usize = MOST_LEVELS - 1;
 /// The most lists of a book.
 pub const MOST_LISTS: usize = 16;
+/// The most questions of one call.
+pub const MOST_QUESTIONS: usize = 32;
 /// The most bytes of a book that the printing program takes. The calls have no such limit.
 pub const PRINTED_BYTES: usize = 61440;
 /// The pairs of a page for those who have no reason to choose another number. Every page checks
@@ -33,6 +35,8 @@ pub const SUBTOTAL_WORDS: usize = 3;
 /// The words of a ticket: its relation, its order, whether it is placed, and the three numbers of
 /// its key.
 pub const TICKET_WORDS: usize = 6;
+/// The words of a question: two tags and a ticket.
+pub const QUESTION_WORDS: usize = 2 + TICKET_WORDS;
 /// The form in which tickets are stored. It changes when a ticket's words do.
 pub const TICKET_FORM: u32 = 1;
 /// The bytes of a number in a book or in a stored ticket, the lowest first.

@@ -11,6 +11,7 @@
 //! Every call first holds the archive's version against [`VERSION`], and panics where they differ,
 //! since the structs of another version may lie otherwise in memory.
 
+use crate::limits::MOST_QUESTIONS;
 use crate::node::{Entry, Link, Node, Pair, Row};
 use crate::sheet::{Hundredths, Subtotal};
 use crate::table::VERSION;
@@ -58,6 +59,25 @@ pub struct Page {
     pub done: u32,
     pub count: usize,
     pub ticket: Ticket,
+}
+
+/// A question to a book: the tags of its ancestors and of its descendants, and its ticket.
+#[repr(C)]
+#[derive(Clone, Copy, Debug, PartialEq, Eq)]
+pub struct Question {
+    pub ancestors: u32,
+    pub descendants: u32,
+    pub ticket: Ticket,
+}
+
+/// What a call with several questions answers: the answer of the whole call, how many questions it
+/// answered, and the page of each. The pages after the last question are zero in all words.
+#[repr(C)]
+#[derive(Clone, Copy, Debug, PartialEq, Eq)]
+pub struct Pages {
+    pub answer: u32,
+    pub questions: u32,
+    pub pages: [Page; MOST_QUESTIONS],
 }
 
 /// What a range call answers: the verdict, whether a reading is present, and the low and the high.
@@ -178,6 +198,14 @@ extern "C" {
         out: *mut u8,
         out_bytes: usize,
     ) -> Written;
+    fn belfry_ask(
+        book: *const u8,
+        bytes: usize,
+        questions: *const u32,
+        question_words: usize,
+        out: *mut u32,
+        out_words: usize,
+    ) -> Pages;
     fn belfry_name(answer: u32, out: *mut u8);
     fn belfry_version() -> u32;
 }
@@ -323,6 +351,21 @@ pub fn book_write(entries: &[u32], nodes: &[u32], out: &mut [u8]) -> Written {
     }
 }
 
+/// Returns the pages that `belfry_ask` writes and answers.
+pub fn ask(book: &[u8], questions: &[u32], out: &mut [u32]) -> Pages {
+    hold_version();
+    unsafe {
+        belfry_ask(
+            book.as_ptr(),
+            book.len(),
+            questions.as_ptr(),
+            questions.len(),
+            out.as_mut_ptr(),
+            out.len(),
+        )
+    }
+}
+
 /// Returns the eight bytes that `belfry_name` writes.
 pub fn name(answer: u32) -> [u8; 8] {
     hold_version();
@@ -345,14 +388,15 @@ unsafe impl OfWords for Link {}
 unsafe impl OfWords for Entry {}
 unsafe impl OfWords for Hundredths {}
 unsafe impl OfWords for Subtotal {}
+unsafe impl OfWords for Question {}
 
 /// Returns how many words an item has.
 const fn words_of<T: OfWords>() -> usize {
     size_of::<T>() / size_of::<u32>()
 }
 
-/// Returns the words of nodes, pairs, rows, links, entries, hundredths or subtotals, one item after
-/// the other, without a copy.
+/// Returns the words of nodes, pairs, rows, links, entries, hundredths, subtotals or this module's
+/// questions, one item after the other, without a copy.
 pub fn words<T: OfWords>(items: &[T]) -> &[u32] {
     unsafe { slice::from_raw_parts(items.as_ptr().cast(), items.len() * words_of::<T>()) }
 }

@@ -1,7 +1,7 @@
 //! The version, the answers and their hints. Written by bin/tables.
 
 /// The version of the library that this crate is made for.
-pub const VERSION: u32 = 3;
+pub const VERSION: u32 = 4;
 
 /// What a call can answer, by the numbers of docs/SCOPE.md, Answer numbers.
 #[derive(Clone, Copy, Debug, PartialEq, Eq, Hash)]
@@ -9,10 +9,11 @@ pub const VERSION: u32 = 3;
 pub enum Answer {
     /// Nothing below applies.
     Taken,
-    /// The words don't divide evenly into nodes, rows or entries, or there aren't as many readings
-    /// or hundredths as samples.
+    /// The words don't divide evenly into nodes, rows, entries or questions, or there aren't as
+    /// many readings or hundredths as samples.
     Ragged,
-    /// There are more than 4,096 nodes, rows or marks. For the program: more than 61,440 bytes.
+    /// There are more than 4,096 nodes, rows or marks, or more than 32 questions. For the program:
+    /// more than 61,440 bytes.
     Long,
     /// A node's level is 0 or above 64.
     Level,
@@ -58,9 +59,9 @@ pub(crate) const ROWS: &[(Answer, &str)] = &[
     (Answer::Taken, "Nothing: the call did what it says."),
     (
         Answer::Ragged,
-        "Give whole nodes of 4 words, rows of 5 or entries of 2, and for each sample one reading \
-        of 2, or one word of hundredths for a sheet. A length is cut off, or counts bytes or \
-        nodes instead of words.",
+        "Give whole nodes of 4 words, rows of 5, entries of 2 or questions of 8. For each sample \
+        give one reading of 2 words, or one word of hundredths for a sheet. A length is cut off, \
+        or counts bytes, nodes or questions instead of words.",
     ),
     (
         Answer::Long,
@@ -68,7 +69,8 @@ pub(crate) const ROWS: &[(Answer, &str)] = &[
         alone, and every two pieces of a list together. The first node of each piece must come \
         after the last node of the piece before it, by document and start. Then join every piece \
         of one list with every piece of the other. One call takes at most 4,096 marks or rows, \
-        and the program a book of at most 61,440 bytes.",
+        and the program a book of at most 61,440 bytes. Spread more than 32 questions over \
+        several calls.",
     ),
     (Answer::Level, "Give the node a level from 1 to 64."),
     (

@@ -78,6 +78,7 @@ fn binding_numbers() -> BTreeMap<String, u32> {
         ("MOST_NODES", MOST_NODES),
         ("MOST_LEVELS", MOST_LEVELS),
         ("MOST_LISTS", MOST_LISTS),
+        ("MOST_QUESTIONS", MOST_QUESTIONS),
         ("PRINTED_BYTES", PRINTED_BYTES),
         ("PAGE_PAIRS", PAGE_PAIRS),
         ("NODE_WORDS", NODE_WORDS),
@@ -115,7 +116,7 @@ fn binding_numbers() -> BTreeMap<String, u32> {
 #[test]
 fn numbers_are_those_of_the_header() {
     assert_eq!(binding_numbers(), header_numbers());
-    assert_eq!((PAIR_WORDS, ROW_WORDS, MOST_CONTAINING), (8, 5, 63));
+    assert_eq!((PAIR_WORDS, ROW_WORDS, QUESTION_WORDS, MOST_CONTAINING), (8, 5, 8, 63));
 }
 
 #[test]
@@ -535,6 +536,162 @@ fn books_are_refused() {
     book[60 + 16 + 4] = 4;
     assert_eq!(book_check(&book), Err(refusal_at(Answer::Order, 1, 1)));
     assert_eq!(book_body(&book, 2), Err(refusal_at(Answer::Order, 1, 1)));
+}
+
+/// Returns the question for all pairs of two tags.
+fn all(ancestors: u32, descendants: u32) -> Question {
+    Question::fresh(ancestors, descendants, Relation::Inside, Order::Descendant)
+}
+
+/// Returns three questions to the farm's book. The second asks for a tag that isn't there.
+fn three_questions() -> [Question; 3] {
+    let place = Place::After { document: 5, first: 2, second: 8 };
+    let absent = Question { ticket: Ticket { place, ..all(0, 0).ticket }, ..all(2, 4) };
+    [all(2, 3), absent, Question::fresh(2, 3, Relation::Directly, Order::Ancestor)]
+}
+
+#[test]
+fn questions_share_one_output_and_a_refused_one_takes_no_room() {
+    let [first, second, third] = three_questions();
+    let mut out = [PAIR_PAINT; 5];
+    let mut replies = ask(BOOK, &[first, second, third], &mut out[..4]).expect("three are taken");
+    assert_eq!(replies.len(), 3);
+    let mut next = || replies.next().expect("a reply for each question");
+    let (all_pairs, absent, one_pair) = (next(), next(), next());
+
+    let found = all_pairs.found.expect("the farm is taken");
+    let shown: Vec<_> = found.pairs.iter().copied().map(starts).collect();
+    assert_eq!((shown, found.done), (vec![(2, 4), (3, 4), (2, 8)], true));
+    let place = Place::After { document: 5, first: 8, second: 2 };
+    assert_eq!(all_pairs.ticket, Ticket { place, ..first.ticket });
+
+    let refused = Reply { found: Err(refusal(Answer::Absent)), ticket: second.ticket };
+    assert_eq!(absent, refused);
+
+    let pairs = [Pair { ancestor: ZONES[0], descendant: SAMPLES[1] }];
+    let place = Place::After { document: 5, first: 2, second: 8 };
+    let found = Ok(Found { pairs: &pairs, done: false });
+    assert_eq!(one_pair, Reply { found, ticket: Ticket { place, ..third.ticket } });
+    assert_eq!((replies.next(), replies.next()), (None, None));
+    assert_eq!((out.map(starts)[3], out[4]), ((2, 8), PAIR_PAINT));
+}
+
+/// Returns all pairs of each question, asked again and again with room for `room` pairs until each
+/// is done.
+fn asked_until_done(book: &[u8], mut questions: Vec<Question>, room: usize) -> Vec<Vec<Pair>> {
+    let mut out = vec![PAIR_PAINT; room];
+    let mut found = vec![Vec::new(); questions.len()];
+    loop {
+        let mut all_done = true;
+        let replies = ask(book, &questions, &mut out).expect("the questions are taken");
+        for ((reply, question), found) in replies.zip(&mut questions).zip(&mut found) {
+            let Found { pairs, done } = reply.found.expect("the book has both tags");
+            found.extend_from_slice(pairs);
+            question.ticket = reply.ticket;
+            all_done &= done;
+        }
+        if all_done {
+            return found;
+        }
+    }
+}
+
+#[test]
+fn questions_that_are_asked_until_done_have_the_pairs_of_their_listings() {
+    let book = include_bytes!("../../../examples/farm.book");
+    let (zones, samples) = sample_farm();
+    let each = [(0, 0), (0, 1), (1, 0), (1, 1)];
+    let tickets = each.map(|(relation, order)| Ticket::from_words([relation, order, 0, 0, 0, 0]));
+    let questions = tickets.map(|ticket| Question { ticket, ..all(2, 3) });
+    let listed = tickets.map(|Ticket { relation, order, .. }| {
+        listing(&zones, &samples, relation, order).expect("the farm is taken")
+    });
+    for room in 1..=100 {
+        assert_eq!(asked_until_done(book, questions.to_vec(), room), listed);
+    }
+}
+
+#[test]
+fn a_call_takes_from_no_question_to_32() {
+    let counts = |questions: usize, room: usize| {
+        let mut out = vec![PAIR_PAINT; room];
+        let replies = ask(BOOK, &vec![all(2, 3); questions], &mut out)?;
+        let counts = replies.map(|reply| reply.found.map(|found| found.pairs.len()));
+        counts.collect::<Result<Vec<_>, _>>()
+    };
+    assert_eq!(counts(0, 1), Ok(vec![]));
+    assert_eq!(counts(1, 3), Ok(vec![3]));
+    assert_eq!(counts(MOST_QUESTIONS, 3), Ok([&[3][..], &[0; MOST_QUESTIONS - 1]].concat()));
+    assert_eq!(counts(MOST_QUESTIONS, 100), Ok(vec![3; MOST_QUESTIONS]));
+    for too_many in [MOST_QUESTIONS + 1, MOST_QUESTIONS + 2, 1_000] {
+        let mut out = [PAIR_PAINT; 3];
+        let refused = ask(BOOK, &vec![all(2, 3); too_many], &mut out).map(|_| ());
+        assert_eq!((refused, out), (Err(refusal(Answer::Long)), [PAIR_PAINT; 3]));
+    }
+}
+
+#[test]
+fn each_question_is_refused_with_the_books_own_fault() {
+    let mut out = [PAIR_PAINT; 3];
+    let questions = three_questions();
+    let mut refused = |book: &[u8], wanted: Refusal| {
+        let replies = ask(book, &questions, &mut out).expect("three are taken");
+        let keeps = |(reply, asked): (Reply, Question)| {
+            reply == Reply { found: Err(wanted), ticket: asked.ticket }
+        };
+        assert_eq!(replies.len(), questions.len());
+        assert!(replies.zip(questions).all(keeps));
+        assert_eq!(out, [PAIR_PAINT; 3]);
+    };
+    refused(&BOOK[..91], refusal(Answer::Contents));
+    refused(&[], refusal(Answer::Contents));
+    let mut book = *BOOK;
+    book[60 + 16 + 4] = 4;
+    refused(&book, refusal_at(Answer::Order, 1, 1));
+    let at_odds = [ENTRIES[0], Entry { tag: 3, count: 1 }, Entry { tag: 4, count: 1 }];
+    let nodes = [&ZONES[..], &CROSSING, &CROSSING].concat();
+    let book = book_write(&at_odds, &nodes).expect("each list is taken alone");
+    refused(&book, refusal(Answer::Joint));
+}
+
+const NO_PAGE: raw::Page = raw::Page {
+    verdict: raw::Verdict { answer: 0, list: 0, index: 0 },
+    done: 0,
+    count: 0,
+    ticket: raw::Ticket { relation: 0, order: 0, placed: 0, document: 0, first: 0, second: 0 },
+};
+
+#[test]
+fn words_that_make_no_whole_questions_are_ragged_and_pages_after_the_last_are_zero() {
+    let question = [2, 3, 0, 9, 0, 71, 72, 73];
+    let [relation, order, placed, document, first, second] = [0, 9, 0, 71, 72, 73];
+    let ticket = raw::Ticket { relation, order, placed, document, first, second };
+    let words = question.repeat(MOST_QUESTIONS + 2);
+    let mut out = [9; 24];
+    for length in [1, 7, 9, 255, 257, 263, 264, 265] {
+        let answer = if length == 264 { Answer::Long } else { Answer::Ragged }.number();
+        let found = raw::ask(BOOK, &words[..length], &mut out);
+        assert_eq!((found.answer, found.questions, out), (answer, 0, [9; 24]));
+        let (refused, none) = found.pages.split_at((length / 8).min(MOST_QUESTIONS));
+        let verdict = raw::Verdict { answer, list: 0, index: 0 };
+        assert!(refused.iter().all(|page| *page == raw::Page { verdict, ticket, ..NO_PAGE }));
+        assert!(none.iter().all(|page| *page == NO_PAGE));
+    }
+    let found = raw::ask(BOOK, &words[..16], &mut out);
+    assert_eq!((found.answer, found.questions), (0, 2));
+    assert_eq!((found.pages[0].count, found.pages[1].count), (3, 0));
+    assert_eq!(found.pages[1], raw::Page { ticket, ..NO_PAGE });
+    assert_eq!(found.pages[2..], [NO_PAGE; 30]);
+}
+
+#[test]
+fn a_question_is_eight_words() {
+    let place = Place::After { document: 5, first: 0x0102_0304, second: u32::MAX };
+    let ticket = Ticket { relation: Relation::Directly, order: Order::Ancestor, place };
+    let question = Question { ancestors: 7, descendants: u32::MAX, ticket };
+    let both = [question, all(2, 3)].map(raw::Question::from);
+    let expected = [7, u32::MAX, 1, 1, 1, 5, 0x0102_0304, u32::MAX, 2, 3, 0, 0, 0, 0, 0, 0];
+    assert_eq!(words(&both), expected);
 }
 
 #[test]

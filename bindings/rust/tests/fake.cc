@@ -55,5 +55,8 @@ belfry_result belfry_book_write(const uint32_t *, size_t, const uint32_t *, size
                                 size_t) {
     return {refused, 0};
 }
+belfry_pages belfry_ask(const uint8_t *, size_t, const uint32_t *, size_t, uint32_t *, size_t) {
+    return {99, 0, {}};
+}
 void belfry_name(uint32_t, uint8_t[BELFRY_NAME_BYTES]) {}
 }

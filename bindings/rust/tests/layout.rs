@@ -1,7 +1,10 @@
 //! The structs of the C interface lie in Rust as they lie in C: sizes and places are those that
 //! tests/c/layout.c fixes and prints.
 
-use belfrychest::raw::{Body, Book, Page, Part, Range, Ticket, Unnumbered, Verdict, Written};
+use belfrychest::raw::{
+    Body, Book, Page, Pages, Part, Range, Ticket, Unnumbered, Verdict, Written,
+};
+use belfrychest::MOST_QUESTIONS;
 use std::mem::size_of;
 
 /// The lines of a struct: its size, and the place of each field or field of a field.
@@ -39,6 +42,8 @@ macro_rules! lines_with_verdict {
 
 const TICKET: Ticket =
     Ticket { relation: 0, order: 0, placed: 0, document: 0, first: 0, second: 0 };
+const PAGE: Page =
+    Page { verdict: Verdict { answer: 0, list: 0, index: 0 }, done: 0, count: 0, ticket: TICKET };
 
 #[test]
 fn structs_lie_as_in_c() {
@@ -47,6 +52,7 @@ fn structs_lie_as_in_c() {
         lines_with_verdict!("belfry_part", Part { from: 0, words: 0 }),
         places!("belfry_ticket", TICKET, Ticket, relation, order, placed, document, first, second),
         lines_with_verdict!("belfry_page", Page { done: 0, count: 0, ticket: TICKET }),
+        lines!("belfry_pages", Pages { answer: 0, questions: 0, pages: [PAGE; MOST_QUESTIONS] }),
         lines_with_verdict!("belfry_range", Range { present: 0, low: 0.0, high: 0.0 }),
         lines_with_verdict!("belfry_result", Written { count: 0 }),
         lines!("belfry_unnumbered", Unnumbered { answer: 0, document: 0, count: 0 }),

@@ -138,6 +138,23 @@ fn a_page_with_room_for_no_pair_is_refused() {
     let listing = |samples| Listing::new(&zones, samples, INSIDE, BY_SAMPLES, []).map(|_| ());
     assert_eq!(listing(&samples), Err(room));
     assert_eq!(listing(&[]), Err(room));
+    let asked = |questions: &[Question]| ask(&[], questions, &mut []).map(|_| ());
+    assert_eq!(asked(&[Question::fresh(2, 3, INSIDE, BY_SAMPLES)]), Err(room));
+    assert_eq!(asked(&[]), Err(room));
+}
+
+/// Tries a question to a list that the book doesn't have, between one whose list is empty and one
+/// with pairs. The first has no pairs, and the second is refused.
+#[test]
+fn a_refused_question_is_not_one_without_pairs() {
+    let lists = [(2, 1), (3, 1), (4, 0)].map(|(tag, count)| Entry { tag, count });
+    let book = book_write(&lists, &[node(2, 10, 2), node(4, 6, 4)]).expect("both are taken");
+    let questions = [4, 5, 3].map(|tag| Question::fresh(2, tag, INSIDE, BY_SAMPLES));
+    let mut out = [Pair::default(); 2];
+    let replies = ask(&book, &questions, &mut out).expect("three questions are taken");
+    let counts = replies.map(|reply| reply.found.map(|found| (found.pairs.len(), found.done)));
+    let absent = Err(refusal(Answer::Absent));
+    assert_eq!(counts.collect::<Vec<_>>(), [Ok((0, true)), absent, Ok((1, true))]);
 }
 
 /// Tries what was once sown at the sand's rate: a missing reading was taken for 0, and 0 was read
