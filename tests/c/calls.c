@@ -201,10 +201,15 @@ static void call_book(void) {
     expect("bytes", body.bytes, 32);
 }
 
+/* Writes the book of the zones and the samples, which the call above holds against its numbers. */
+static void write_book(uint8_t *book, size_t bytes) {
+    expect("count", belfry_book_write(entries, 4, nodes, 16, book, bytes).count, 92);
+}
+
 /* Gives the second sample of the book the first one's start: list 1, node 1 is out of order. */
 static void call_faulty_book(void) {
     uint8_t book[BELFRY_BOOK_BYTES(2, 4)];
-    expect("count", belfry_book_write(entries, 4, nodes, 16, book, sizeof book).count, 92);
+    write_book(book, sizeof book);
     book[60 + 16 + 4] = 4;
 
     belfry_book refused = belfry_book_check(book, 92);
@@ -215,6 +220,136 @@ static void call_faulty_book(void) {
     expect_verdict("belfry_book_body, refused", nowhere.verdict, BELFRY_ORDER, 1, 1);
     expect("from", nowhere.from, 0);
     expect("bytes", nowhere.bytes, 0);
+}
+
+/* Writes the words of questions into `out`, as they lie in their structs. */
+static void write_questions(const belfry_question *questions, size_t count, uint32_t *out) {
+    memcpy(out, questions, count * sizeof *questions);
+}
+
+static void expect_asked(const char *what, belfry_page found, belfry_page wanted) {
+    expect_verdict(what, found.verdict, wanted.verdict.answer, wanted.verdict.list,
+                   wanted.verdict.index);
+    expect("done", found.done, wanted.done);
+    expect("count", found.count, wanted.count);
+    expect_ticket(found.ticket, wanted.ticket);
+}
+
+/* Checks the answer of a whole call, and that the pages after the first ones are zero. */
+static void expect_whole(const char *what, const belfry_pages *found, uint32_t answer,
+                         uint32_t questions, size_t pages) {
+    const belfry_page zero = {{0, 0, 0}, 0, 0, {0, 0, 0, 0, 0, 0}};
+    printf("%s\n", what);
+    expect("the answer", found->answer, answer);
+    expect("questions", found->questions, questions);
+    for (size_t i = pages; i < BELFRY_MOST_QUESTIONS; i++)
+        expect("a page after the last question", memcmp(&found->pages[i], &zero, sizeof zero) == 0,
+               1);
+}
+
+/* The questions of the calls below: all pairs, a tag that isn't in the book, and the pairs directly
+ * inside in ancestor order, with an order of 9. */
+static const belfry_question asked[] = {{2, 3, {BELFRY_INSIDE, 0, BELFRY_FRESH, 71, 72, 73}},
+                                        {2, 4, {BELFRY_INSIDE, 9, BELFRY_PLACED, 5, 2, 8}},
+                                        {2, 3, {BELFRY_DIRECTLY, 9, BELFRY_FRESH, 0, 0, 0}}};
+
+/* Asks with room for all pairs of the first question, one pair of the third and seven words. The
+ * refused question between them takes no room. */
+static void call_ask(void) {
+    const uint32_t pairs[] = {5, 2, 10, 2, 5, 4, 6, 4, 5, 3, 7,  3, 5, 4, 6, 4,
+                              5, 2, 10, 2, 5, 8, 9, 3, 5, 2, 10, 2, 5, 8, 9, 3};
+    const belfry_page wanted[] = {{{BELFRY_TAKEN, 0, 0}, 1, 3, {0, 0, BELFRY_PLACED, 5, 8, 2}},
+                                  {{BELFRY_ABSENT, 0, 0}, 0, 0, asked[1].ticket},
+                                  {{BELFRY_TAKEN, 0, 0}, 0, 1, {1, 9, BELFRY_PLACED, 5, 2, 8}}};
+    uint32_t questions[3 * BELFRY_QUESTION_WORDS], out[MOST];
+    uint8_t book[BELFRY_BOOK_BYTES(2, 4)];
+    write_book(book, sizeof book);
+    write_questions(asked, 3, questions);
+    memset(out, PAINT, sizeof out);
+    const belfry_pages found = belfry_ask(book, 92, questions, 24, out, 39);
+    expect_whole("belfry_ask", &found, BELFRY_TAKEN, 3, 3);
+    for (size_t i = 0; i < 3; i++)
+        expect_asked("a page of belfry_ask", found.pages[i], wanted[i]);
+    expect_output(out, sizeof out, pairs, sizeof pairs);
+
+    const belfry_pages nothing = belfry_ask(book, 92, questions, 0, out, MOST);
+    expect_whole("belfry_ask, no question", &nothing, BELFRY_TAKEN, 0, 0);
+    expect_output(out, sizeof out, pairs, sizeof pairs);
+}
+
+/* Asks with a faulty book. Each question is refused with the book's answer. */
+static void ask_faulty_book(void) {
+    uint32_t questions[3 * BELFRY_QUESTION_WORDS], out[MOST];
+    uint8_t book[BELFRY_BOOK_BYTES(2, 4)];
+    write_book(book, sizeof book);
+    book[60 + 16 + 4] = 4;
+    write_questions(asked, 3, questions);
+    memset(out, PAINT, sizeof out);
+    const belfry_pages found = belfry_ask(book, 92, questions, 24, out, MOST);
+    expect_whole("belfry_ask, a faulty book", &found, BELFRY_TAKEN, 3, 3);
+    for (size_t i = 0; i < 3; i++) {
+        const belfry_page wanted = {{BELFRY_ORDER, 1, 1}, 0, 0, asked[i].ticket};
+        expect_asked("a page of belfry_ask, a faulty book", found.pages[i], wanted);
+    }
+    expect_output(out, sizeof out, out, 0);
+}
+
+/* Asks with this many words of 34 questions, for which the whole call is refused. Each whole
+ * question among the first 32 has a page with the answer and its own ticket. */
+static void ask_refused(size_t words, uint32_t answer, size_t pages) {
+    uint32_t questions[34 * BELFRY_QUESTION_WORDS], out[MOST];
+    uint8_t book[BELFRY_BOOK_BYTES(2, 4)];
+    write_book(book, sizeof book);
+    for (size_t i = 0; i < 34; i++)
+        write_questions(&asked[i % 3], 1, questions + BELFRY_QUESTION_WORDS * i);
+    memset(out, PAINT, sizeof out);
+    const belfry_pages found = belfry_ask(book, 92, questions, words, out, MOST);
+    expect_whole("belfry_ask, refused", &found, answer, 0, pages);
+    for (size_t i = 0; i < pages; i++) {
+        const belfry_page wanted = {{answer, 0, 0}, 0, 0, asked[i % 3].ticket};
+        expect_asked("a page of belfry_ask, refused", found.pages[i], wanted);
+    }
+    expect_output(out, sizeof out, out, 0);
+}
+
+/* Asks as many questions as a call takes, each with the room that is left: the first one takes
+ * all. */
+static void ask_most(void) {
+    const uint32_t pairs[] = {5, 2, 10, 2, 5, 4, 6,  4, 5, 3, 7, 3,
+                              5, 4, 6,  4, 5, 2, 10, 2, 5, 8, 9, 3};
+    uint32_t questions[BELFRY_MOST_QUESTIONS * BELFRY_QUESTION_WORDS], out[MOST];
+    uint8_t book[BELFRY_BOOK_BYTES(2, 4)];
+    write_book(book, sizeof book);
+    for (size_t i = 0; i < BELFRY_MOST_QUESTIONS; i++)
+        write_questions(&asked[0], 1, questions + BELFRY_QUESTION_WORDS * i);
+    memset(out, PAINT, sizeof out);
+    const belfry_pages found = belfry_ask(book, 92, questions, COUNT(questions), out, 24);
+    expect_whole("belfry_ask, 32 questions", &found, BELFRY_TAKEN, 32, 32);
+    for (size_t i = 0; i < BELFRY_MOST_QUESTIONS; i++) {
+        const belfry_page first = {{BELFRY_TAKEN, 0, 0}, 1, 3, {0, 0, BELFRY_PLACED, 5, 8, 2}};
+        const belfry_page other = {{BELFRY_TAKEN, 0, 0}, 0, 0, asked[0].ticket};
+        expect_asked("a page of 32", found.pages[i], i == 0 ? first : other);
+    }
+    expect_output(out, sizeof out, pairs, sizeof pairs);
+}
+
+static void call_refused_asks(void) {
+    ask_refused(33 * BELFRY_QUESTION_WORDS, BELFRY_LONG, 32);
+    ask_refused(33 * BELFRY_QUESTION_WORDS - 1, BELFRY_RAGGED, 32);
+    ask_refused(33 * BELFRY_QUESTION_WORDS + 1, BELFRY_RAGGED, 32);
+    ask_refused(32 * BELFRY_QUESTION_WORDS - 1, BELFRY_RAGGED, 31);
+    ask_refused(3 * BELFRY_QUESTION_WORDS + 1, BELFRY_RAGGED, 3);
+    ask_refused(BELFRY_QUESTION_WORDS - 1, BELFRY_RAGGED, 0);
+}
+
+/* Makes a question by BELFRY_QUESTION, which must have the tags and the ticket asked for. */
+static void make_question(void) {
+    const belfry_ticket fresh = {BELFRY_DIRECTLY, BELFRY_DESCENDANT_ORDER, BELFRY_FRESH, 0, 0, 0};
+    const belfry_question made = BELFRY_QUESTION(2, 3, BELFRY_DIRECTLY, BELFRY_DESCENDANT_ORDER);
+    printf("BELFRY_QUESTION\n");
+    expect("ancestors", made.ancestors, 2);
+    expect("descendants", made.descendants, 3);
+    expect_ticket(made.ticket, fresh);
 }
 
 static void call_name(void) {
@@ -238,6 +373,11 @@ int main(void) {
     call_links();
     call_book();
     call_faulty_book();
+    make_question();
+    call_ask();
+    ask_faulty_book();
+    ask_most();
+    call_refused_asks();
     call_name();
     return differing;
 }

@@ -40,6 +40,10 @@ static const place answers[] = {
     FIELD(belfry_page, done, 12),
     FIELD(belfry_page, count, 16),
     FIELD(belfry_page, ticket, 24),
+    SIZE(belfry_pages, 1544),
+    FIELD(belfry_pages, answer, 0),
+    FIELD(belfry_pages, questions, 4),
+    FIELD(belfry_pages, pages, 8),
     SIZE(belfry_range, 24),
     VERDICT(belfry_range),
     FIELD(belfry_range, present, 12),
@@ -92,6 +96,10 @@ static const place words[] = {
     FIELD(belfry_subtotal, present, 4),
     FIELD(belfry_subtotal, sum, 8),
     SIZE(belfry_ticket, BELFRY_TICKET_WORDS * sizeof(uint32_t)),
+    SIZE(belfry_question, BELFRY_QUESTION_WORDS * sizeof(uint32_t)),
+    FIELD(belfry_question, ancestors, 0),
+    FIELD(belfry_question, descendants, 4),
+    FIELD(belfry_question, ticket, 8),
 };
 
 /* Says whether the places of a table are those that are fixed. */

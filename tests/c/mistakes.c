@@ -117,11 +117,41 @@ static void give_null_books(void) {
            BELFRY_TICKET_OTHER_LENGTH);
 }
 
+static belfry_question all_pairs(uint32_t ancestors, uint32_t descendants) {
+    return BELFRY_QUESTION(ancestors, descendants, BELFRY_INSIDE, BELFRY_DESCENDANT_ORDER);
+}
+
+/* Writes a book of the zones, tag 2, and the samples, tag 3. */
+enum { BYTES = BELFRY_BOOK_BYTES(2, 8) };
+static void write_farm(uint8_t *book) {
+    const belfry_entry entries[] = {{2, 4}, {3, 4}};
+    belfry_node nodes[8];
+    memcpy(nodes, zones, sizeof zones);
+    memcpy(nodes + 4, samples, sizeof samples);
+    expect("the book", belfry_write_nodes(entries, 2, nodes, 8, book, BYTES).count, BYTES);
+}
+
+/* Gives null with a count of 0 to the call of questions. */
+static void give_null_questions(void) {
+    const belfry_question question = all_pairs(2, 3);
+    uint8_t book[BYTES];
+    write_farm(book);
+    const belfry_pages nothing = belfry_ask_pairs(NULL, 0, NULL, 0, NULL, 0);
+    expect("belfry_ask_pairs", nothing.answer, BELFRY_TAKEN);
+    expect("belfry_ask_pairs, the questions", nothing.questions, 0);
+    expect_verdict("belfry_ask_pairs, no book",
+                   belfry_ask_pairs(NULL, 0, &question, 1, NULL, 0).pages[0].verdict,
+                   BELFRY_CONTENTS, 0, 0);
+    expect_page("belfry_ask_pairs, no output",
+                belfry_ask_pairs(book, BYTES, &question, 1, NULL, 0).pages[0], 0, 0);
+}
+
 static void give_null(void) {
     give_null_lists();
     give_null_readings();
     give_null_tables();
     give_null_books();
+    give_null_questions();
 }
 
 /* Counts whose words can't be counted: multiplied as they are, they come out as 0 to 4 words, and
@@ -187,9 +217,30 @@ static void overflow_rooms(void) {
            4);
 }
 
+/* Questions and rooms for pairs whose words can't be counted. The first 32 questions are there,
+ * since each has a page. */
+static void overflow_questions(void) {
+    belfry_question questions[BELFRY_MOST_QUESTIONS];
+    belfry_pair pairs[ALL_PAIRS];
+    uint8_t book[BYTES];
+    write_farm(book);
+    for (size_t i = 0; i < BELFRY_MOST_QUESTIONS; i++)
+        questions[i] = all_pairs(2, 3);
+    expect("belfry_ask_pairs, the questions",
+           belfry_ask_pairs(book, BYTES, questions, SIZE_MAX / BELFRY_QUESTION_WORDS + 1, pairs,
+                            ALL_PAIRS)
+               .answer,
+           BELFRY_LONG);
+    expect_page("belfry_ask_pairs, the room",
+                belfry_ask_pairs(book, BYTES, questions, 1, pairs, SIZE_MAX / BELFRY_PAIR_WORDS + 1)
+                    .pages[0],
+                1, ALL_PAIRS);
+}
+
 static void overflow(void) {
     overflow_inputs();
     overflow_rooms();
+    overflow_questions();
 }
 
 /* Gives room for no pair. Nothing is handed out, and the call isn't done while a pair remains,
@@ -262,6 +313,49 @@ static void lend_zero_for_missing(void) {
     expect_sheet(zeros, of_zeros);
 }
 
+/* Takes a refused question for one without pairs. Its count is 0 too, and only its verdict tells
+ * the two apart. A page after the last question looks like a question that was taken and isn't
+ * done, so a loop until all 32 are done would never end. */
+static void take_refused_for_empty(void) {
+    const belfry_question questions[] = {all_pairs(2, 4), all_pairs(3, 2), all_pairs(2, 3)};
+    belfry_pair out[ROOM];
+    uint8_t book[BYTES];
+    write_farm(book);
+    const belfry_pages found = belfry_ask_pairs(book, BYTES, questions, 3, out, ROOM);
+    expect("the answer of the whole call", found.answer, BELFRY_TAKEN);
+    expect("questions", found.questions, 3);
+    expect_verdict("a refused question", found.pages[0].verdict, BELFRY_ABSENT, 0, 0);
+    expect("done", found.pages[0].done, 0);
+    expect("count", found.pages[0].count, 0);
+    expect_page("a question without pairs", found.pages[1], 1, 0);
+    expect_page("a question with pairs", found.pages[2], 1, ALL_PAIRS);
+    expect_page("a page after the last question", found.pages[3], 0, 0);
+}
+
+/* Looks for the pairs of the second question where a question with all the room would have them.
+ * They come right after those of the first. */
+static void look_for_pairs_elsewhere(void) {
+    belfry_question questions[] = {all_pairs(2, 2), all_pairs(2, 3)};
+    belfry_pair out[ROOM];
+    uint8_t book[BYTES];
+    write_farm(book);
+    belfry_pages found = belfry_ask_pairs(book, BYTES, questions, 2, out, ALL_PAIRS);
+    expect_page("zones in zones", found.pages[0], 1, 4);
+    expect_page("as many pairs as there is room for", found.pages[1], 0, ALL_PAIRS - 4);
+    expect("the first pair of the second question", out[4].descendant.start, samples[0].start);
+    for (size_t i = 0; i < 2; i++)
+        questions[i].ticket = found.pages[i].ticket;
+    found = belfry_ask_pairs(book, BYTES, questions, 2, out, ALL_PAIRS);
+    expect_page("zones in zones, again", found.pages[0], 1, 0);
+    expect_page("the rest", found.pages[1], 1, 4);
+    expect("the first pair of the rest", out[0].descendant.start, samples[1].start);
+}
+
+static void ask_by_mistake(void) {
+    take_refused_for_empty();
+    look_for_pairs_elsewhere();
+}
+
 /* Checks that bytes which aren't a ticket of this form are refused, and that the caller's ticket
  * stays as it was. */
 static void refuse_bytes(const uint8_t *stored, size_t bytes, belfry_ticket_fault fault) {
@@ -326,6 +420,7 @@ static const struct {
     {"room", give_no_room},
     {"missing", take_missing_for_zero},
     {"sheet", lend_zero_for_missing},
+    {"question", ask_by_mistake},
     {"ticket", store_ticket},
     {"name", print_name},
 };

@@ -1,6 +1,6 @@
 /* Holds each call of nodes against the call of words that it stands on. With n nodes it answers and
- * writes what the other does with 4 * n words, and so with rows, links, entries and pairs. Every
- * number of nodes is tried, from none up to lists that are refused. */
+ * writes what the other does with 4 * n words, and so with rows, links, entries, pairs and
+ * questions. Every number of nodes is tried, from none up to lists that are refused. */
 #include "expect.h"
 
 enum { ROOM = 8 };
@@ -220,6 +220,39 @@ static void read_book(void) {
     expect_output(out, sizeof out, stored, 0);
 }
 
+/* Asks with room for some pairs. The tag 4 isn't in the book. */
+static void ask_both(const uint8_t *book, size_t bytes, size_t count, size_t room) {
+    const belfry_question questions[] = {
+        BELFRY_QUESTION(2, 9, BELFRY_INSIDE, BELFRY_DESCENDANT_ORDER),
+        BELFRY_QUESTION(4, 9, BELFRY_INSIDE, BELFRY_DESCENDANT_ORDER),
+        BELFRY_QUESTION(2, 9, BELFRY_DIRECTLY, BELFRY_ANCESTOR_ORDER),
+        BELFRY_QUESTION(2, 3, BELFRY_INSIDE, BELFRY_ANCESTOR_ORDER)};
+    uint32_t question_words[COUNT(questions) * BELFRY_QUESTION_WORDS];
+    belfry_pair out[ROOM];
+    memcpy(question_words, questions, sizeof question_words);
+    paint();
+    memset(out, PAINT, sizeof out);
+    const belfry_pages words =
+        belfry_ask(book, bytes, question_words, BELFRY_QUESTION_WORDS * count, by_words,
+                   BELFRY_PAIR_WORDS * room);
+    const belfry_pages pairs = belfry_ask_pairs(book, bytes, questions, count, out, room);
+    printf("belfry_ask_pairs\n");
+    expect_output(&pairs, sizeof pairs, &words, sizeof words);
+    expect_output(out, sizeof out, by_words, sizeof out);
+}
+
+/* Tries each number of questions, with enough room and with too little, and with a cut book. */
+static void try_questions(void) {
+    uint8_t book[BELFRY_BOOK_BYTES(COUNT(entries), COUNT(stored))];
+    const size_t bytes = write_book(COUNT(entries), COUNT(stored), book, sizeof book);
+    for (size_t count = 0; count <= 4; count++) {
+        ask_both(book, bytes, count, ROOM);
+        ask_both(book, bytes, count, 3);
+        ask_both(book, bytes, count, 0);
+        ask_both(book, bytes - 1, count, ROOM);
+    }
+}
+
 /* Tries each number of zones with each of samples. */
 static void try_lists(void) {
     for (size_t i = 0; i < (COUNT(zones) + 1) * (COUNT(samples) + 1); i++) {
@@ -269,5 +302,6 @@ int main(void) {
     try_counts();
     try_books();
     read_book();
+    try_questions();
     return differing;
 }

@@ -11,10 +11,10 @@ import csv
 import sys
 
 import stored
-from figure_books import S, Z
+from figure_books import FIGURE, S, Z
 from scope import (
-    ANSWER, GRAMS, MISSING, MOST, NO_HUNDREDTHS, bits_of, check_list, check_two, check_words, cut,
-    flat, float_of, listing, page, pair_lines, sheet, zone_range,
+    ANSWER, GRAMS, MISSING, MOST, NO_HUNDREDTHS, ask, bits_of, check_list, check_two, check_words,
+    cut, flat, float_of, listing, page, pair_lines, sheet, zone_range,
 )
 
 FRESH = ("inside", "descendant", ())
@@ -60,6 +60,26 @@ def subtotals():
     lines = ["field {} zone {}-{}: ".format(*zone)
              + "Subtotal(samples={}, present={}, sum={})\n".format(*row)
              for zone, row in zip(zones, rows)]
+    return "".join(lines)
+
+
+# bindings/python/questions.py, the program of several questions in one call.
+
+def reply_line(name, answer, pairs):
+    """Returns the line of a question."""
+    if answer != "TAKEN":
+        return f"{name}: refused {answer}\n"
+    return f"{name}: " + ", ".join(f"{x[1]} holds {y[1]}" for x, y in pairs) + "\n"
+
+
+def replies():
+    """Returns the replies of the figure's book, which has no list under tag 4."""
+    questions = {
+        "samples": (2, 3, FRESH), "wells": (2, 4, FRESH),
+        "samples directly inside": (2, 3, ("directly", *FRESH[1:])),
+    }
+    _, found = ask(FIGURE, list(questions.values()), MOST)
+    lines = [reply_line(name, reply[0], reply[3]) for name, reply in zip(questions, found)]
     return "".join(lines)
 
 
@@ -198,6 +218,7 @@ def files():
         "bindings/python/first.out": first(),
         "bindings/python/readings.out": ranges(),
         "bindings/python/sheet.out": subtotals(),
+        "bindings/python/questions.out": replies(),
         "examples/cab.out": cab(),
         "examples/model.out": rates(),
         "crates/figures_run/stdout": lengths(),

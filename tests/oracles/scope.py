@@ -14,6 +14,7 @@ ANSWER = {name: number for number, name in enumerate(NAMES)}
 MOST = 4096
 MOST_LEVEL = 64
 MOST_LISTS = 16
+MOST_QUESTIONS = 32
 MOST_INPUT = 61440
 TEXT = 65536
 NONE = 4294967295
@@ -351,6 +352,34 @@ def write(entries, words):
     bodies = [nodes[sum(counts[:k]):sum(counts[:k + 1])] for k in range(len(counts))]
     verdict = check_bodies(bodies)
     return *verdict, book(*zip(tags, bodies)) if verdict[0] == "TAKEN" else b""
+
+
+# Several questions to one book. A question is the tag of the ancestors, that of the descendants and
+# a ticket.
+
+def reply(b, question, room):
+    """Returns the answer, the list, the index, the pairs, whether it is done, and the ticket."""
+    ancestors, descendants, ticket = question
+    *verdict, entries = read(b)
+    lists = {entry[0]: nodes_of(b, entry) for entry in entries}
+    if verdict[0] == "TAKEN" and not {ancestors, descendants} <= set(lists):
+        verdict = "ABSENT", 0, 0
+    if verdict[0] == "TAKEN" and at_odds(lists[ancestors], lists[descendants]):
+        verdict = "JOINT", 0, 0
+    if verdict[0] != "TAKEN":
+        return *verdict, [], False, ticket
+    return *verdict, *page(listing(lists[ancestors], lists[descendants], *ticket[:2]), ticket, room)
+
+
+def ask(b, questions, room):
+    """Returns the answer of the whole call and the replies, each with the room that is left."""
+    if len(questions) > MOST_QUESTIONS:
+        return "LONG", []
+    replies = []
+    for question in questions:
+        replies.append(reply(b, question, room))
+        room -= len(replies[-1][3])
+    return "TAKEN", replies
 
 
 def refused(name):

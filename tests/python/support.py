@@ -75,6 +75,12 @@ def listing(ancestors, descendants, relation, order):
     return model.listing(ancestors, descendants, relation.name.lower(), order.name.lower())
 
 
+def in_model(given):
+    """Returns a ticket as the model has it."""
+    place = (given.document, given.first, given.second) if given.placed else ()
+    return given.relation.name.lower(), given.order.name.lower(), place
+
+
 def two_lists(ancestors, descendants):
     answer, number, index = model.check_two(words(ancestors), words(descendants))
     placed = Answer.LEVEL <= Answer[answer] <= Answer.DEPTH

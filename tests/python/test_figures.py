@@ -11,8 +11,8 @@ from support import (
 
 import belfrychest as belfry
 from belfrychest import (
-    HINTS, NO_HUNDREDTHS, NONE, Answer, Grams, Node, Order, Page, Percent, Range, Refused,
-    Relation, Subtotal, Ticket, Verdict,
+    HINTS, MOST_QUESTIONS, NO_HUNDREDTHS, NONE, Answer, Grams, Node, Order, Page, Percent, Question,
+    Range, Refused, Relation, Reply, Subtotal, Ticket, Verdict,
 )
 
 
@@ -21,6 +21,10 @@ def page_of(ancestors, descendants, given, room):
     out = painted(8 * room)
     page = belfry.page(ancestors, descendants, given, out)
     return starts(belfry.node_pairs(out[:8 * page.count])), page.done, page.ticket
+
+
+TAKEN = Verdict(Answer.TAKEN)
+QUESTIONS = array("I", [2, 3, 0, 0, 0, 0, 0, 0, 2, 4, 0, 1, 1, 5, 2, 8, 2, 3, 1, 1, 0, 0, 0, 0])
 
 
 class Figures(unittest.TestCase):
@@ -144,6 +148,46 @@ class Figures(unittest.TestCase):
         self.assertEqual((zones.tolist(), samples.tolist()), (Z.tolist(), S.tolist()))
         self.assertEqual(starts(belfry.pairs(zones, samples)), [(2, 4), (3, 4), (2, 8)])
 
+    def test_questions_share_the_room_and_a_refused_one_takes_none(self):
+        placed = ticket(0, 1, 1, 5, 2, 8)
+        questions = [Question(2, 3), Question(2, 4, placed), Question(2, 3, ticket(1, 1))]
+        for given in (questions, iter(questions), tuple(questions), QUESTIONS,
+                      memoryview(QUESTIONS).toreadonly()):
+            first, second, third = belfry.ask(BOOK, given, room=4)
+            self.assertEqual(starts(first.pairs), [(2, 4), (3, 4), (2, 8)])
+            self.assertEqual((first.verdict, first.done), (TAKEN, True))
+            self.assertEqual(first.ticket, ticket(0, 0, 1, 5, 8, 2))
+            self.assertEqual(second, Reply(Verdict(Answer.ABSENT), None, False, placed))
+            pair = (Node(5, 2, 10, 2), Node(5, 8, 9, 3))
+            self.assertEqual(third, Reply(TAKEN, [pair], False, ticket(1, 1, 1, 5, 2, 8)))
+
+    def test_the_number_of_questions(self):
+        [reply] = belfry.ask(BOOK, [Question(2, 3)])
+        for count in (0, 1, 2, MOST_QUESTIONS):
+            questions = [Question(2, 3)] * count
+            self.assertEqual(belfry.ask(BOOK, questions), [reply] * count)
+            replies = belfry.ask(BOOK, questions, room=3)
+            self.assertEqual([len(reply.pairs) for reply in replies], ([3] + [0] * count)[:count])
+            self.assertEqual([reply.done for reply in replies], ([True] + [False] * count)[:count])
+
+    def test_a_fault_of_the_book_refuses_each_question(self):
+        asked = [Question(2, 3), Question(2, 9, ticket(1, 0, 1, 5, 4, 3))]
+        for book, verdict in (
+            (BOOK[:-1], Verdict(Answer.CONTENTS)), (b"", Verdict(Answer.CONTENTS)),
+            (figure_books.CASES["third-list-faulty"], Verdict(Answer.ORDER, 2, 2)),
+            (figure_books.CASES["span"], Verdict(Answer.SPAN, 1, 1)),
+        ):
+            expected = [Reply(verdict, None, False, question.ticket) for question in asked]
+            self.assertEqual(belfry.ask(book, asked), expected)
+
+    def test_lists_at_odds_refuse_their_question_alone(self):
+        book = belfry.write_book({2: Z, 3: S, 4: in_five((4, 12, 2))})
+        replies = belfry.ask(book, [Question(2, 4), Question(4, 4), Question(2, 3)])
+        self.assertEqual([reply.verdict.answer.name for reply in replies],
+                         ["JOINT", "TAKEN", "TAKEN"])
+        self.assertEqual([reply.pairs and starts(reply.pairs) for reply in replies],
+                         [None, [], [(2, 4), (3, 4), (2, 8)]])
+
     def test_an_empty_body_is_an_empty_list(self):
         book = belfry.book_write(array("I", [2, 0, 9, 2]), S)
         zones, samples = belfry.book_body(book, 2), belfry.book_body(book, 9)
@@ -222,6 +266,7 @@ CROSSED = in_five((1, 5, 1), (5, 7, 2))
 TOO_DEEP = in_five((1, 9, 3), (2, 3, 3))
 LONG = words(figure_books.siblings(4097, 0))
 GOOD = [Percent(4.5), Grams(38.0)]
+MANY = [Question(2, 3)] * (MOST_QUESTIONS + 1)
 REFUSALS = [
     (lambda: belfry.check(array("I", bytes(4 * 16385))), Answer.RAGGED, None, None),
     (lambda: belfry.check_two(Z[:3], Z), Answer.RAGGED, 0, None),
@@ -284,6 +329,11 @@ REFUSALS = [
     (lambda: belfry.book_body(b"", 2), Answer.CONTENTS, None, None),
     (lambda: belfry.book_body(figure_books.CASES["span"], 2), Answer.SPAN, 1, 1),
     (lambda: belfry.book_body(BOOK, 4), Answer.ABSENT, None, None),
+    (lambda: belfry.ask(BOOK, MANY), Answer.LONG, None, None),
+    (lambda: belfry.ask(b"", MANY * 30), Answer.LONG, None, None),
+    (lambda: belfry.ask(BOOK, QUESTIONS[1:]), Answer.RAGGED, None, None),
+    (lambda: belfry.ask(b"", QUESTIONS[:7]), Answer.RAGGED, None, None),
+    (lambda: belfry.ask(BOOK, QUESTIONS * 11 + QUESTIONS[:1]), Answer.RAGGED, None, None),
     (lambda: belfry.book_write(array("I", [2, 2, 3]), Z), Answer.RAGGED, None, None),
     (lambda: belfry.book_write(array("I", [2, 2, 3, 3]), Z + S), Answer.CONTENTS, None, None),
     (lambda: belfry.book_write(ENTRIES, Z + S[4:] + S[:4]), Answer.ORDER, 1, 1),

@@ -13,7 +13,7 @@ from support import (
 )
 
 import belfrychest as belfry
-from belfrychest import NONE, Page, Refused
+from belfrychest import NONE, Page, Question, Refused
 from belfrychest import _archive, _memory
 
 try:
@@ -63,6 +63,8 @@ if numpy:
 READINGS = belfry.reading_words([belfry.Percent(4.5), belfry.Grams(1000.0)])
 HUNDREDTHS = array("I", [belfry.NO_HUNDREDTHS, belfry.MOST_HUNDREDTHS])
 SHEET = [(2, 1, 10000), (1, 0, 0)]
+QUESTIONS = array("I", [2, 3, 0, 0, 0, 0, 0, 0, 2, 4, 0, 0, 0, 0, 0, 0])
+REPLIES = belfry.ask(BOOK, [Question(2, 3), Question(2, 4)])
 EMPTY = [
     array("I"), memoryview(array("I")), memoryview(b"").cast("I"),
     memoryview(bytearray()).cast("I"), (ctypes.c_uint32 * 0)(),
@@ -100,6 +102,7 @@ class Memory(unittest.TestCase):
             with self.subTest(kind=type(book)):
                 self.assertEqual(belfry.book_check(book), 2)
                 self.assertEqual(belfry.book_body(book, 3).tolist(), S.tolist())
+                self.assertEqual(belfry.ask(book, QUESTIONS), REPLIES)
                 lists = belfry.book_lists(book)
                 self.assertEqual([(tag, part.tolist()) for tag, part in lists.items()],
                                  [(2, Z.tolist()), (3, S.tolist())])
@@ -115,6 +118,7 @@ class Memory(unittest.TestCase):
                 self.assertEqual(belfry.sheet(Z, nothing, nothing), [(0, 0, 0)] * 2)
                 self.assertEqual(belfry.sheet_into(nothing, nothing, nothing, painted(0)), 0)
                 self.assertEqual(belfry.book_write(nothing, nothing), bytes(4))
+                self.assertEqual(belfry.ask(BOOK, nothing), [])
                 page = belfry.page(nothing, nothing, INSIDE, painted(8))
                 self.assertEqual(page, Page(0, True, INSIDE))
                 self.assertRaisesRegex(Refused, "UNCLOSED", belfry.number, 5, nothing)
@@ -124,6 +128,7 @@ class Memory(unittest.TestCase):
                                      (False, 0, lent.address))
         for nothing in (b"", bytearray(), memoryview(b""), array("B")):
             self.assertRaisesRegex(Refused, "CONTENTS", belfry.book_check, nothing)
+            self.assertEqual(belfry.ask(nothing, QUESTIONS[:8])[0].verdict.answer.name, "CONTENTS")
 
     def test_an_empty_list_in_rows(self):
         """Reads what numpy returns for the nodes that a mask leaves, where it leaves none."""
@@ -227,6 +232,7 @@ class Shapes(unittest.TestCase):
         found = belfry.sheet_into(Z, S, shaped(HUNDREDTHS.tolist(), 1), subtotals)
         self.assertEqual((found, list(belfry.subtotals(subtotals))), (2, SHEET))
         self.assertEqual(belfry.number(5, shaped(MARKS.tolist(), 1)), TABLE)
+        self.assertEqual(belfry.ask(BOOK, shaped(QUESTIONS.tolist(), 8)), REPLIES)
         self.assertEqual(belfry.book_write(shaped(ENTRIES.tolist(), 2), Z + S), BOOK)
         found = list(belfry.node_links(shaped(links.tolist(), 3)))
         self.assertEqual(found, list(belfry.node_links(links)))
@@ -244,6 +250,7 @@ class Shapes(unittest.TestCase):
             (lambda: belfry.links_into(Z, wrong), "3, the numbers of a link"),
             (lambda: belfry.book_write(wrong, Z), "2, the numbers of an entry"),
             (lambda: belfry.number(5, wrong), "1, the numbers of a mark"),
+            (lambda: belfry.ask(BOOK, wrong), "8, the numbers of a question"),
             (lambda: belfry.write_book({2: wrong}), "4, the numbers of a node"),
         ):
             with self.subTest(item=item), self.assertRaisesRegex(ValueError, f"{item}, and not 6"):
@@ -293,6 +300,9 @@ WRONG = {
     "hundredths": [wrong for wrong in WRONG_WORDS if type(wrong[0]) is not list] + [
         ([1.0, 2], TypeError), ([1, "2"], TypeError), ([1, -1], ValueError),
         ([1 << 32, 2], ValueError)],
+    "questions": [wrong for wrong in WRONG_WORDS if type(wrong[0]) is not list] + [
+        ([Question(2, 3), None], TypeError), ([(2, 3, INSIDE)], TypeError), ([2, 3], TypeError),
+        ([QUESTIONS], TypeError)],
     "book": WRONG_BYTES,
     "out bytes": WRONG_BYTES + [(bytes(100), TypeError)],
     "number": [(-1, ValueError), (1 << 32, ValueError), (1.0, TypeError), ("2", TypeError),
@@ -325,6 +335,9 @@ CALLS = [
     (belfry.links, [("words", Z)]), (belfry.links_into, [("words", Z), ("out", painted(6))]),
     (belfry.book_check, [("book", BOOK)]), (belfry.book_body, [("book", BOOK), ("number", 2)]),
     (belfry.book_lists, [("book", BOOK)]),
+    (belfry.ask, [("book", BOOK), ("questions", QUESTIONS)]),
+    (belfry.ask, [("book", BOOK), ("questions", [Question(2, 3)])]),
+    (Question, [("number", 2), ("number", 3), ("ticket", INSIDE)]),
     (belfry.book_write, [("words", ENTRIES), ("words", Z + S)]),
     (belfry.book_write_into, [("words", ENTRIES), ("words", Z + S), ("out bytes", bytearray(92))]),
     (lambda tag, nodes: belfry.write_book({tag: nodes}), [("number", 2), ("words", Z)]),
@@ -394,6 +407,8 @@ class WrongArguments(unittest.TestCase):
         book = belfry.book_write(array("I", [NONE, 2]), S)
         self.assertEqual(belfry.book_body(book, NONE).tolist(), S.tolist())
         self.assertEqual(list(belfry.book_lists(book)), [NONE])
+        [reply] = belfry.ask(book, [Question(NONE, NONE)])
+        self.assertEqual((reply.pairs, reply.done), ([], True))
 
 
 if __name__ == "__main__":

@@ -5,11 +5,12 @@ from collections import OrderedDict, deque
 from inspect import signature
 from types import MappingProxyType
 
-from support import INSIDE, S, Z, painted, starts, ticket, words
+from support import BOOK, INSIDE, S, Z, painted, starts, ticket, words
 
 import belfrychest as belfry
 from belfrychest import (
-    NO_HUNDREDTHS, Answer, Grams, Order, Percent, Pieces, Refused, Relation, Ticket, Verdict,
+    NO_HUNDREDTHS, Answer, Grams, Order, Percent, Pieces, Question, Refused, Relation, Ticket,
+    Verdict,
 )
 
 
@@ -25,6 +26,7 @@ class TheOrderGivenAsTheRelation(unittest.TestCase):
             lambda: Ticket(Relation.INSIDE, Order.ANCESTOR),
             lambda: Pieces(Z, S).pairs(Order.ANCESTOR),
             lambda: Pieces(Z, S).listing(Order.ANCESTOR),
+            lambda: belfry.ask(BOOK, [Question(2, 3)], 4096),
         ):
             with self.assertRaisesRegex(TypeError, "positional argument"):
                 call()
@@ -252,6 +254,60 @@ class AMissingReadingCountedInASheet(unittest.TestCase):
             self.assertEqual(belfry.sheet(Z, S, given), [(2, 2, 830), (1, 1, 450)])
 
 
+class ARefusedQuestionTakenForOneWithoutPairs(unittest.TestCase):
+    """Nobody knows which pairs a list has that isn't in the book. An empty list would say none."""
+
+    def test_its_pairs_are_none_and_it_is_not_done(self):
+        book = belfry.write_book({2: Z, 3: S, 4: array("I")})
+        without, refused, found = belfry.ask(book, [Question(2, tag) for tag in (4, 5, 3)])
+        self.assertEqual((without.pairs, without.done), ([], True))
+        self.assertEqual((refused.pairs, refused.done), (None, False))
+        self.assertEqual(refused.verdict, Verdict(Answer.ABSENT))
+        self.assertEqual(len(found.pairs), 3)
+
+    def test_a_loop_over_its_pairs_is_an_error(self):
+        [refused] = belfry.ask(BOOK, [Question(2, 5)])
+        with self.assertRaises(TypeError):
+            list(refused.pairs)
+
+
+class WhatIsNoQuestion(unittest.TestCase):
+    def test_questions_without_an_order_are_an_error(self):
+        by_name = {"samples": Question(2, 3), "zones": Question(2, 2)}
+        for given in (set(by_name.values()), frozenset(), by_name, by_name.keys(), {}):
+            message = f"^questions must come in an order, not as {type(given).__name__}$"
+            with self.subTest(given=given), self.assertRaisesRegex(TypeError, message):
+                belfry.ask(BOOK, given)
+        for given in (by_name.values(), deque(by_name.values()), iter(by_name.values())):
+            counts = [len(reply.pairs) for reply in belfry.ask(BOOK, given)]
+            self.assertEqual(counts, [3, 1])
+
+    def test_a_lone_question_is_an_error(self):
+        for given in (Question(2, 3), None, 2):
+            with self.assertRaisesRegex(TypeError, "^questions must be a list of Question, or a "):
+                belfry.ask(BOOK, given)
+
+    def test_tags_alone_are_no_question(self):
+        for given in ((2, 3), (2, 3, INSIDE), 2, None, "23", INSIDE):
+            message = "^question 1 must be of the type Question, not "
+            with self.subTest(given=given), self.assertRaisesRegex(TypeError, message):
+                belfry.ask(BOOK, [Question(2, 3), given])
+
+    def test_a_relation_or_an_order_is_no_ticket(self):
+        for given in (Relation.DIRECTLY, Order.ANCESTOR, None, 1):
+            message = "^ticket must be of the type Ticket, not "
+            with self.subTest(given=given), self.assertRaisesRegex(TypeError, message):
+                Question(2, 3, given)
+
+    def test_a_tag_that_is_no_word_is_an_error(self):
+        for what, tags in (("ancestors", (-1, 3)), ("descendants", (2, 2 ** 32))):
+            with self.assertRaisesRegex(ValueError, f"^{what} must be from 0 to 4294967295, not "):
+                Question(*tags)
+
+    def test_a_fresh_ticket_unless_another_is_given(self):
+        self.assertEqual(Question(2, 3), Question(2, 3, INSIDE))
+
+
 class APageWithRoomForNoPair(unittest.TestCase):
     """Such a page is never done while a pair remains, so a loop "until done" didn't end."""
 
@@ -270,11 +326,13 @@ class APageWithRoomForNoPair(unittest.TestCase):
         for room in (0, -1):
             self.assertRaisesRegex(ValueError, "at least 1", belfry.pairs, Z, S, room=room)
             self.assertRaisesRegex(ValueError, "at least 1", Pieces(Z, S).pairs, room=room)
+            self.assertRaisesRegex(ValueError, "at least 1", belfry.ask, BOOK, [], room=room)
         self.assertRaises(TypeError, belfry.pairs, Z, S, room=1.5)
+        self.assertRaises(TypeError, belfry.ask, BOOK, [], room=1.5)
 
     def test_small_pages_are_nobodys_default(self):
         """Checks the default room: a page of few pairs costs as much to check as one of 4,096."""
-        for call in (belfry.pairs, Pieces.pairs):
+        for call in (belfry.pairs, Pieces.pairs, belfry.ask):
             self.assertEqual(signature(call).parameters["room"].default, 4096)
 
 

@@ -8,12 +8,12 @@ from collections import Counter
 from itertools import chain
 
 from support import (
-    LISTINGS, damaged, figure_books, listing, model, most_around, random_marks, random_tree,
-    some_of, two_lists, words,
+    LISTINGS, damaged, figure_books, in_model, listing, model, most_around, random_marks,
+    random_tree, some_of, two_lists, words,
 )
 
 import belfrychest as belfry
-from belfrychest import Answer, Refused
+from belfrychest import Answer, Question, Refused, Ticket
 
 
 def random_reading(rng):
@@ -50,6 +50,30 @@ def subtotal(zone, samples, hundredths):
     words_inside = [word for sample, word in zip(samples, hundredths) if model.inside(sample, zone)]
     present = [word for word in words_inside if word != belfry.NO_HUNDREDTHS]
     return len(words_inside), len(present), sum(present)
+
+
+def random_book(rng):
+    """Returns a book with lists under the tags 2, 3 and 4, now and then with a faulty one."""
+    tree = random_tree(rng)
+    lists = [some_of(rng, tree) for _ in range(3)]
+    if rng.random() < 0.3:
+        lists[2] = damaged(rng, lists[2])
+    return model.book(*zip((2, 3, 4), lists))
+
+
+def random_question(rng):
+    """Returns a question, now and then for a tag that isn't in the book."""
+    tags = rng.choices((2, 3, 4, 5), weights=(4, 4, 4, 1), k=2)
+    key = [rng.randint(5, 6), rng.randint(0, 9), rng.randint(0, 9)] if rng.random() < 0.5 else []
+    words_ = [rng.randint(0, 1), rng.randint(0, 1), bool(key), *key, 0, 0, 0]
+    return Question(*tags, Ticket.from_words(words_[:6]))
+
+
+def shown(reply):
+    """Returns a reply as the model has it."""
+    verdict = reply.verdict
+    return (verdict.answer.name, verdict.list or 0, verdict.index or 0, reply.pairs or [],
+            reply.done, in_model(reply.ticket))
 
 
 class AgainstTheModel(unittest.TestCase):
@@ -118,6 +142,39 @@ class AgainstTheModel(unittest.TestCase):
                 self.assertEqual(found, [subtotal(zone, samples, hundredths) for zone in zones])
         self.assertLessEqual({"TAKEN", "CROSS", "JOINT", "RAGGED", "READING"}, set(answers))
         self.assertGreater(answers["TAKEN"], 400)
+
+    def test_questions(self):
+        rng, answers = random.Random(9), Counter()
+        for _ in range(1000):
+            book, room = random_book(rng), rng.randint(1, 20)
+            questions = [random_question(rng) for _ in range(rng.randint(0, 5))]
+            asked = [(question.ancestors, question.descendants, in_model(question.ticket))
+                     for question in questions]
+            replies = belfry.ask(book, questions, room=room)
+            self.assertEqual(("TAKEN", list(map(shown, replies))), model.ask(book, asked, room))
+            for reply in replies:
+                self.assertEqual(reply.pairs is None, reply.verdict.answer != Answer.TAKEN)
+                answers[reply.verdict.answer.name, reply.done] += 1
+        for key in (("TAKEN", True), ("TAKEN", False), ("ABSENT", False), ("JOINT", False),
+                    ("CROSS", False), ("ORDER", False)):
+            self.assertGreater(answers[key], 10, key)
+
+    def test_questions_that_are_asked_until_done(self):
+        """Follows four listings of one book, of which each has the room that the others leave."""
+        rng = random.Random(10)
+        for _ in range(100):
+            tree = random_tree(rng)
+            zones, samples = some_of(rng, tree), some_of(rng, tree)
+            book = model.book((2, zones), (3, samples))
+            questions = [Question(2, 3, Ticket.fresh(**which)) for which in LISTINGS]
+            found, done, room = [[] for _ in LISTINGS], False, rng.randint(1, 9)
+            while not done:
+                replies = belfry.ask(book, questions, room=room)
+                for pairs, reply in zip(found, replies):
+                    pairs += reply.pairs
+                questions = [Question(2, 3, reply.ticket) for reply in replies]
+                done = all(reply.done for reply in replies)
+            self.assertEqual(found, [listing(zones, samples, **which) for which in LISTINGS])
 
     def test_marks(self):
         rng, answers = random.Random(4), set()

@@ -1,10 +1,12 @@
 //! Each call of the C interface, held against the model: all fields of what it answers and every
-//! word of the output. Each function returns the answer.
+//! word of the output. A call's function returns the answer, unless its comment says otherwise.
 
+use crate::making::tickets::FRESH;
 use crate::model::answers::{row, Answer, Verdict, Written};
 use crate::model::nodes::{nodes, NODE_WORDS};
-use crate::model::pages::{Order, Relation, Ticket};
-use crate::model::{books, links, lists, marks, pages, readings, sheets};
+use crate::model::pages::Ticket;
+use crate::model::questions::{MOST_QUESTIONS, QUESTION_WORDS};
+use crate::model::{books, links, lists, marks, pages, questions, readings, sheets};
 use crate::paint::hold;
 use belfrychest::raw;
 
@@ -49,11 +51,8 @@ pub fn faulty(ancestors: &[u32], descendants: &[u32]) -> Answer {
 
 /// Returns what the words of a ticket mean.
 pub fn meaning(ticket: &raw::Ticket) -> Ticket {
-    Ticket {
-        relation: if ticket.relation == 0 { Relation::Inside } else { Relation::Directly },
-        order: if ticket.order == 0 { Order::Descendant } else { Order::Ancestor },
-        place: (ticket.placed != 0).then_some([ticket.document, ticket.first, ticket.second]),
-    }
+    let &raw::Ticket { relation, order, placed, document, first, second } = ticket;
+    Ticket::of([relation, order, placed, document, first, second])
 }
 
 /// Returns the ticket that comes back from this page: as it was, or with another place if something
@@ -67,6 +66,16 @@ fn ticket_after(ticket: raw::Ticket, page: &pages::Page) -> raw::Ticket {
     }
 }
 
+/// Returns the page of the model in the numbers of the C interface, for a call with this ticket.
+fn raw_page(ticket: raw::Ticket, page: &pages::Page) -> raw::Page {
+    raw::Page {
+        verdict: raw_verdict(page.verdict),
+        done: page.done.into(),
+        count: page.pairs.len(),
+        ticket: ticket_after(ticket, page),
+    }
+}
+
 pub fn list(
     ancestors: &[u32],
     descendants: &[u32],
@@ -74,15 +83,8 @@ pub fn list(
     out: &mut [u32],
 ) -> Answer {
     let page = pages::page(ancestors, descendants, &meaning(&ticket), out.len());
-    let words = page.pairs.iter().map(pages::Pair::words).collect::<Vec<_>>().concat();
-    let after = ticket_after(ticket, &page);
-    let expected = raw::Page {
-        verdict: raw_verdict(page.verdict),
-        done: page.done.into(),
-        count: page.pairs.len(),
-        ticket: after,
-    };
-    hold(&("page", ancestors, descendants, ticket), out, &words, expected, |out| {
+    let question = ("page", ancestors, descendants, ticket);
+    hold(&question, out, &page.words(), raw_page(ticket, &page), |out| {
         raw::list(ancestors, descendants, ticket, out)
     });
     page.verdict.answer
@@ -179,6 +181,34 @@ pub fn book_write(entries: &[u32], nodes: &[u32], out: &mut [u8]) -> Answer {
         raw::book_write(entries, nodes, out)
     });
     expected.verdict.answer
+}
+
+/// Returns what a call with several questions answers: these pages, and pages of zeros after them.
+/// If it is refused as a whole, it has answered none.
+pub fn raw_pages(answer: Answer, pages: &[raw::Page]) -> raw::Pages {
+    let answered = if answer == Answer::Taken { pages.len() } else { 0 };
+    let none = raw::Page { verdict: TAKEN, done: 0, count: 0, ticket: FRESH };
+    let mut all = [none; MOST_QUESTIONS];
+    all[..pages.len()].copy_from_slice(pages);
+    raw::Pages { answer: answer as u32, questions: answered as u32, pages: all }
+}
+
+/// Returns what the model says of a call with several questions. All 32 pages are compared.
+pub fn ask(book: &[u8], words: &[u32], out: &mut [u32]) -> questions::Asked {
+    let asked = questions::ask(book, words, out.len());
+    let answered = asked_in(words).iter().zip(&asked.pages);
+    let pages: Vec<raw::Page> =
+        answered.map(|(question, page)| raw_page(question.ticket, page)).collect();
+    let expected = raw_pages(asked.answer, &pages);
+    let written: Vec<u32> = asked.pages.iter().flat_map(pages::Page::words).collect();
+    hold(&("ask", book, words), out, &written, expected, |out| raw::ask(book, words, out));
+    asked
+}
+
+/// Returns the whole questions that the words make.
+pub fn asked_in(words: &[u32]) -> &[raw::Question] {
+    let whole = words.len() / QUESTION_WORDS * QUESTION_WORDS;
+    raw::items(&words[..whole]).expect("whole questions")
 }
 
 /// Checks the name of a number. The output has room for a name's bytes at least.

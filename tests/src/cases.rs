@@ -4,7 +4,7 @@
 use crate::asking;
 use crate::ends::{clash, is_between, meet, most_around, most_at_one_end};
 use crate::ground::Ground;
-use crate::making::{books, hundredths, lists, marks, readings, tickets};
+use crate::making::{books, hundredths, lists, marks, questions, readings, tickets};
 use crate::model::answers::Answer::{self, *};
 use crate::model::answers::NAME_BYTES;
 use crate::model::books::{
@@ -14,6 +14,7 @@ use crate::model::links::LINK_WORDS;
 use crate::model::marks::{CLOSE, ROW_WORDS};
 use crate::model::nodes::{nodes, NODE_WORDS};
 use crate::model::pages::{pairs, Pair, Relation, Ticket, PAIR_WORDS};
+use crate::model::questions::{ask as answered, Asked};
 use crate::model::readings::{Range, MISSING, READING_WORDS};
 use crate::model::sheets::SUBTOTAL_WORDS;
 use crate::model::MOST;
@@ -270,6 +271,40 @@ fn book_write(random: &mut Random, ground: Ground, tally: &mut Tally) {
     let mut out = ground.room(random.around(needed.min(MOST)));
     let answer = asking::book_write(&ground.lend(&entries), &ground.lend(&words), &mut out);
     count_book(tally, answer, &out[..needed.min(out.len())]);
+}
+
+pub const ASK: Function = Function {
+    case: |random, ground, tally| {
+        ask(random, ground, tally);
+    },
+    answers: &[Taken, Ragged, Long, Level, Span, Order, Cross, Depth, Joint, Contents, Absent],
+    kinds: &[Three],
+};
+
+/// What a book was asked, the words of the output, and what the model says.
+pub struct Asking {
+    pub book: Vec<u8>,
+    pub words: Vec<u32>,
+    pub room: usize,
+    pub asked: Asked,
+}
+
+/// Asks a book several questions. The answer of each counts, and so does that of the whole call. In
+/// every other case the output has room for whole pairs and no word more.
+pub fn ask(random: &mut Random, ground: Ground, tally: &mut Tally) -> Asking {
+    let book = questions::book(random);
+    let words = questions::words_for(random, &book);
+    let all = answered(&book, &words, usize::MAX);
+    let needed: usize = all.pages.iter().map(|page| PAIR_WORDS * page.pairs.len()).sum();
+    let whole = if random.one_in(2) { PAIR_WORDS } else { 1 };
+    let room = random.around(needed) / whole * whole;
+    let asked = asking::ask(&ground.lend(&book), &ground.lend(&words), &mut ground.room(room));
+    tally.count(asked.answer);
+    for page in &asked.pages {
+        tally.count(page.verdict.answer);
+        tally.see(Three, most_around(&page.pairs) >= 3);
+    }
+    Asking { book, words, room, asked }
 }
 
 /// Checks names of numbers that have one and of numbers that have none. The output is a name's

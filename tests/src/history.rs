@@ -81,25 +81,31 @@ impl History {
             "altered after {} pairs",
             page.count
         );
+        let lists = Lists { ancestors: nodes(ancestors), descendants: nodes(descendants) };
+        self.follow(&page, &lists, &out);
+        page
+    }
+
+    /// Follows the listing through a call on these lists that answered so, into this output.
+    pub fn follow(&mut self, page: &Page, lists: &Lists, out: &[u32]) {
         if page.verdict.answer != 0 {
             assert_eq!((page.count, page.done, page.ticket), (0, 0, self.ticket), "a refused call");
             self.refused += 1;
-            return page;
+            return;
         }
         assert!(
-            page.done == 1 || page.count == room / PAIR_WORDS,
-            "not done, and {} pairs in a room of {room} words",
-            page.count
+            page.done == 1 || page.count == out.len() / PAIR_WORDS,
+            "not done, and {} pairs in a room of {} words",
+            page.count,
+            out.len()
         );
-        let lists = Lists { ancestors: nodes(ancestors), descendants: nodes(descendants) };
-        self.take(&lists, &out[..PAIR_WORDS * page.count]);
-        self.keep_standing(&lists);
+        self.take(lists, &out[..PAIR_WORDS * page.count]);
+        self.keep_standing(lists);
         self.ticket = page.ticket;
         if page.done == 1 {
             self.done += 1;
             self.hold_done();
         }
-        page
     }
 
     /// Tells whether a pair has the relation that the first ticket asks for, and lies past its

@@ -2,9 +2,11 @@
 //! ones.
 
 pub mod books;
+pub mod edits;
 pub mod hundredths;
 pub mod lists;
 pub mod marks;
+pub mod questions;
 pub mod readings;
 pub mod tickets;
 pub mod trees;

@@ -10,6 +10,7 @@ pub mod marks;
 pub mod nodes;
 pub mod pages;
 pub mod printing;
+pub mod questions;
 pub mod readings;
 pub mod sheets;
 pub mod strict;

@@ -2,14 +2,15 @@
 //! tried in `limits.rs`, most figures of readings in `ranges.rs`, and limits of the sheet in
 //! `sheets.rs`.
 
-use belfrychest::raw::{self, Ticket};
+use belfrychest::raw::{self, Question, Ticket};
 use outside::asking::{self, TAKEN};
 use outside::making::marks::FIGURE;
 use outside::making::tickets::FRESH;
 use outside::model::answers::Answer::{self, *};
+use outside::model::books::bytes;
 use outside::model::links::NONE;
 use outside::model::marks::ROW_WORDS;
-use outside::model::nodes::NODE_WORDS;
+use outside::model::nodes::{nodes, NODE_WORDS};
 use outside::model::pages::PAIR_WORDS;
 use outside::model::printing::printed;
 use outside::model::sheets::{NO_HUNDREDTHS, SUBTOTAL_WORDS};
@@ -286,6 +287,88 @@ fn book_of_zones_and_samples() {
     }
     assert_eq!(printed(BOOK), "5 2 4\n5 3 4\n5 2 8\npairs 3\n");
     assert_eq!(printed(b""), "refused 15 CONTENTS\n");
+}
+
+/// Returns a book of the zones, the samples and one more list, which has this tag.
+fn book_with(tag: u32, list: Vec<u32>) -> Vec<u8> {
+    bytes(&[(2, zones()), (3, samples()), (tag, list)].map(|(tag, list)| (tag, nodes(&list))))
+}
+
+/// Returns the book that is asked in the scope.
+fn asked_book() -> Vec<u8> {
+    book_with(4, list(&[[4, 12, 2]]))
+}
+
+/// Returns the words of questions about these tags: by inside, in descendant order and with fresh
+/// tickets.
+fn about(tags: &[[u32; 2]]) -> Vec<u32> {
+    let question =
+        |&[ancestors, descendants]: &[u32; 2]| Question { ancestors, descendants, ticket: FRESH };
+    raw::words(&tags.iter().map(question).collect::<Vec<_>>()).to_vec()
+}
+
+/// What a question draws: its verdict, the starts of its pairs, and whether it is done.
+type Drawn = (raw::Verdict, Vec<[u32; 2]>, bool);
+
+/// Returns what each of these questions draws, with an output of `room` words.
+fn drawn(book: &[u8], tags: &[[u32; 2]], room: usize) -> Vec<Drawn> {
+    let (asked, mut out) = (about(tags), vec![0; room]);
+    asking::ask(book, &asked, &mut out);
+    let given = raw::ask(book, &asked, &mut out);
+    assert_eq!((given.answer, given.questions as usize), (Taken as u32, tags.len()));
+    let mut starts = out.chunks_exact(PAIR_WORDS).map(|pair| [pair[1], pair[NODE_WORDS + 1]]);
+    let pages = &given.pages[..tags.len()];
+    pages
+        .iter()
+        .map(|page| (page.verdict, starts.by_ref().take(page.count).collect(), page.done == 1))
+        .collect()
+}
+
+fn is_taken(pairs: &[[u32; 2]], done: bool) -> Drawn {
+    (TAKEN, pairs.to_vec(), done)
+}
+
+fn is_refused(answer: Answer, list: u32, index: u32) -> Drawn {
+    (raw::Verdict { answer: answer as u32, list, index }, vec![], false)
+}
+
+#[test]
+fn several_questions_to_a_book() {
+    let drawn = |tags: &[[u32; 2]], room| drawn(&asked_book(), tags, room);
+    let all = is_taken(&[[2, 4], [3, 4], [2, 8]], true);
+    let room = 7 * PAIR_WORDS;
+    assert_eq!(drawn(&[[2, 3]], room), [all.clone()]);
+    assert_eq!(drawn(&[[2, 3]; 2], room), [all.clone(), all.clone()]);
+    for (room, second) in [(24, vec![]), (32, vec![[2, 4]]), (37, vec![[2, 4]])] {
+        assert_eq!(drawn(&[[2, 3]; 2], room), [all.clone(), is_taken(&second, false)]);
+    }
+    for (tag, answer) in [(5, Absent), (4, Joint)] {
+        let between = is_refused(answer, 0, 0);
+        let expected = [all.clone(), between, all.clone()];
+        assert_eq!(drawn(&[[2, 3], [2, tag], [2, 3]], room), expected);
+    }
+    assert_eq!(drawn(&[[2, 2]], room), [is_taken(&[[2, 3]], true)]);
+}
+
+/// Asks a book without a byte too, whose fault comes after the number of questions and words.
+#[test]
+fn numbers_of_questions() {
+    for book in [asked_book(), vec![]] {
+        let answer = |words: &[u32]| asking::ask(&book, words, &mut [0; 24]).answer;
+        assert_eq!(answer(&[]), Taken);
+        assert_eq!(answer(&about(&[[2, 3]; 32])), Taken);
+        assert_eq!(answer(&about(&[[2, 3]; 33])), Long);
+        assert_eq!(answer(&[about(&[[2, 3]]), vec![2]].concat()), Ragged);
+    }
+}
+
+#[test]
+fn questions_to_a_faulty_book() {
+    let faulty = book_with(7, list(&[[1, 9, 3], [2, 3, 3]]));
+    for tags in [vec![[2, 3]], vec![[2, 3], [2, 2], [2, 5], [3, 2]], vec![[2, 3]; 32]] {
+        assert_eq!(drawn(&faulty, &tags, 24), vec![is_refused(Depth, 2, 1); tags.len()]);
+        assert_eq!(drawn(&[], &tags, 24), vec![is_refused(Contents, 0, 0); tags.len()]);
+    }
 }
 
 #[test]

@@ -14,7 +14,7 @@ const CASES: u64 = 2_500;
 /// Seeds that no other test has.
 const SEEDS: u64 = 1 << 40;
 
-const FUNCTIONS: [Function; 13] = [
+const FUNCTIONS: [Function; 14] = [
     cases::CHECK,
     cases::CHECK_TWO,
     cases::FAULTY,
@@ -28,6 +28,7 @@ const FUNCTIONS: [Function; 13] = [
     cases::BOOK_WRITE,
     cases::ZONE_RANGE,
     cases::SHEET,
+    cases::ASK,
 ];
 
 fn hold(ground: Ground, first_seed: u64) {

@@ -4,7 +4,8 @@
 
 use belfrychest::raw::{Page, Ticket};
 use outside::history::{History, Lists};
-use outside::making::lists::{damage, family, some_of};
+use outside::making::edits::edit;
+use outside::making::lists::{family, some_of};
 use outside::making::tickets::made_up;
 use outside::model::nodes::{words, Node};
 use outside::model::pages::PAIR_WORDS;
@@ -34,42 +35,12 @@ fn call(history: &mut History, lists: &Lists, room: usize) -> Page {
 /// Returns the lists after no edit, one or two, which may damage them. All nodes of the documents
 /// are there to be put in.
 fn edited(random: &mut Random, lists: &Lists, all: &[Node]) -> Lists {
-    let mut lists = lists.clone();
+    let mut two = [lists.ancestors.clone(), lists.descendants.clone()];
     for _ in 0..random.pick(&[0, 0, 0, 1, 1, 2]) {
-        let Lists { ancestors, descendants } = &mut lists;
-        let (list, other) =
-            if random.one_in(2) { (ancestors, descendants) } else { (descendants, ancestors) };
-        match random.below(8) {
-            0 => damage(random, list),
-            1 | 2 if !list.is_empty() => drop(list.remove(random.below(list.len()))),
-            3..=5 if !list.is_empty() => alter(random, list, other),
-            _ if !all.is_empty() => put_in(list, random.pick(all)),
-            _ => (),
-        }
+        edit(random, &mut two, all);
     }
-    lists
-}
-
-/// Alters a node a little, wherever it stands, or lets it end where another node ends.
-fn alter(random: &mut Random, list: &mut [Node], other: &mut [Node]) {
-    let node = random.pick(list);
-    let altered = match random.below(5) {
-        0 => Node { level: node.level.saturating_add(1), ..node },
-        1 => Node { end: node.end.saturating_sub(1), ..node },
-        2 => Node { end: node.end.saturating_add(1), ..node },
-        3 => Node { end: random.pick(list).end, ..node },
-        _ => Node { start: node.start.saturating_add(1), ..node },
-    };
-    for same in list.iter_mut().chain(other).filter(|same| **same == node) {
-        *same = altered;
-    }
-}
-
-/// Puts a node where the order wants it.
-fn put_in(list: &mut Vec<Node>, node: Node) {
-    let place = list
-        .partition_point(|earlier| (earlier.document, earlier.start) < (node.document, node.start));
-    list.insert(place, node);
+    let [ancestors, descendants] = two;
+    Lists { ancestors, descendants }
 }
 
 /// Follows a listing through edits until it is done, or further. The first lists are sound, a

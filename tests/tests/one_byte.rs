@@ -2,15 +2,27 @@
 
 use belfrychest::raw;
 use outside::asking::{self, TAKEN};
+use outside::making::tickets::FRESH;
 use outside::model::answers::Answer::{self, *};
 use outside::model::books::{body_nodes, check, Entry};
 use outside::model::nodes::words;
+use outside::model::pages::PAIR_WORDS;
 use outside::tally::Tally;
 
 const BOOK: &[u8] = include_bytes!("../../examples/figure.book");
 
-/// Asks for the book, for each tag that it has or had, and for some that it hasn't.
+/// The tags of several questions. The book has some of them, and changed books have others.
+const QUESTIONS: [[u32; 2]; 5] = [[2, 3], [3, 2], [2, 2], [3, 3], [6, 3]];
+
+/// Asks for the book, for each tag that it has or had, and for some that it hasn't. Several
+/// questions are asked in one call too.
 fn ask(book: &[u8]) -> Answer {
+    let questions = QUESTIONS.map(|[ancestors, descendants]| raw::Question {
+        ancestors,
+        descendants,
+        ticket: FRESH,
+    });
+    asking::ask(book, raw::words(&questions), &mut [0; 3 * PAIR_WORDS + 1]);
     let entries = check(book).entries;
     for tag in entries.iter().map(|entry| entry.tag).chain([0, 1, 2, 3, 4, u32::MAX]) {
         asking::book_body(book, tag);

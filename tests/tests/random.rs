@@ -1,4 +1,4 @@
-//! More than a million random cases of the fourteen functions, sound and damaged, against the
+//! More than a million random cases of the fifteen functions, sound and damaged, against the
 //! model. An answer that a function can give and that never came is a failure too.
 
 use outside::cases::{self, Function};
@@ -75,6 +75,11 @@ fn zone_range() {
 #[test]
 fn sheet() {
     hold(&cases::SHEET, 13);
+}
+
+#[test]
+fn ask() {
+    hold(&cases::ASK, 14);
 }
 
 #[test]

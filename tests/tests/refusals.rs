@@ -1,8 +1,8 @@
 //! Every refusal, at every place where it can be drawn. What must be answered is known from how
 //! each case is put together.
 
-use belfrychest::raw::{self, Ticket};
-use outside::asking::{self, raw_verdict};
+use belfrychest::raw::{self, Question, Ticket};
+use outside::asking::{self, raw_pages, raw_verdict};
 use outside::making::books::parts;
 use outside::making::hundredths::FAULTY;
 use outside::making::marks::FIGURE;
@@ -144,7 +144,7 @@ fn any_list_of_a_book() {
 }
 
 /// Fails unless a book of these lists is refused with this verdict. It is opened, each tag is
-/// looked for in it, and it is to be written.
+/// looked for in it, it is asked several questions, and it is to be written.
 fn refuses_book(lists: &[Tagged], verdict: Verdict) {
     let book = bytes(lists);
     let expected = raw_verdict(verdict);
@@ -152,10 +152,26 @@ fn refuses_book(lists: &[Tagged], verdict: Verdict) {
     for tag in 0..=lists.len() as u32 {
         assert_eq!(raw::book_body(&book, tag), raw::Body { verdict: expected, from: 0, bytes: 0 });
     }
+    refuses_questions(&book, expected);
     let (entries, nodes) = parts(lists);
     let refused = raw::Written { verdict: expected, count: 0 };
     hold(&verdict, &mut vec![0; book.len()], &[], refused, |out| {
         raw::book_write(&entries, &nodes, out)
+    });
+}
+
+/// Fails unless each of several questions to a book is refused with this verdict, whatever its
+/// tags, keeps its ticket and writes nothing.
+fn refuses_questions(book: &[u8], verdict: raw::Verdict) {
+    let ticket = |place| Ticket { relation: place, placed: 1, second: 7 * place, ..FRESH };
+    let question =
+        |place: u32| Question { ancestors: place / 2, descendants: 1, ticket: ticket(place) };
+    let questions = [0, 1, 2, 3, 4, 5, 6, 7].map(question);
+    let pages =
+        questions.map(|Question { ticket, .. }| raw::Page { verdict, done: 0, count: 0, ticket });
+    let expected = raw_pages(Taken, &pages);
+    hold(&verdict, &mut [0; ROOM], &[], expected, |out| {
+        raw::ask(book, raw::words(&questions), out)
     });
 }
 
@@ -276,6 +292,9 @@ fn any_number_of_the_contents() {
                 answer,
                 "the number at byte {place} is {number}"
             );
+            if answer == Contents {
+                refuses_questions(&damaged, raw_verdict(Verdict::of(Contents)));
+            }
         }
     }
 }

@@ -61,12 +61,16 @@ fn damage_bytes(random: &mut Random, book: &mut Vec<u8>, contents_end: usize) {
     }
 }
 
-/// Returns a tag that the book mostly has.
-pub fn tag(random: &mut Random, book: &[u8]) -> u32 {
+/// Returns the tags of a book, as far as there are bytes for them.
+pub fn tags(book: &[u8]) -> Vec<u32> {
     let numbers = numbers(book);
     let lists = numbers.first().map_or(0, |&lists| lists as usize);
-    let tags: Vec<u32> = numbers.iter().skip(1).step_by(3).take(lists).copied().collect();
-    random.mostly_of(&tags)
+    numbers.iter().skip(1).step_by(3).take(lists).copied().collect()
+}
+
+/// Returns a tag that the book mostly has.
+pub fn tag(random: &mut Random, book: &[u8]) -> u32 {
+    random.mostly_of(&tags(book))
 }
 
 /// Returns the entries and the nodes that a book of these lists is written from.

@@ -67,6 +67,17 @@ pub struct Ticket {
     pub place: Option<Key>,
 }
 
+impl Ticket {
+    /// Returns what the six words of a ticket mean.
+    pub fn of([relation, order, placed, document, first, second]: [u32; 6]) -> Ticket {
+        Ticket {
+            relation: if relation == 0 { Relation::Inside } else { Relation::Directly },
+            order: if order == 0 { Order::Descendant } else { Order::Ancestor },
+            place: (placed != 0).then_some([document, first, second]),
+        }
+    }
+}
+
 /// What a page call answers and writes. The place is that of the ticket for the next call.
 #[derive(Clone, Debug, PartialEq, Eq)]
 pub struct Page {
@@ -76,11 +87,23 @@ pub struct Page {
     pub place: Option<Key>,
 }
 
+impl Page {
+    /// Returns what a refused call leaves.
+    pub fn refused(verdict: Verdict, ticket: &Ticket) -> Page {
+        Page { verdict, done: false, pairs: Vec::new(), place: ticket.place }
+    }
+
+    /// Returns the words that the call wrote.
+    pub fn words(&self) -> Vec<u32> {
+        self.pairs.iter().flat_map(Pair::words).collect()
+    }
+}
+
 /// Returns the page of two lists past a ticket's place, into an output of `words` words.
 pub fn page(ancestors: &[u32], descendants: &[u32], ticket: &Ticket, words: usize) -> Page {
     let verdict = check_two(ancestors, descendants);
     if verdict.answer != Answer::Taken {
-        return Page { verdict, done: false, pairs: Vec::new(), place: ticket.place };
+        return Page::refused(verdict, ticket);
     }
     let mut remaining = pairs(ticket.relation, &nodes(ancestors), &nodes(descendants));
     remaining.sort_by_key(|pair| pair.key(ticket.order));
