@@ -12,9 +12,10 @@ enum { MOST_PAIRS = 300000, MOST_NOTES = 1 << 16, ANSWERS = BELFRY_READING + 1 }
 
 /* What a case gives to the calls. */
 struct input {
-    const uint32_t *ancestors, *descendants, *readings, *hundredths, *marks;
+    const uint32_t *ancestors, *descendants, *readings, *hundredths, *marks, *questions;
     const uint8_t *book;
-    size_t ancestor_words, descendant_words, reading_words, hundredth_words, mark_words, book_bytes;
+    size_t ancestor_words, descendant_words, reading_words, hundredth_words, mark_words, book_bytes,
+        question_words;
     size_t rooms[2];
     belfry_ticket ticket;
     uint32_t zone, tag;
@@ -71,6 +72,13 @@ static void note_ticket(struct notes *notes, belfry_ticket t) {
     note(notes, t.second);
 }
 
+static void note_page(struct notes *notes, const belfry_page *page) {
+    note_verdict(notes, page->verdict);
+    note(notes, page->done);
+    note(notes, page->count);
+    note_ticket(notes, page->ticket);
+}
+
 static void note_checks(struct notes *notes, const struct code *code, const struct input *in) {
     belfry_verdict one = code->check(in->ancestors, in->ancestor_words);
     belfry_verdict other = code->check(in->descendants, in->descendant_words);
@@ -90,10 +98,7 @@ static void note_pages(struct notes *notes, const struct code *code, const struc
         clear_out(room_words);
         page = code->list(in->ancestors, in->ancestor_words, in->descendants, in->descendant_words,
                           ticket, out, room_words);
-        note_verdict(notes, page.verdict);
-        note(notes, page.done);
-        note(notes, page.count);
-        note_ticket(notes, page.ticket);
+        note_page(notes, &page);
         note_out(notes, room_words);
         ticket = page.ticket;
     } while (!page.done && page.count > 0);
@@ -161,6 +166,24 @@ static void note_others(struct notes *notes, const struct code *code, const stru
     note(notes, body.bytes);
 }
 
+/* Notes the page of each question, and that those after the last are zeros. */
+static void note_questions(struct notes *notes, const struct code *code, const struct input *in) {
+    static const belfry_page none;
+    for (size_t i = 0; i < 2; i++) {
+        clear_out(in->rooms[i]);
+        belfry_pages asked = code->ask(in->book, in->book_bytes, in->questions, in->question_words,
+                                       out, in->rooms[i]);
+        note(notes, asked.answer);
+        note(notes, asked.questions);
+        for (size_t q = 0; q < BELFRY_MOST_QUESTIONS; q++)
+            if (q < in->question_words / BELFRY_QUESTION_WORDS)
+                note_page(notes, &asked.pages[q]);
+            else
+                note(notes, memcmp(&asked.pages[q], &none, sizeof none) == 0);
+        note_out(notes, in->rooms[i]);
+    }
+}
+
 static void note_all(struct notes *notes, const struct code *code, const struct input *in) {
     notes->count = 0;
     note_checks(notes, code, in);
@@ -168,6 +191,7 @@ static void note_all(struct notes *notes, const struct code *code, const struct 
     note_range(notes, code, in);
     note_sheets(notes, code, in);
     note_others(notes, code, in);
+    note_questions(notes, code, in);
 }
 
 /* Runs a case on all codes, and ends where one differs from the archive. */
@@ -198,14 +222,16 @@ enum {
     SMALL_MARKS = 200,
     SMALL_LISTS = 2,
     SMALL_NODES = SMALL_LISTS * MOST_SMALL,
+    SMALL_QUESTIONS = BELFRY_MOST_QUESTIONS + 1,
     CONTENTS_BYTES = BELFRY_BOOK_BYTES(SMALL_LISTS, 0)
 };
 
 /* A random case. */
 struct small {
-    size_t words[SMALL_LISTS], marks, bytes;
+    size_t words[SMALL_LISTS], marks, bytes, questions;
     uint32_t list[SMALL_LISTS][BELFRY_NODE_WORDS * MOST_SMALL],
-        reading[BELFRY_READING_WORDS * MOST_SMALL], hundredths[MOST_SMALL + 1], mark[SMALL_MARKS];
+        reading[BELFRY_READING_WORDS * MOST_SMALL], hundredths[MOST_SMALL + 1], mark[SMALL_MARKS],
+        question[BELFRY_QUESTION_WORDS * (SMALL_QUESTIONS + 1)];
     uint8_t book[BELFRY_BOOK_BYTES(SMALL_LISTS, SMALL_NODES) + 1];
 };
 
@@ -284,25 +310,11 @@ static void fill_marks(struct small *s) {
         s->marks = below(s->marks + 1);
 }
 
-static void put_number(uint8_t *at, uint32_t number) {
-    for (size_t i = 0; i < BELFRY_NUMBER_BYTES; i++)
-        at[i] = number >> 8 * i;
-}
-
 /* Fills in the book of both lists under the tags of zones and samples. Some have a byte changed,
  * are cut short or go on. */
 static void fill_book(struct small *s) {
-    size_t end = CONTENTS_BYTES;
-    put_number(s->book, SMALL_LISTS);
-    for (size_t list = 0; list < SMALL_LISTS; list++) {
-        size_t nodes = s->words[list] / BELFRY_NODE_WORDS;
-        uint8_t *entry = &s->book[BELFRY_BOOK_BYTES(list, 0)];
-        put_number(entry, ZONE_TAG + list);
-        put_number(entry + BELFRY_NUMBER_BYTES, end);
-        put_number(entry + 2 * BELFRY_NUMBER_BYTES, nodes);
-        for (size_t i = 0; i < BELFRY_NODE_WORDS * nodes; i++, end += BELFRY_NUMBER_BYTES)
-            put_number(&s->book[end], s->list[list][i]);
-    }
+    size_t end = build_book(s->book, SMALL_LISTS, s->list[0], s->words[0] / BELFRY_NODE_WORDS,
+                            s->list[1], s->words[1] / BELFRY_NODE_WORDS);
     s->bytes = end;
     if (below(4) == 0)
         s->book[below(CONTENTS_BYTES)] += below(3) - 1;
@@ -342,6 +354,19 @@ static void fill_hundredths(struct small *s) {
         s->hundredths[below(MOST_SMALL)] = others[below(6)];
 }
 
+/* Fills in some questions, most often a few and now and then about as many as a call takes. Some
+ * ask for a tag that isn't there, and some have words left over. */
+static void fill_questions(struct small *s) {
+    size_t count = below(16) ? below(6) : SMALL_QUESTIONS - below(3);
+    for (size_t i = 0; i <= count; i++) {
+        uint32_t tag = below(4) ? ZONE_TAG : 1 + below(4);
+        uint32_t words[BELFRY_QUESTION_WORDS] = {tag,      1 + below(4), below(3),  below(3),
+                                                 below(3), below(3),     below(24), below(24)};
+        memcpy(&s->question[BELFRY_QUESTION_WORDS * i], words, sizeof words);
+    }
+    s->questions = BELFRY_QUESTION_WORDS * count + (below(16) ? 0 : below(BELFRY_QUESTION_WORDS));
+}
+
 /* Tells whether a zone and a sample of one document start at two positions and end at one. */
 static int meet_at_an_end(const struct input *in) {
     for (size_t i = 0; i < in->ancestor_words / BELFRY_NODE_WORDS; i++)
@@ -365,6 +390,7 @@ static void compare_random(unsigned long number) {
     fill_hundredths(&s);
     fill_marks(&s);
     fill_book(&s);
+    fill_questions(&s);
     struct input in = {
         .ancestors = s.list[0],
         .ancestor_words = s.words[0],
@@ -380,6 +406,8 @@ static void compare_random(unsigned long number) {
         .mark_words = s.marks,
         .book = s.book,
         .book_bytes = s.bytes,
+        .questions = s.question,
+        .question_words = s.questions,
         .tag = 1 + below(4),
         .rooms = {below(200), below(40)},
         .ticket = {.placed = below(4),
@@ -394,15 +422,23 @@ static void compare_random(unsigned long number) {
                            .answer]++;
 }
 
+/* Questions to a shape's book: directly inside in both orders, then inside in both. */
+static const uint32_t questions[] = {
+    ZONE_TAG, SAMPLE_TAG, 1, 0, 0, 0, 0, 0, ZONE_TAG, SAMPLE_TAG, 1, 1, 0, 0, 0, 0,
+    ZONE_TAG, SAMPLE_TAG, 0, 1, 0, 0, 0, 0, ZONE_TAG, SAMPLE_TAG, 0, 0, 0, 0, 0, 0,
+};
+
 static void compare_shape(const char *name) {
     static struct shape lists, document;
     static uint32_t readings[BELFRY_READING_WORDS * BELFRY_MOST_NODES],
         hundredths[BELFRY_MOST_NODES];
-    static uint8_t book[4];
+    static uint8_t book[BELFRY_BOOK_BYTES(SMALL_LISTS, SMALL_LISTS * BELFRY_MOST_NODES)];
     build_shape(&lists, name, BELFRY_MOST_NODES);
     build_document(&document, name, BELFRY_MOST_NODES);
     build_readings(readings, lists.samples, IN_TURN);
     build_hundredths(hundredths, lists.samples);
+    size_t bytes =
+        build_book(book, SMALL_LISTS, lists.zone, lists.zones, lists.sample, lists.samples);
     struct input in = {
         .ancestors = lists.zone,
         .ancestor_words = BELFRY_NODE_WORDS * lists.zones,
@@ -416,7 +452,10 @@ static void compare_shape(const char *name) {
         .marks = document.mark,
         .mark_words = document.marks,
         .book = book,
-        .book_bytes = sizeof book,
+        .book_bytes = bytes,
+        .questions = questions,
+        .question_words = sizeof questions / sizeof questions[0],
+        .tag = SAMPLE_TAG,
         .rooms = {BELFRY_PAIR_WORDS * (MOST_PAIRS - 1), BELFRY_PAIR_WORDS * 5000 + 3},
         .ticket = {.placed = 1,
                    .document = lists.zone[BELFRY_NODE_WORDS * (lists.zones / 2)],
@@ -458,6 +497,8 @@ static void compare_limit(size_t words, size_t mark_words, enum lie lie) {
         .mark_words = mark_words,
         .book = book,
         .book_bytes = sizeof book,
+        .questions = questions,
+        .question_words = sizeof questions / sizeof questions[0],
         .rooms = {BELFRY_ROW_WORDS * (BELFRY_MOST_NODES + 1), BELFRY_ROW_WORDS * (mark_words - 2)},
     };
     compare(&in, "the limits", words);

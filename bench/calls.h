@@ -23,7 +23,9 @@
     belfry_result prefix##_number(uint32_t document, const uint32_t *marks, size_t mark_words, \
                                   uint32_t *out, size_t out_words); \
     belfry_book prefix##_book_check(const uint8_t *book, size_t bytes); \
-    belfry_body prefix##_book_body(const uint8_t *book, size_t bytes, uint32_t tag);
+    belfry_body prefix##_book_body(const uint8_t *book, size_t bytes, uint32_t tag); \
+    belfry_pages prefix##_ask(const uint8_t *book, size_t bytes, const uint32_t *questions, \
+                              size_t question_words, uint32_t *out, size_t out_words);
 
 /* Declares them under a prefix that may be a macro itself. */
 #define DECLARE_CALLS(prefix) TWIN_CALLS(prefix)

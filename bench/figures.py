@@ -15,6 +15,7 @@ SHAPES = ("flat", "nests", "between", "random", "eight-zones", "few-samples")
 ALL_SHAPES = (*SHAPES, "documents", "twice", "fields", "side")
 MOST_NODES = 4096
 MOST_LEVELS = 64
+QUESTIONS = 12
 
 # The program takes a book of BOOK_BYTES, which has room for PRINTED_NODES in each of two lists.
 BOOK_BYTES, CONTENTS_BYTES, NODE_BYTES = 61440, 28, 16
@@ -95,23 +96,26 @@ def sizes(shape, nodes=MOST_NODES):
 
 
 def without_kind(measure):
-    """Returns the measure's name; a range's without the kind of its readings."""
-    return "range" if measure.startswith("range-") else measure
+    """Returns the measure's name: a range's without the kind of its readings, a book's without its
+    lists, and that of questions without the book and the way.
+    """
+    name = measure.split("-")[0]
+    return name if name in ("range", "book", "ask") else measure
 
 
 def unit_of(measure):
     return {"check": "node", "range": "node", "sheet": "node", "book": "node", "links": "node",
-            "number": "mark"}.get(without_kind(measure), "pair")
+            "number": "mark", "ask": "question"}.get(without_kind(measure), "pair")
 
 
 def units(measure, shape, nodes=MOST_NODES):
-    """Returns how many nodes, marks or pairs the measure's cost is shared by."""
+    """Returns how many nodes, marks, questions or pairs the measure's cost is shared by."""
     if measure == "print":
         return sizes(shape, min(int(nodes), PRINTED_NODES))["inside"]
     measure, size = without_kind(measure), sizes(shape, nodes)
     both = size["zones"] + size["samples"]
     counts = {"check": both, "range": both, "sheet": both, "book": both, "links": size["zones"],
-              "number": size["marks"]}
+              "number": size["marks"], "ask": QUESTIONS}
     return counts[measure] if measure in counts else size[measure.split("-")[0]]
 
 

@@ -4,39 +4,19 @@
 #include <string.h>
 
 enum {
-    BOOK_LISTS = 2,
-    BOOK_NODES = BOOK_LISTS * BELFRY_MOST_NODES,
-    OUT_WORDS = MOST_PAIRS * BELFRY_PAIR_WORDS,
+    BOOK_NODES = 2 * BELFRY_MOST_NODES,
+    OUT_WORDS = QUESTIONS * MOST_PAIRS * BELFRY_PAIR_WORDS,
 };
 
 struct shape shape;
 static uint32_t out[OUT_WORDS], readings[BELFRY_READING_WORDS * BELFRY_MOST_NODES],
     hundredths[BELFRY_MOST_NODES];
-uint8_t book[BELFRY_BOOK_BYTES(BOOK_LISTS, BOOK_NODES)];
+uint32_t book[BELFRY_BOOK_BYTES(MANY_LISTS, BOOK_NODES) / BELFRY_NUMBER_BYTES];
 size_t book_bytes;
 
 void fail(const char *why) {
     fprintf(stderr, "%s\n", why);
     exit(2);
-}
-
-/* Puts numbers after the book's last, as they lie in memory: x86-64 keeps them as a book does. */
-static void put_numbers(const uint32_t *numbers, size_t count) {
-    memcpy(book + book_bytes, numbers, count * sizeof numbers[0]);
-    book_bytes += count * sizeof numbers[0];
-}
-
-/* Builds the book of the shape's two lists. */
-static void build_book(void) {
-    uint32_t zones_at = BELFRY_BOOK_BYTES(BOOK_LISTS, 0);
-    uint32_t samples_at = BELFRY_BOOK_BYTES(BOOK_LISTS, shape.zones);
-    uint32_t contents[] = {
-        BOOK_LISTS, ZONE_TAG, zones_at, shape.zones, SAMPLE_TAG, samples_at, shape.samples,
-    };
-    book_bytes = 0;
-    put_numbers(contents, sizeof contents / sizeof contents[0]);
-    put_numbers(shape.zone, BELFRY_NODE_WORDS * shape.zones);
-    put_numbers(shape.sample, BELFRY_NODE_WORDS * shape.samples);
 }
 
 static int prepare_listing(struct measure *measure, const char *name) {
@@ -64,28 +44,69 @@ static int prepare_range(struct measure *measure, const char *name) {
     return 0;
 }
 
-int prepare_measure(struct measure *measure, const char *name, const char *shape_name,
-                    size_t nodes) {
+/* Tells whether there is a book of that many lists. */
+static int is_book(size_t lists) {
+    return lists == FEW_LISTS || lists == MANY_LISTS;
+}
+
+static struct asking asking_of(const struct measure *measure) {
+    return (struct asking){book, book_bytes, measure->lists, out, OUT_WORDS};
+}
+
+static int prepare_ask(struct measure *measure, const char *name) {
+    static const char *const ways[WAYS] = {
+        [TOGETHER] = "together", [EACH] = "each", [SINGLE] = "single", [FOUND] = "found"};
+    char way[16];
+    if (sscanf(name, "ask-%zu-%15s", &measure->lists, way) != 2)
+        return 0;
+    measure->kind = ASK;
+    for (measure->way = TOGETHER; measure->way < WAYS; measure->way++)
+        if (strcmp(ways[measure->way], way) == 0)
+            return is_book(measure->lists);
+    return 0;
+}
+
+static int prepare_book(struct measure *measure, const char *name) {
+    measure->kind = BOOK;
+    return sscanf(name, "book-%zu", &measure->lists) == 1 && is_book(measure->lists);
+}
+
+/* Prepares what a measure's name says, without the shape. */
+static int prepare_named(struct measure *measure, const char *name) {
     static const char *const names[] = {[CHECK] = "check",
                                         [SHEET] = "sheet",
                                         [LINKS] = "links",
                                         [NUMBER] = "number",
                                         [BOOK] = "book"};
-    int named = 0;
+    measure->lists = FEW_LISTS;
     for (enum kind kind = CHECK; kind <= BOOK; kind++)
         if (names[kind] && strcmp(names[kind], name) == 0) {
             measure->kind = kind;
-            named = 1;
+            return 1;
         }
-    if (!named && !prepare_range(measure, name) && !prepare_listing(measure, name))
+    if (strncmp(name, "book-", 5) == 0)
+        return prepare_book(measure, name);
+    if (strncmp(name, "ask-", 4) == 0)
+        return prepare_ask(measure, name);
+    return prepare_range(measure, name) || prepare_listing(measure, name);
+}
+
+int prepare_measure(struct measure *measure, const char *name, const char *shape_name,
+                    size_t nodes) {
+    if (!prepare_named(measure, name))
         return 0;
     if (measure->kind == NUMBER)
         return build_document(&shape, shape_name, nodes);
     if (!build_shape(&shape, shape_name, nodes))
         return 0;
-    build_book();
+    book_bytes = build_book((uint8_t *)book, measure->lists, shape.zone, shape.zones, shape.sample,
+                            shape.samples);
     build_readings(readings, shape.samples, measure->readings);
     build_hundredths(hundredths, shape.samples);
+    if (measure->kind == ASK) {
+        struct asking asking = asking_of(measure);
+        build_questions(&asking);
+    }
     return 1;
 }
 
@@ -144,8 +165,13 @@ static size_t number_marks(const struct code *code) {
 }
 
 static size_t check_book(const struct code *code) {
-    belfry_book opened = code->book_check(book, book_bytes);
+    belfry_book opened = code->book_check((const uint8_t *)book, book_bytes);
     return taken(opened.verdict.answer, opened.lists);
+}
+
+static size_t ask_dozen(const struct measure *measure, const struct code *code) {
+    struct asking asking = asking_of(measure);
+    return ask_all(&asking, measure->way, code);
 }
 
 size_t run_measure(const struct measure *measure, const struct code *code) {
@@ -162,6 +188,8 @@ size_t run_measure(const struct measure *measure, const struct code *code) {
         return number_marks(code);
     case BOOK:
         return check_book(code);
+    case ASK:
+        return ask_dozen(measure, code);
     default:
         return list_all(measure, code);
     }

@@ -1,13 +1,15 @@
-/* What is measured: a call of the C interface, or all page calls of a listing, on a shape. */
+/* What is measured: a call of the C interface, all page calls of a listing, or a dozen questions,
+   on a shape. */
 #ifndef MEASURES_H
 #define MEASURES_H
 
+#include "asking.h"
 #include "codes.h"
 #include "shapes.h"
 
 enum { MOST_PAIRS = 262144 };
 
-enum kind { CHECK, LISTING, RANGE, SHEET, LINKS, NUMBER, BOOK };
+enum kind { CHECK, LISTING, RANGE, SHEET, LINKS, NUMBER, BOOK, ASK };
 
 /* A measure that was prepared: the shape's words and bytes, and the output, lie in memory that all
    measures share. */
@@ -16,11 +18,13 @@ struct measure {
     belfry_ticket ticket;
     size_t room;
     uint32_t readings;
+    enum way way;
+    size_t lists;
 };
 
-/* The shape that was prepared last, and the book of its two lists. */
+/* The shape that was prepared last, and the book of its lists. */
 extern struct shape shape;
-extern uint8_t book[];
+extern uint32_t book[];
 extern size_t book_bytes;
 
 /* Prepares a measure by its name on a shape with at most `nodes` nodes in each list, or on a
@@ -28,7 +32,9 @@ extern size_t book_bytes;
    names are check, range, sheet, links, number, book, and RELATION-ORDER-ROOM with the relation
    inside or directly, the order descendant or ancestor, and as room the pairs of a page, or all.
    The readings of range are of each kind in turn; those of range-percent, range-grams and
-   range-missing are of one. */
+   range-missing are of one. The book has 2 lists, and that of book-LISTS has 2 or 13.
+   A dozen questions are ask-LISTS-WAY: the book has 2 or 13 lists, and the way is together, each,
+   single or found. */
 int prepare_measure(struct measure *measure, const char *name, const char *shape_name,
                     size_t nodes);
 

@@ -11,7 +11,8 @@ from pathlib import Path
 
 import join
 from figures import (ALL_SHAPES, CODES, EMULATOR, MADE, MOST_LEVELS, MOST_NODES, PRINTED_NODES,
-                     SHAPES, counted, emulated, instructions, printing_nothing, run, sizes, units)
+                     QUESTIONS, SHAPES, counted, emulated, instructions, printing_nothing, run,
+                     sizes, unit_of, units)
 
 CASES = 100_000
 WIDTH = 100
@@ -19,6 +20,10 @@ ORDERS = ("descendant", "ancestor")
 LISTINGS = ("inside-descendant", "inside-ancestor", "directly-descendant", "directly-ancestor")
 PAGE_ROOMS = (256, MOST_NODES)
 GROWTH = (64, 1024, MOST_NODES)
+# How many lists the books have that are asked questions, and how these are asked.
+BOOKS = (2, 1 + QUESTIONS)
+WAYS = {"together": "one call", "each": "a call each", "single": "single calls",
+        "found": "lists found once"}
 TWINS = CODES[1:]
 CODES_HERE = TWINS if EMULATOR else CODES
 # Times of the calls are taken where the machine is an x86-64, unless counts alone are wanted.
@@ -30,11 +35,13 @@ SMALL_DOCUMENTS = "documents"
 LARGE_DOCUMENTS = tuple(shape for shape in ALL_SHAPES if shape != SMALL_DOCUMENTS)
 
 # The bars: the most that the archive may take beside a twin, for a node or mark and of the stack.
-# No call but the sheet, whose walk is a recursion, may take more stack than any twin of it.
+# No call may take more stack than any twin of it, with two exceptions. One is the sheet, whose walk
+# is a recursion. The other is questions, for which all codes keep two lists in words.
 MOST_RATIOS = {"clang-three": 0.85, "gcc-three": 0.85, "clang-fused": 0.95, "gcc-fused": 1.1}
 MOST_SHARP, SHARP_LISTING, SHARP_SHAPES = 0.4, "directly-ancestor", ("nests", "between")
 MOST_CHECK, MOST_SMALL_CHECK = 42.0, 47.0
 MOST_LINKS, MOST_NUMBER, MOST_BOOK, MOST_STACK = 68.0, 29.1, 37.5, 1.0
+MOST_ASKED, MOST_BEYOND, MOST_ASK_STACK = 0.85, 18.8, 1.01
 
 SHAPE_WORDS = {
     "flat": "zones side by side, a sample in each",
@@ -107,11 +114,11 @@ def has_many(pairs, nodes):
 
 
 def shared(measure, shape):
-    """Returns the archive's instructions for a node, mark or pair, or nothing where there are few
-    pairs.
+    """Returns the archive's instructions for a node, mark, question or pair, or nothing where there
+    are few pairs.
     """
     count = units(measure, shape)
-    if "-" in measure and not has_many(count, units("check", shape)):
+    if unit_of(measure) == "pair" and not has_many(count, units("check", shape)):
         return ""
     return f"{instructions('archive', measure, shape) / count:,.1f}"
 
@@ -189,7 +196,8 @@ def print_codes():
     print("\n## Codes")
     say("Every call checks what it is given. The twins differ in how they check two lists, list "
         "pairs and link nodes; they find ranges, write sheets, number marks and check books in one "
-        "way. A sheet is written without recursion by the twins.")
+        "way. A sheet is written without recursion by the twins. Questions are answered by a check "
+        "of the book, and by a copy and a listing of two lists for each.")
     print()
     item("archive: the proved library")
     item("three: ordinary C that checks two lists in three passes, over each list and then over "
@@ -222,10 +230,16 @@ def stacks():
     return {name: [int(number) for number in taken] for name, *taken in rows}
 
 
-def worst_stack():
-    """Returns the archive's stack to the least of the twins', where that is most, and the call."""
-    return max((archive / min(filter(None, twins)), call)
-               for call, (archive, *twins) in stacks().items() if any(twins) and call != "sheet")
+def stack_ratio(call):
+    """Returns the archive's stack of a call to the least of the twins', or 0 where these have none.
+    """
+    archive, *twins = stacks()[call]
+    return archive / min(twins) if all(twins) else 0
+
+
+def bar_on_stack(title, calls, most):
+    taken, call = max((stack_ratio(call), call) for call in calls)
+    return title, f"{taken:.3f}", call, f"{most:.3f}", verdict(taken <= most)
 
 
 def verdict(holds):
@@ -243,8 +257,34 @@ def bar_on_worst(title, measure, most, shapes=ALL_SHAPES):
     return title, f"{taken:.1f}", shape, most, verdict(taken <= most)
 
 
+def asked(lists, way, shape):
+    """Returns the archive's instructions for all questions to a book, asked in a way."""
+    return instructions("archive", f"ask-{lists}-{way}", shape)
+
+
+def to_single(lists, shape):
+    """Returns one call with all questions to single calls, in instructions."""
+    return asked(lists, "together", shape) / asked(lists, "single", shape)
+
+
+def beyond_page(lists, shape):
+    """Returns what a question takes for a node of its two lists beyond its listing and the check of
+    the book. Where the lists are found once, the book is checked as often as it has lists.
+    """
+    size, checks = sizes(shape), (lists - 1) * instructions("archive", f"book-{lists}", shape)
+    nodes = QUESTIONS * size["zones"] + QUESTIONS * size["samples"] // (lists - 1)
+    return (asked(lists, "together", shape) - asked(lists, "found", shape) + checks) / nodes
+
+
+def bar_on_questions(title, figure_of, places, most):
+    """Returns the row of a bar about all shapes and both books."""
+    taken, shape, lists = max((figure_of(lists, shape), shape, lists)
+                              for shape in ALL_SHAPES for lists in BOOKS)
+    return (title, f"{taken:.{places}f}", f"{shape}, {lists} lists", f"{most:.{places}f}",
+            verdict(taken <= most))
+
+
 def print_simple_bars():
-    stack, call = worst_stack()
     rows = [bar_on_worst(f"checks of two lists, except on {SMALL_DOCUMENTS}, instructions a node",
                          "check", MOST_CHECK, LARGE_DOCUMENTS),
             bar_on_worst(f"checks of two lists on {SMALL_DOCUMENTS}, instructions a node", "check",
@@ -253,8 +293,14 @@ def print_simple_bars():
             bar_on_worst("numbering, instructions a mark", "number", MOST_NUMBER,
                          LARGE_DOCUMENTS),
             bar_on_worst("checking a book, instructions a node", "book", MOST_BOOK),
-            ("stack, to the least of the twins', except of the sheet", f"{stack:.3f}", call,
-             f"{MOST_STACK:.3f}", verdict(stack <= MOST_STACK))]
+            bar_on_questions(f"{QUESTIONS} questions in one call, to single calls", to_single, 3,
+                             MOST_ASKED),
+            bar_on_questions("a question beyond its listing, instructions a node", beyond_page, 1,
+                             MOST_BEYOND),
+            bar_on_stack("stack, to the least of the twins', except of sheets and questions",
+                         stacks().keys() - {"sheet", "ask"}, MOST_STACK),
+            bar_on_stack("stack of questions, to the least of the twins'", ("ask",),
+                         MOST_ASK_STACK)]
     table(("bar", "archive", "worst at", "at most", ""), rows)
     return [row[-1] for row in rows]
 
@@ -414,6 +460,40 @@ def print_others():
     measured("Checking a book", "book", "a node")
 
 
+def asked_row(lists, shape):
+    ways = (cell("archive", f"ask-{lists}-{way}", shape) for way in WAYS)
+    to_found = asked(lists, "together", shape) / asked(lists, "found", shape)
+    return (shape, *ways, f"{to_single(lists, shape):.3f}", f"{to_found:.3f}",
+            f"{beyond_page(lists, shape):.1f}")
+
+
+def print_questions():
+    print(f"\n## {QUESTIONS} questions to one book")
+    say("The book has the zones as one list. The samples are one list too, or they are dealt to "
+        f"{QUESTIONS}. Each question asks for the zones and the samples, or for the zones and a "
+        "list of samples of its own. The four listings take turns. The first four questions are "
+        "fresh, the next four go on after a page of 256 pairs, and the last four after two such "
+        "pages. There is room for all pairs, so every question is done.")
+    print()
+    item("one call: `belfry_ask` with all questions")
+    item("a call each: `belfry_ask` with one question at a time")
+    item("single calls: for each question `belfry_book_body` twice, which checks the book each "
+         "time, and `belfry_list` on the words that it finds, which aren't copied")
+    item("lists found once: `belfry_book_body` for each list of the book, and then `belfry_list` "
+         "for each question")
+    say("The last columns are one call to single calls, one call to lists found once, and what a "
+        "question takes for a node of its two lists beyond its listing and the check of the book. "
+        "That is the copy of the lists, and the clearing of 131,072 bytes once for each call, "
+        "which counts an instruction for each byte.")
+    for lists in BOOKS:
+        progress(f"Questions to a book of {lists} lists")
+        print(f"\n### Questions to a book of {lists} lists")
+        table(("shape", *WAYS.values(), "to single calls", "to lists found once", "beyond, a node"),
+              [asked_row(lists, shape) for shape in ALL_SHAPES])
+    for lists in BOOKS:
+        measured(f"Questions in one call, {lists} lists", f"ask-{lists}-together", "a question")
+
+
 def printed_row(shape):
     size = sizes(shape, PRINTED_NODES)
     nodes, pairs = size["zones"] + size["samples"], size["inside"]
@@ -554,6 +634,7 @@ def main():
     print_whole_calls()
     print_pages()
     print_others()
+    print_questions()
     print_printing()
     print_growth()
     print_stack()

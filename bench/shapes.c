@@ -1,7 +1,12 @@
 #include "shapes.h"
 #include <string.h>
 
-enum { ROOT_TAG = 1, DEEPEST_RANDOM = 20, FIELD_ZONES = 64 };
+enum {
+    ROOT_TAG = 1,
+    DEEPEST_RANDOM = 20,
+    FIELD_ZONES = 64,
+    NODE_BYTES = BELFRY_NODE_WORDS * BELFRY_NUMBER_BYTES
+};
 
 /* A shape that is being built: how many nodes each list may have, the document and the next
    position in it, and where each open element's end is to be written. */
@@ -116,6 +121,31 @@ void build_hundredths(uint32_t *hundredths, size_t samples) {
         uint32_t number = random_number(&state) % (BELFRY_MOST_HUNDREDTHS + 1);
         hundredths[i] = i % 3 == 2 ? BELFRY_NO_HUNDREDTHS : number;
     }
+}
+
+/* Puts every node from a first one on into a book, `apart` from one to the next. Returns how many
+   they are. Numbers lie in memory as a book keeps them. */
+static size_t put_nodes(uint8_t *at, const uint32_t *nodes, size_t count, size_t first,
+                        size_t apart) {
+    size_t put = 0;
+    for (size_t i = first; i < count; i += apart, put++)
+        memcpy(at + NODE_BYTES * put, &nodes[BELFRY_NODE_WORDS * i], NODE_BYTES);
+    return put;
+}
+
+size_t build_book(uint8_t *book, size_t lists, const uint32_t *zones, size_t zone_count,
+                  const uint32_t *samples, size_t sample_count) {
+    uint32_t number = lists;
+    size_t end = BELFRY_BOOK_BYTES(lists, 0);
+    memcpy(book, &number, sizeof number);
+    for (size_t i = 0; i < lists; i++) {
+        size_t count = i == 0 ? put_nodes(book + end, zones, zone_count, 0, 1)
+                              : put_nodes(book + end, samples, sample_count, i - 1, lists - 1);
+        uint32_t entry[BELFRY_CONTENTS_NUMBERS] = {ZONE_TAG + i, end, count};
+        memcpy(book + BELFRY_BOOK_BYTES(i, 0), entry, sizeof entry);
+        end += NODE_BYTES * count;
+    }
+    return end;
 }
 
 /* Builds a walk that opens a zone, opens a sample or closes what is open, at random. */

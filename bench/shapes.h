@@ -36,6 +36,11 @@ void build_readings(uint32_t *readings, size_t samples, uint32_t kind);
    others are random. */
 void build_hundredths(uint32_t *hundredths, size_t samples);
 
+/* Builds the book of zones and samples. The zones are its first list, and the samples are dealt to
+   all the others. Its tags are ZONE_TAG and the numbers after it. Returns how many bytes it has. */
+size_t build_book(uint8_t *book, size_t lists, const uint32_t *zones, size_t zone_count,
+                  const uint32_t *samples, size_t sample_count);
+
 /* Returns the next random number after a state, which may begin with any number. The same state
  * gives the same number, which is below 2 to the 31. */
 uint32_t random_number(uint64_t *state);

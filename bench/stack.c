@@ -9,14 +9,25 @@
 #include <string.h>
 #include <ucontext.h>
 
-enum { AREA_BYTES = 1 << 18, OUT_WORDS = 1 << 21, CALLS = 15, PAINTS = 2, WORD_BYTES = 8 };
+enum {
+    AREA_BYTES = 1 << 18,
+    OUT_WORDS = 1 << 21,
+    CALLS = 16,
+    PAINTS = 2,
+    WORD_BYTES = 8,
+    BOOK_LISTS = 2,
+    BOOK_NODES = BOOK_LISTS * BELFRY_MOST_NODES,
+    LISTINGS = 4,
+    QUESTION_KINDS = 1 + 2 * LISTINGS
+};
 
 /* What the calls are given: a shape's lists, readings and hundredths, a document's marks and table,
-   and a book of the zones, with the entry and the bytes that it has. */
+   the entry of the zones for a book to be written, and a book of both lists with its questions. */
 static struct shape lists, document;
 static size_t zone_words, sample_words, table_words, book_bytes;
+static belfry_question questions[QUESTION_KINDS];
 static uint32_t table[BELFRY_ROW_WORDS * BELFRY_MOST_NODES], entry[2],
-    book[4 + BELFRY_NODE_WORDS * BELFRY_MOST_NODES],
+    book[BELFRY_BOOK_BYTES(BOOK_LISTS, BOOK_NODES) / BELFRY_NUMBER_BYTES],
     readings[BELFRY_READING_WORDS * BELFRY_MOST_NODES], hundredths[BELFRY_MOST_NODES],
     out[OUT_WORDS];
 
@@ -98,6 +109,12 @@ static void call_book_write(const struct code *code) {
     (void)written;
 }
 
+static void call_ask(const struct code *code) {
+    belfry_pages pages = code->ask((const uint8_t *)book, book_bytes, &questions[0].ancestors,
+                                   BELFRY_QUESTION_WORDS * QUESTION_KINDS, out, OUT_WORDS);
+    (void)pages;
+}
+
 static void call_name(const struct code *code) {
     (void)code;
     belfry_name(1, (uint8_t *)out);
@@ -122,6 +139,7 @@ static const struct {
     {"book_check", call_book_check, 1},
     {"book_body", call_book_body, 1},
     {"book_write", call_book_write, 0},
+    {"ask", call_ask, 1},
     {"name", call_name, 0},
 };
 
@@ -165,6 +183,19 @@ static size_t stack_of(void (*make)(const struct code *code), const struct code 
     return (most + WORD_BYTES - 1) / WORD_BYTES * WORD_BYTES;
 }
 
+/* Makes questions of all kinds: one for a tag that the book lacks, and one for each listing, first
+ * from the middle zone's place on and then fresh. */
+static void make_questions(void) {
+    const uint32_t *zone = &lists.zone[BELFRY_NODE_WORDS * (lists.zones / 2)];
+    questions[0] = (belfry_question){SAMPLE_TAG + 1, ZONE_TAG, {0, 0, 0, 0, 0, 0}};
+    for (uint32_t i = 0; i < LISTINGS; i++) {
+        belfry_ticket placed = {i & 1, i >> 1, BELFRY_PLACED, zone[0], zone[1], 0};
+        questions[1 + i] = (belfry_question){ZONE_TAG, SAMPLE_TAG, placed};
+        questions[1 + LISTINGS + i] =
+            (belfry_question){ZONE_TAG, SAMPLE_TAG, BELFRY_TICKET(i & 1, i >> 1)};
+    }
+}
+
 static void prepare(const char *shape_name) {
     build_shape(&lists, shape_name, BELFRY_MOST_NODES);
     build_document(&document, shape_name, BELFRY_MOST_NODES);
@@ -177,10 +208,9 @@ static void prepare(const char *shape_name) {
     table_words = BELFRY_ROW_WORDS * rows.count;
     entry[0] = ZONE_TAG;
     entry[1] = lists.zones;
-    uint32_t contents[4] = {1, entry[0], sizeof contents, entry[1]};
-    memcpy(book, contents, sizeof contents);
-    memcpy(book + 4, lists.zone, zone_words * sizeof lists.zone[0]);
-    book_bytes = sizeof contents + zone_words * sizeof lists.zone[0];
+    book_bytes = build_book((uint8_t *)book, BOOK_LISTS, lists.zone, lists.zones, lists.sample,
+                            lists.samples);
+    make_questions();
 }
 
 /* Gives the last node of each list, and of the book, a level that is too high. */

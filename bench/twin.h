@@ -7,6 +7,7 @@
 #define TWIN_H
 
 #include "calls.h"
+#include <string.h>
 
 #define PASTE(prefix, name) prefix##_##name
 #define NAMED(prefix, name) PASTE(prefix, name)
@@ -519,16 +520,63 @@ belfry_book TWIN(book_check)(const uint8_t *book, size_t bytes) {
     return check_book(book, bytes);
 }
 
+/* Finds a tag's list in a book that was checked. */
+static belfry_body find_body(const uint8_t *book, uint32_t lists, uint32_t tag) {
+    for (uint32_t i = 0; i < lists; i++) {
+        struct entry entry = entry_at(book, i);
+        if (entry.tag == tag)
+            return (belfry_body){verdict_of(BELFRY_TAKEN), entry.offset,
+                                 NODE_BYTES * (size_t)entry.count};
+    }
+    return (belfry_body){verdict_of(BELFRY_ABSENT), 0, 0};
+}
+
 belfry_body TWIN(book_body)(const uint8_t *book, size_t bytes, uint32_t tag) {
     belfry_book b = check_book(book, bytes);
     if (b.verdict.answer != BELFRY_TAKEN)
         return (belfry_body){b.verdict, 0, 0};
-    for (uint32_t i = 0; i < b.lists; i++) {
-        struct entry entry = entry_at(book, i);
-        if (entry.tag == tag)
-            return (belfry_body){b.verdict, entry.offset, NODE_BYTES * (size_t)entry.count};
+    return find_body(book, b.lists, tag);
+}
+
+/* Answers a question to a book that was checked. A book may lie anywhere, so its two lists are
+   copied to words, which lie as a book keeps them. */
+static belfry_page answer_one(const uint8_t *book, uint32_t lists, const belfry_question *q,
+                              uint32_t *out, size_t out_words) {
+    uint32_t first[BELFRY_NODE_WORDS * BELFRY_MOST_NODES],
+        second[BELFRY_NODE_WORDS * BELFRY_MOST_NODES];
+    belfry_body a = find_body(book, lists, q->ancestors);
+    belfry_body d = find_body(book, lists, q->descendants);
+    if (a.verdict.answer != BELFRY_TAKEN || d.verdict.answer != BELFRY_TAKEN)
+        return (belfry_page){verdict_of(BELFRY_ABSENT), 0, 0, q->ticket};
+    memcpy(first, book + a.from, a.bytes);
+    memcpy(second, book + d.from, d.bytes);
+    return TWIN(list)(first, a.bytes / BELFRY_NUMBER_BYTES, second, d.bytes / BELFRY_NUMBER_BYTES,
+                      q->ticket, out, out_words);
+}
+
+static uint32_t question_fault(size_t words) {
+    if (words % BELFRY_QUESTION_WORDS != 0)
+        return BELFRY_RAGGED;
+    return words / BELFRY_QUESTION_WORDS > BELFRY_MOST_QUESTIONS ? BELFRY_LONG : BELFRY_TAKEN;
+}
+
+belfry_pages TWIN(ask)(const uint8_t *book, size_t bytes, const uint32_t *questions,
+                       size_t question_words, uint32_t *out, size_t out_words) {
+    const belfry_question *q = (const belfry_question *)questions;
+    size_t count = question_words / BELFRY_QUESTION_WORDS, at = 0;
+    belfry_pages asked = {.answer = question_fault(question_words)};
+    belfry_book b = {verdict_of(asked.answer), 0};
+    if (asked.answer == BELFRY_TAKEN) {
+        asked.questions = count;
+        b = check_book(book, bytes);
     }
-    return (belfry_body){verdict_of(BELFRY_ABSENT), 0, 0};
+    for (size_t i = 0; i < count && i < BELFRY_MOST_QUESTIONS; i++) {
+        asked.pages[i] = b.verdict.answer == BELFRY_TAKEN
+                             ? answer_one(book, b.lists, &q[i], out + at, out_words - at)
+                             : (belfry_page){b.verdict, 0, 0, q[i].ticket};
+        at += BELFRY_PAIR_WORDS * asked.pages[i].count;
+    }
+    return asked;
 }
 
 #endif
