@@ -65,11 +65,14 @@ ABSENT = 16
 abbrev pub READING : ℕ
 READING = 17
 
+abbrev pub LINKS : ℕ
+LINKS = 18
+
 -- The names, in the order of their numbers.
 unfoldable pub names : List String
 names =
     "TAKEN" ∷ "RAGGED" ∷ "LONG" ∷ "LEVEL" ∷ "SPAN" ∷ "ORDER" ∷ "CROSS" ∷ "DEPTH" ∷ "JOINT" ∷ "ROOM" ∷ "MARK" ∷ "STRAY" ∷ "DEEP"
-    ∷ "UNCLOSED" ∷ "TABLE" ∷ "CONTENTS" ∷ "ABSENT" ∷ "READING" ∷ []
+    ∷ "UNCLOSED" ∷ "TABLE" ∷ "CONTENTS" ∷ "ABSENT" ∷ "READING" ∷ "LINKS" ∷ []
 
 -- The ASCII byte at a place of a text, and a blank after its end.
 unfoldable pub letterAt : String → ℕ → ℕ

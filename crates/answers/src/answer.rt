@@ -39,8 +39,10 @@ pub const ABSENT: u32 = 16;
 
 pub const READING: u32 = 17;
 
+pub const LINKS: u32 = 18;
+
 // How many rows the table of names has, one for each answer.
-const ROWS: usize = 18;
+const ROWS: usize = 19;
 
 // The name of each answer, in the row of its number, filled up with blanks.
 const NAMES: [[u8; 8]; ROWS] = [
@@ -62,6 +64,7 @@ const NAMES: [[u8; 8]; ROWS] = [
     *b"CONTENTS",
     *b"ABSENT  ",
     *b"READING ",
+    *b"LINKS   ",
 ];
 
 // Returns the name of the answer `number`, or eight blanks for a number that no answer has.
