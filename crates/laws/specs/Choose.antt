@@ -1,8 +1,9 @@
 -- Tests on lists of any kind: whether an element passes, which ones do, and where the first one
 -- stands. Also what all elements of a list, or all pairs, have in common.
 use Prim.Native.Nat.{ℕ, zero, suc}
-use mathlib.Core.Bool.{Bool, false, cond, _||_}
+use mathlib.Core.Bool.{Bool, true, false, cond, _&&_, _||_}
 use mathlib.Core.List.{List, [], _∷_, List·Memᴰ, Sublistᴰ}
+use lib.Dec.{eqb}
 
 -- Whether some element of the list passes the test.
 unfoldable pub any {ℓ} : {A : Type ℓ} → (A → Bool) → List A → Bool
@@ -18,6 +19,13 @@ keep test (x ∷ xs) = cond (test x) (x ∷ keep test xs) (keep test xs)
 unfoldable pub firstAt {ℓ} : {A : Type ℓ} → (A → Bool) → List A → ℕ
 firstAt test [] = zero
 firstAt test (x ∷ xs) = cond (test x) zero (suc (firstAt test xs))
+
+-- Whether two lists of numbers are equal: equally long, with the same number at each place.
+unfoldable pub equalb : List ℕ → List ℕ → Bool
+equalb [] [] = true
+equalb [] (y ∷ ys) = false
+equalb (x ∷ xs) [] = false
+equalb (x ∷ xs) (y ∷ ys) = eqb x y && equalb xs ys
 
 -- P holds of every element of the list. `All P` of three elements means: P of the first, and P of
 -- the second, and P of the third. For an empty list there is nothing to hold.
