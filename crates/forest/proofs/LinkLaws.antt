@@ -42,15 +42,16 @@ module _ (f : ℕ → Link) where
   words-length zero = refl
   words-length (suc k) = ap length (words-next k) ∙ omega (arith, words-length k, length-append (words f k) (linkWords (f k)))
 
-  words-parent : (k j : ℕ) → j < k → getD (words f k) (3 * j) 0 ≡ f j .parent
-  unfolding linkWords
-  words-parent zero j l = absurd (not-suc-le-zero l)
-  words-parent (suc k) j l =
+  -- Word `c` of the links of node `j` stands at `3 * j + c`.
+  words-at : (k j c : ℕ) → j < k → c < 3 → getD (words f k) (3 * j + c) 0 ≡ getD (linkWords (f j)) c 0
+  words-at zero j c l b = absurd (not-suc-le-zero l)
+  words-at (suc k) j c l b =
       rw (words-next k)
       (elim (last-or-below l) [
-        | inl e ↦ let at : 3 * j ≡ length (words f k) + 0 = omega (arith, words-length k) in
-            ap (λ m. getD (words f k ++ linkWords (f k)) m 0) at ∙ getD-append-add (words f k) (linkWords (f k)) 0 0 ∙ ap (λ m. f m .parent) (sym e)
-        | inr m ↦ List·getD-append (words f k) (linkWords (f k)) 0 (3 * j) (omega (arith, words-length k)) ∙ words-parent k j m
+        | inl e ↦ let at : 3 * j + c ≡ length (words f k) + c = omega (arith, words-length k) in
+            ap (λ m. getD (words f k ++ linkWords (f k)) m 0) at ∙ getD-append-add (words f k) (linkWords (f k)) c 0
+            ∙ ap (λ m. getD (linkWords (f m)) c 0) (sym e)
+        | inr m ↦ List·getD-append (words f k) (linkWords (f k)) 0 (3 * j + c) (omega (arith, words-length k)) ∙ words-at k j c m b
       ])
 
 -- A store after some words.
@@ -145,9 +146,11 @@ module _ (ns : List Node) where
   linking k base out q = rw q (take-at (words (linkTo ns k) k) (drop (length (words (linkTo ns k) k)) base) (3 * k) (words-length (linkTo ns k) k))
 
   pub parent-word : (k j : ℕ) (out : List ℕ) → j < k → Linking ns k out → getD out (3 * j) 0 ≡ parentOf ns j
-  unfolding linksTo linkTo
+  unfolding linksTo linkTo linkWords
   parent-word k j out l h =
-      sym (getD-take (3 * k) out (3 * j) 0 (omega arith)) ∙ ap (λ ws. getD ws (3 * j) 0) h ∙ words-parent (linkTo ns k) k j l
+      let at : 3 * j ≡ 3 * j + 0 = omega arith in
+      ap (λ m. getD out m 0) at ∙ sym (getD-take (3 * k) out (3 * j + 0) 0 (omega arith)) ∙ ap (λ ws. getD ws (3 * j + 0) 0) h
+      ∙ words-at (linkTo ns k) k j 0 l (omega arith)
 
   pub links-none : (out : List ℕ) → out ≡ written (linksTo ns 0) out
   unfolding linksTo written upTo wordsIn flatMap
@@ -172,3 +175,7 @@ links-all list k q = rw (q ∙ sym (length-nodes list)) refl
 pub links-length : (list : List ℕ) → length (linksIn list) ≡ 3 * count list
 unfolding linksIn linksOf indices
 links-length list = words-length (linkOf (nodes list)) (length (nodes list)) ∙ ap (λ k. 3 * k) (length-nodes list)
+
+pub link-word : (list : List ℕ) (j c : ℕ) → j < count list → c < 3 → getD (linksIn list) (3 * j + c) 0 ≡ getD (linkWords (linkOf (nodes list) j)) c 0
+unfolding linksIn linksOf indices
+link-word list j c l b = words-at (linkOf (nodes list)) (length (nodes list)) j c (omega (arith, length-nodes list)) b

@@ -53,7 +53,7 @@ module _ (ns : List Node) (ok : AcceptedList ns) (i : ℕ) (l : i < length ns) w
         (none-found (λ m. eqb (parentOf ns m) j) i (omega (arith, few)) q e (k .before)))
 
     -- No sibling stands between the node and its elder.
-    none-between : (m : ℕ) → m < i → (ltb e m && siblingb ns e m) ≡ true → ⊥
+    pub none-between : (m : ℕ) → m < i → (ltb e m && siblingb ns e m) ≡ true → ⊥
     none-between m b t =
         let s = elder-sibling in
         let p = and-read (ltb e m) t in
