@@ -39,13 +39,18 @@ use Rattle.pairs.proofs.Running.{running-from, end-from, inside-run}
 use Rattle.pairs.proofs.Stretches.{stretch-next, stretch-none}
 
 -- What holds of all nodes of the words, or of all pairs of them, holds at each index.
-node-all : (ws : List ℕ) (P : Node → Type 0) (i : ℕ) → i < count ws → All P (nodes ws) → P (nodeAt ws i)
+pub node-all : (ws : List ℕ) (P : Node → Type 0) (i : ℕ) → i < count ws → All P (nodes ws) → P (nodeAt ws i)
 unfolding nodeAt
 node-all ws P i l h = all-at P (nodes ws) i (node 0 0 0 0) (omega (arith, length-nodes ws)) h
 
 pub node-pair : (ws : List ℕ) (R : Node → Node → Type 0) (k i : ℕ) → k < i → i < count ws → EveryTwo R (nodes ws) → R (nodeAt ws k) (nodeAt ws i)
 unfolding nodeAt
 node-pair ws R k i m l h = every-two-at R (nodes ws) k i (node 0 0 0 0) m (omega (arith, length-nodes ws)) h
+
+-- No followers make no group.
+pub group-none : (a : Node) {ns : List Node} → ns ≡ [] → group Ancestor a ns ≡ []
+unfolding group
+group-none a q = rw q refl
 
 module _ (ws : List ℕ) (a : Node) where
   -- Descendants of which none is a child are passed.

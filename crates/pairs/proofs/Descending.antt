@@ -38,7 +38,7 @@ use Rattle.pairs.proofs.Accepted.{accepted, fine-with}
 use Rattle.pairs.proofs.Matching.{matches-open}
 use Rattle.pairs.proofs.OpenNodes.{all-among, upon-open, left-open, open-none, open-left, open-later}
 use Rattle.pairs.proofs.ListingGroups.{matches-rise, rest-group}
-use Rattle.pairs.proofs.SweepStart.{Tells, after-next}
+use Rattle.pairs.proofs.SweepStart.{Tells, after-later}
 
 module _ (as′ ds : List ℕ) where
   -- At a descendant: the stack holds the ancestors that are open at it, and no ancestor before it
@@ -161,6 +161,6 @@ module _ (as′ ds : List ℕ) where
           stands = λ m. record {
             used-in = h .opening .used-in;
             passed-in = h .opening .passed-in;
-            held = open-later (nodeAt ds (j / 4)) (nodeAt ds ((j + 4) / 4)) _ _ (after-next ds taken-ds j m) (h .opening .held);
+            held = open-later (nodeAt ds (j / 4)) (nodeAt ds ((j + 4) / 4)) _ _ (after-later ds taken-ds j (j + 4) (omega arith) m) (h .opening .held);
           };
         }

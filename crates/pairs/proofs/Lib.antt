@@ -8,13 +8,15 @@
 -- passes ancestors. `Matching` says which of them match a descendant, `StackMatches` where these
 -- lie on the stack, and `Descending` what a sweep along the descendants has left. `Running` is an
 -- ancestor's run of descendants. `Children` says which of them lie directly inside and which an
--- inner zone holds. `Zones` says what a sweep along the ancestors has left. `ListingGroups` turns
--- what matches into groups, and `Paged` what was served into the page.
+-- inner zone holds. `Zones` says what a sweep along the ancestors has left, and `Jumps` which of
+-- them it may pass at once. `ListingGroups` turns what matches into groups, and `Paged` what was
+-- served into the page.
 pub mod Accepted
 pub mod Answered
 pub mod Children
 pub mod Descending
 pub mod Following
+pub mod Jumps
 pub mod ListingGroups
 pub mod Matching
 pub mod Only

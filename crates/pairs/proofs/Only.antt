@@ -6,6 +6,7 @@ use mathlib.Core.Path.{_≡_}
 use denote.Ref.{now}
 use Rattle.laws.proofs.Only.{only}
 use Rattle.pairs.proofs.apart.page_apart.Reads as page-apart
+use Rattle.pairs.proofs.jumping.jumping_page.Reads as jumping-page
 use Rattle.pairs.proofs.page.next_page.Reads as next-page
 
 pub next-page-only : (κs : _) (a : _) (r r′ : _) (s s′ : _) → next-page.Post κs a r s → next-page.Post κs a r′ s′
@@ -15,3 +16,7 @@ next-page-only κs a r r′ s s′ p q = (only (p .output) (q .output), only (p 
 pub page-apart-only : (κs : _) (a : _) (r r′ : _) (s s′ : _) → page-apart.Post κs a r s → page-apart.Post κs a r′ s′
     → (now (s .1 .1 .1 .0) ≡ now (s′ .1 .1 .1 .0)) × (r ≡ r′)
 page-apart-only κs a r r′ s s′ p q = (only (p .output) (q .output), only (p .answer) (q .answer))
+
+pub jumping-page-only : (κs : _) (a : _) (r r′ : _) (s s′ : _) → jumping-page.Post κs a r s → jumping-page.Post κs a r′ s′
+    → (now (s .1 .1 .1 .1 .0) ≡ now (s′ .1 .1 .1 .1 .0)) × (r ≡ r′)
+jumping-page-only κs a r r′ s s′ p q = (only (p .output) (q .output), only (p .answer) (q .answer))

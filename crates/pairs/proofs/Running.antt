@@ -56,7 +56,7 @@ module _ (a : Node) where
   match-append relation xs ys = keep-append _ xs ys
 
   -- Nodes of which none lies inside don't match.
-  match-none : (relation : Relation) (zs : List Node) → All (λ z. insideb z a ≡ false) zs → matches (asked relation Ancestor) a zs ≡ []
+  pub match-none : (relation : Relation) (zs : List Node) → All (λ z. insideb z a ≡ false) zs → matches (asked relation Ancestor) a zs ≡ []
   unfolding matches pairOf
   match-none relation zs h = keep-none _ zs (all-map (λ z n. not-so (λ m. never (related-inside relation _ m) n)) zs h)
 

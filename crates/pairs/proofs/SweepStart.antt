@@ -5,7 +5,7 @@
 use mathlib.Core.Path.{_≡_, refl, ap, _∙_}
 use mathlib.Core.Bool.{true, false, not}
 use mathlib.Core.List.{List, [], _∷_}
-use Prim.Native.Nat.{ℕ, _+_, _*_, _/_, _≤_, _<_}
+use Prim.Native.Nat.{ℕ, _*_, _/_, _≤_, _<_}
 use native.Mathlib.Omega.{arith}
 use lib.ListN.{length, getD}
 use Rattle.nodes.specs.declared.node.Node.{Node}
@@ -38,14 +38,14 @@ served-in place ws first q = let h = first-in (λ x. not (servedb place x)) (nod
 abbrev pub Tells : Place → List ℕ → ℕ → ℕ → Type 0
 Tells place ws past j = j < length ws → Past place past (nodeAt ws (j / 4))
 
--- Of an accepted list the next node stands after this one.
-pub after-next : (ws : List ℕ) → checkWords ws .answer ≡ TAKEN → (j : ℕ) → j + 4 < length ws
-    → afterb (nodeAt ws ((j + 4) / 4)) (nodeAt ws (j / 4)) ≡ true
+-- Of an accepted list each later node stands after this one.
+pub after-later : (ws : List ℕ) → checkWords ws .answer ≡ TAKEN → (j m : ℕ) → j / 4 < m / 4 → m < length ws
+    → afterb (nodeAt ws (m / 4)) (nodeAt ws (j / 4)) ≡ true
 unfolding nodeAt
-after-next ws taken j m =
+after-later ws taken j m h l =
     let t = words-taken-iff ws .0 taken in
     let w = t .0 in
-    every-two-at Fine (nodes ws) (j / 4) ((j + 4) / 4) (node 0 0 0 0) (omega arith) (omega (arith, length-nodes ws)) (t .3) .after
+    every-two-at Fine (nodes ws) (j / 4) (m / 4) (node 0 0 0 0) h (omega (arith, length-nodes ws)) (t .3) .after
 
 -- For a fresh place no leader is served, so a sweep begins with the first leader and all its
 -- followers.
@@ -64,7 +64,7 @@ module _ (place : Place) (ws : List ℕ) where
   started first past x q n p = (q, p ∙ ap (pastFrom place) n)
 
   module _ (taken : checkWords ws .answer ≡ TAKEN) where
-    -- The number that a sweep starts with tells it, and 0 does at the next leader.
+    -- The number that a sweep starts with tells it, and 0 does at each later leader.
     pub tells-first : (first past : ℕ) → Started place ws first past → Tells place ws past (4 * first)
     unfolding nodeAt
     tells-first first past s m =
@@ -74,5 +74,6 @@ module _ (place : Place) (ws : List ℕ) where
         let same : 4 * first / 4 ≡ first = omega arith in
         rw same (past-first place (nodeAt ws first) past (rw q (first-unserved place (nodes ws) (node 0 0 0 0) (omega arith))) (s .1))
 
-    pub tells-next : (past j : ℕ) → Tells place ws past j → Tells place ws 0 (j + 4)
-    tells-next past j p m = past-next place (nodeAt ws (j / 4)) (nodeAt ws ((j + 4) / 4)) past (p (omega arith)) (after-next ws taken j m)
+    pub tells-later : (past j m : ℕ) → j / 4 < m / 4 → Tells place ws past j → Tells place ws 0 m
+    tells-later past j m h p l =
+        past-next place (nodeAt ws (j / 4)) (nodeAt ws (m / 4)) past (p (omega arith)) (after-later ws taken j m h l)

@@ -154,7 +154,7 @@ module _ (as′ ws : List ℕ) (taken : checkTwo as′ ws .answer ≡ TAKEN) whe
   module _ (i from to : ℕ) (a : Node) (l : i < count as′) (q : a ≡ nodeAt as′ i) (p : Reached as′ ws i from)
       (e : to ≡ firstAt (λ d. afterb d a) (drop from (nodes ws)) + from) where
     -- The search from the index on finds the first descendant after the ancestor.
-    found : to ≡ firstAt (λ d. afterb d (nodeAt as′ i)) (nodes ws)
+    pub found : to ≡ firstAt (λ d. afterb d (nodeAt as′ i)) (nodes ws)
     found =
         e ∙ ap (λ n. firstAt (λ d. afterb d n) (drop from (nodes ws)) + from) q ∙ first-from (λ d. afterb d (nodeAt as′ i)) from (nodes ws) (p l)
 
@@ -170,10 +170,10 @@ module _ (as′ ws : List ℕ) (taken : checkTwo as′ ws .answer ≡ TAKEN) whe
           after = rw found (first-after (nodeAt as′ i) (nodes ws) (w .3));
         }
 
-    -- The next ancestor stands after this one.
-    pub sweep-next : (j : ℕ) → j ≡ i + 1 → Reached as′ ws j to
+    -- Each later ancestor stands after this one.
+    pub sweep-next : (j : ℕ) → i < j → Reached as′ ws j to
     sweep-next j s m =
-        let fine : Fine (nodeAt as′ i) (nodeAt as′ j) = node-pair as′ Fine i j (omega arith) m (accepted as′ ws taken .fine-as) in
+        let fine : Fine (nodeAt as′ i) (nodeAt as′ j) = node-pair as′ Fine i j s m (accepted as′ ws taken .fine-as) in
         rw found
         (first-earlier (λ d. afterb d (nodeAt as′ i)) (λ d. afterb d (nodeAt as′ j)) (λ d h. after-trans d (nodeAt as′ j) (nodeAt as′ i) h (fine .after)) (nodes ws))
 

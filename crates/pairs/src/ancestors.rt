@@ -33,14 +33,14 @@ struct Turn {
 }
 
 // The words of the zone and of the descendant to look at next.
-struct Passed {
-    zone: usize,
-    next: usize,
+pub(crate) struct Passed {
+    pub zone: usize,
+    pub next: usize,
 }
 
 // Returns the word of the first descendant, from the word `from` on, that stands after `ancestor`,
 // or the end of the list.
-fn first_after(descendants: &[u32], from: usize, ancestor: Node) -> usize
+pub(crate) fn first_after(descendants: &[u32], from: usize, ancestor: Node) -> usize
     requires { ⌜ Placed (now descendants) from ⌝ }
     ensures { λ r. ⌜ record {
       aligned : r % NODE-WORDS ≡ 0;
@@ -59,7 +59,7 @@ fn first_after(descendants: &[u32], from: usize, ancestor: Node) -> usize
 }
 
 // Returns whether there is a descendant at the word `k` and `ancestor` is open at it.
-fn is_running(descendants: &[u32], k: usize, ancestor: Node) -> bool
+pub(crate) fn is_running(descendants: &[u32], k: usize, ancestor: Node) -> bool
     requires { ⌜ (length (now descendants) % NODE-WORDS ≡ 0) × (k % NODE-WORDS ≡ 0) ⌝ }
     ensures { λ r. ⌜ r ≡ runningb (now (descendants .entry)) ancestor (k / NODE-WORDS) ⌝ }
 {
@@ -90,7 +90,7 @@ fn past_guess(descendants: &[u32], from: usize, ancestor: Node, guess: usize) ->
 
 // Returns a word up to which `ancestor` stays open from the word `from` on, found eight descendants
 // at a time.
-fn past_strides(descendants: &[u32], from: usize, ancestor: Node) -> usize
+pub(crate) fn past_strides(descendants: &[u32], from: usize, ancestor: Node) -> usize
     requires { ⌜ (from % NODE-WORDS ≡ 0) × Running (now descendants) ancestor (from / NODE-WORDS) ⌝ }
     ensures { λ r. ⌜ Further (now (descendants .entry)) ancestor from r ⌝ }
 {
@@ -103,7 +103,7 @@ fn past_strides(descendants: &[u32], from: usize, ancestor: Node) -> usize
 }
 
 // Returns the end of the run of `ancestor`, looking at each descendant from the word `from` on.
-fn past_run(descendants: &[u32], from: usize, ancestor: Node) -> usize
+pub(crate) fn past_run(descendants: &[u32], from: usize, ancestor: Node) -> usize
     requires { ⌜ (from % NODE-WORDS ≡ 0) × Running (now descendants) ancestor (from / NODE-WORDS) ⌝ }
     ensures { λ r. ⌜ record {
       aligned : r % NODE-WORDS ≡ 0;
@@ -143,7 +143,7 @@ fn run_end(descendants: &[u32], from: usize, ancestor: Node, guess: usize) -> us
 
 // Returns a word up to which `zone` holds the descendants from the word `from` on. The end of the
 // outer run, `to`, is tried first, then strides.
-fn past_held(descendants: &[u32], from: usize, zone: Node, to: usize) -> usize
+pub(crate) fn past_held(descendants: &[u32], from: usize, zone: Node, to: usize) -> usize
     requires { ⌜ (from % NODE-WORDS ≡ 0) × (to % NODE-WORDS ≡ 0) × Running (now descendants) zone (from / NODE-WORDS) ⌝ }
     ensures { λ r. ⌜ Further (now (descendants .entry)) zone from r ⌝ }
 {

@@ -28,7 +28,7 @@ ghost use Rattle.pairs.specs.Private.Sweep.{Placed, stretch, fromStart, 
 // Returns the word of `stack` from which on the ancestors have the relation with `descendant`,
 // which lies inside all of them. It can lie directly inside only the innermost, as the levels rise
 // towards it.
-fn first_match(relation: Relation, stack: &[u32], used: usize, descendant: Node) -> usize
+pub(crate) fn first_match(relation: Relation, stack: &[u32], used: usize, descendant: Node) -> usize
     requires { ⌜ Placed (now stack) used × Chain (opened used (now stack)) × Upon descendant (opened used (now stack)) ⌝ }
     ensures { λ r. ⌜ record {
       aligned : r % NODE-WORDS ≡ 0;

@@ -3,5 +3,7 @@ mod ancestors;
 pub mod apart;
 mod descendants;
 mod groups;
+mod jump;
+pub mod jumping;
 mod open;
 pub mod page;

@@ -12,7 +12,7 @@ ghost use mathlib.Core.Path.{_≡_};
 ghost use mathlib.Core.Bool.{true, false, cond};
 ghost use mathlib.Core.List.{_∷_};
 ghost use Prim.Native.Nat.{_/_, _≤_};
-ghost use lib.ListN.{drop};
+ghost use lib.ListN.{length, drop};
 ghost use Rattle.answers.specs.Answer.{TAKEN};
 ghost use Rattle.laws.specs.Choose.{All};
 ghost use Rattle.nodes.specs.Node.{afterb, openb, MOST-LEVELS};
@@ -57,11 +57,17 @@ pub(crate) fn still_open(stack: &[u32; STACK_WORDS], used: usize, node: Node) ->
 // Puts `ancestor` onto `stack` if it is open at `descendant`, and returns the number of words in
 // use. All that lie there are open at `descendant` too, so `ancestor`, which starts after them,
 // lies inside the innermost.
-fn open_next(stack: &mut [u32; STACK_WORDS], used: usize, ancestor: Node, descendant: Node) -> usize
+pub(crate) fn open_next(
+    stack: &mut [u32; STACK_WORDS],
+    used: usize,
+    ancestor: Node,
+    descendant: Node,
+) -> usize
     requires { ⌜ Fits used × (ancestor .level ≤ MOST-LEVELS)
         × (openb descendant ancestor ≡ true → Chain (ancestor ∷ opened used (now stack))) ⌝ }
     ensures { λ r. ⌜ record {
       fits : Fits r;
+      long : length (now (stack .exit)) ≡ length (now (stack .entry));
       stack : opened r (now (stack .exit)) ≡ cond (openb descendant ancestor) (ancestor ∷ opened used (now (stack .entry))) (opened used (now (stack .entry)));
     } ⌝ }
 {

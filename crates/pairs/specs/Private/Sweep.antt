@@ -10,7 +10,7 @@ use lib.ListN.{length, getD, take, drop}
 use Rattle.nodes.specs.declared.node.Node.{Node}
 use Rattle.answers.specs.Answer.{TAKEN}
 use Rattle.laws.specs.Choose.{All, In, firstAt}
-use Rattle.nodes.specs.Node.{afterb, openb}
+use Rattle.nodes.specs.Node.{insideb, afterb, openb}
 use Rattle.nodes.specs.Words.{NODE-WORDS, node, nodes, count, nodeAt}
 use Rattle.lists.specs.Check.{checkWords}
 use Rattle.lists.specs.Two.{oddsb, checkTwo}
@@ -102,6 +102,13 @@ abbrev pub Further : List ℕ → Node → ℕ → ℕ → Type 0
 Further descendants a from to =
     (to % NODE-WORDS ≡ 0) × (from ≤ to) × Running descendants a (to / NODE-WORDS)
     × (runEnd descendants a (to / NODE-WORDS) ≡ runEnd descendants a (from / NODE-WORDS))
+
+-- The place `to` comes after the place `i`, and every node between the two lies inside the node at
+-- `i`.
+pub record Jumped (words : List ℕ) (i to : ℕ) : Type 0 where
+  pub placed : Placed words to
+  pub later : i < to
+  pub inside : (j : ℕ) → i / NODE-WORDS < j → j < to / NODE-WORDS → insideb (nodeAt words j) (nodeAt words (i / NODE-WORDS)) ≡ true
 
 -- The two lists are accepted together, and the run of the ancestor at the word `i` goes from the
 -- word `from` to the word `to`.

@@ -8,7 +8,6 @@ use borrow.Author.Needs.{needs}
 use Prim.Native.Nat.{_+_, _-_, _/_, _%_, _≤_, _<_}
 use mathlib.Core.Path.{_≡_, refl, sym, ap, _∙_}
 use mathlib.Core.Bool.{true}
-use mathlib.Core.List.{List, []}
 use native.Mathlib.Omega.{arith}
 use lib.ListN.{length, drop}
 use denote.Ref.{now}
@@ -19,18 +18,13 @@ use Rattle.paging.proofs.Serving.{left-end}
 use Rattle.tickets.specs.declared.ticket.Order.the-variants.{Ancestor}
 use Rattle.tickets.specs.declared.ticket.Relation.the-variants.{Directly}
 use Rattle.tickets.specs.PairWords.{PAIR-WORDS, pairWords}
-use Rattle.tickets.specs.Private.Group.{group, matches}
+use Rattle.tickets.specs.Private.Group.{matches}
 use Rattle.tickets.specs.Ticket.{asked}
 use Rattle.pairs.specs.Private.Sweep.{Placed, servedGroup}
-use Rattle.pairs.proofs.Children.{child-on, child-stop, inner-passed, level-fits}
+use Rattle.pairs.proofs.Children.{group-none, child-on, child-stop, inner-passed, level-fits}
 use Rattle.pairs.proofs.Running.{none-match}
 use Rattle.pairs.proofs.ancestors.hand_children.Statement.{statement}
 use Rattle.pairs.proofs.ancestors.hand_children.Tie as tie
-
--- No followers make no group.
-group-none : (a : Node) {ns : List Node} → ns ≡ [] → group Ancestor a ns ≡ []
-unfolding group
-group-none a q = rw q refl
 
 abbrev Inv-loop : tie.InvT-loop
 Inv-loop out₀ written ancestors i descendants from to handed₀ level zone₀ k₀ out handed zone k =

@@ -24,7 +24,7 @@ use Rattle.tickets.proofs.Groups.{rest-of}
 use Rattle.tickets.specs.Ticket.{asked}
 use Rattle.pairs.specs.Private.Sweep.{Placed, Started, servedAll}
 use Rattle.pairs.proofs.ListingGroups.{sweep-start, sweep-end}
-use Rattle.pairs.proofs.SweepStart.{Tells, tells-first, tells-next}
+use Rattle.pairs.proofs.SweepStart.{Tells, tells-first, tells-later}
 use Rattle.pairs.proofs.Zones.{Reached, first-taken, sweep-running, sweep-next, sweep-on, sweep-stop}
 use Rattle.pairs.proofs.ancestors.sweep_ancestors.Statement.{statement}
 use Rattle.pairs.proofs.ancestors.sweep_ancestors.Tie as tie
@@ -128,7 +128,7 @@ loop-again c =
       done,
       λ place s.
           let left = i .6 place s in (
-            tells-next place (now (a .ancestors)) (first-taken (now (a .ancestors)) (now (a .descendants)) (given .pre .0) .0) _ (l .i) (left .0),
+            tells-later place (now (a .ancestors)) (first-taken (now (a .ancestors)) (now (a .descendants)) (given .pre .0) .0) _ (l .i) (l .i + 4) (omega arith) (left .0),
             sweep-on (now (a .ancestors)) (now (a .descendants)) (given .pre .0) (l .i / 4) (l .from / 4) _ _ (omega (arith, i .1)) n
                 (i .4) (f .index) (a .relation) place _ ((l .i + 4) / 4) (left .0 t) (omega arith) _ _ (here .hand-ancestor .ensures .handed) done (left .1),
           ),

@@ -8,7 +8,7 @@
 use borrow.Author.Needs.{needs}
 use mathlib.Core.Path.{_≡_, refl, ap, _∙_}
 use mathlib.Core.Bool.{true}
-use Prim.Native.Nat.{_*_, _-_, _/_}
+use Prim.Native.Nat.{_+_, _*_, _-_, _/_}
 use native.Mathlib.Omega.{arith}
 use lib.ListN.{length, drop}
 use denote.Ref.{now}
@@ -25,7 +25,7 @@ use Rattle.tickets.specs.Ticket.{asked}
 use Rattle.pairs.specs.Private.Sweep.{Started, servedAll}
 use Rattle.pairs.proofs.Descending.{Ready, ready-start, ready-next, taken-as, taken-ds, left-at, at-descendant, descend-on, descend-stop}
 use Rattle.pairs.proofs.ListingGroups.{sweep-start, sweep-end}
-use Rattle.pairs.proofs.SweepStart.{Tells, tells-first, tells-next}
+use Rattle.pairs.proofs.SweepStart.{Tells, tells-first, tells-later}
 use Rattle.pairs.proofs.descendants.sweep_descendants.Statement.{statement}
 use Rattle.pairs.proofs.descendants.sweep_descendants.Tie as tie
 
@@ -130,7 +130,7 @@ loop-again c =
       done,
       λ place s.
           let left = l .inv .3 place s in (
-            tells-next place (now (a .descendants)) (taken-ds (now (a .ancestors)) (now (a .descendants)) (given .pre .0)) _ (l .j) (left .0),
+            tells-later place (now (a .descendants)) (taken-ds (now (a .ancestors)) (now (a .descendants)) (given .pre .0)) _ (l .j) (l .j + 4) (omega arith) (left .0),
             descend-on (now (a .ancestors)) (now (a .descendants)) (given .pre .0) (l .j) test _ _ _ t (a .relation) place _ (left .0) _ _
                 (c .before .before .before .before .hand-descendant .ensures) done (left .1),
           ),

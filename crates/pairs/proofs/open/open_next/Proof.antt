@@ -4,11 +4,12 @@
 -- What would break it: An ancestor stored one place off, or one put on the stack although it has
 -- ended, would be caught at the return.
 use borrow.Author.Needs.{needs}
-use mathlib.Core.Path.{_≡_, sym, _∙_}
+use mathlib.Core.Path.{_≡_, refl, sym, ap, _∙_}
 use mathlib.Core.Bool.{true, false, cond}
 use mathlib.Core.List.{List, _∷_}
 use Prim.Native.Nat.{ℕ, _+_, _*_, _/_, _≤_, _<_}
-use lib.Seq.{sets}
+use lib.ListN.{length}
+use lib.Seq.{sets, length-sets}
 use native.Mathlib.Omega.{arith}
 use denote.Ref.{now}
 use borrow.Author.Tests.{not-true, not-false}
@@ -45,6 +46,7 @@ returns c =
     let start = c .before .before in
     let a = start .args in record {
       fits = start .pre .0;
+      long = refl;
       stack = opened-shut (now (a .stack)) (a .used) (a .descendant) (a .ancestor)
           (sym (c .before .is-open .ensures) ∙ not-true _ (c .if1 .taken));
     }
@@ -71,6 +73,7 @@ returns-2 c =
     let r = room-on (now (a .stack)) (a .used) (a .descendant) (a .ancestor) (p .0) (p .1) (p .2) o in
     record {
       fits = r;
+      long = ap length (c .put-words .ensures) ∙ length-sets (now (a .stack)) (a .used) (wordsOf (a .ancestor));
       stack = opened-on (now (a .stack)) (a .used) (a .descendant) (a .ancestor) _ (omega arith) (omega (arith, c .before .put-words-arg .given)) (c .put-words .ensures) o;
     }
 
