@@ -9,6 +9,8 @@ use Rattle.belfrychest.proofs.ask.belfry_ask.Reads as asking
 use Rattle.belfrychest.proofs.book.belfry_book_body.Reads as book-body
 use Rattle.belfrychest.proofs.book.belfry_book_check.Reads as book-check
 use Rattle.belfrychest.proofs.book.belfry_book_write.Reads as book-write
+use Rattle.belfrychest.proofs.lent.belfry_links_check.Reads as links-check
+use Rattle.belfrychest.proofs.lent.belfry_list_linked.Reads as list-linked
 use Rattle.belfrychest.proofs.list.belfry_check.Reads as check
 use Rattle.belfrychest.proofs.list.belfry_check_two.Reads as check-two
 use Rattle.belfrychest.proofs.list.belfry_faulty.Reads as faulty
@@ -59,6 +61,13 @@ pick-only κs a r r′ s s′ p q = (only (p .output) (q .output), only (p .answ
 pub links-only : (κs : _) (a : _) (r r′ : _) (s s′ : _) → links.Post κs a r s → links.Post κs a r′ s′
     → (now (s .1 .0) ≡ now (s′ .1 .0)) × (r ≡ r′)
 links-only κs a r r′ s s′ p q = (only (p .output) (q .output), only (p .answer) (q .answer))
+
+pub links-check-only : (κs : _) (a : _) (r r′ : _) (s s′ : _) → links-check.Post κs a r s → links-check.Post κs a r′ s′ → r ≡ r′
+links-check-only κs a r r′ s s′ p q = only p q
+
+pub list-linked-only : (κs : _) (a : _) (r r′ : _) (s s′ : _) → list-linked.Post κs a r s → list-linked.Post κs a r′ s′
+    → (now (s .1 .1 .1 .1 .0) ≡ now (s′ .1 .1 .1 .1 .0)) × (r ≡ r′)
+list-linked-only κs a r r′ s s′ p q = (only (p .output) (q .output), only (p .answer) (q .answer))
 
 pub book-write-only : (κs : _) (a : _) (r r′ : _) (s s′ : _) → book-write.Post κs a r s → book-write.Post κs a r′ s′
     → (now (s .1 .1 .0) ≡ now (s′ .1 .1 .0)) × (r ≡ r′)

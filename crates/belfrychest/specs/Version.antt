@@ -3,4 +3,4 @@
 use Prim.Native.Nat.{ℕ}
 
 abbrev pub VERSION : ℕ
-VERSION = 4
+VERSION = 5

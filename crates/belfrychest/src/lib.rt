@@ -2,6 +2,7 @@
 // library's function returns, in a struct that C has too.
 pub mod ask;
 pub mod book;
+pub mod lent;
 pub mod list;
 pub mod name;
 pub mod page;
