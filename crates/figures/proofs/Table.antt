@@ -5,11 +5,8 @@
 use mathlib.Core.Path.{_≡_, refl}
 use mathlib.Core.Bool.{true}
 use mathlib.Core.List.{List, [], _∷_, flatMap}
-use Prim.Native.Nat.{ℕ}
-use lib.Dec.{eqb}
 use lib.Ieee.{ofInt, ofBits, toBits, div, lt}
-use borrow.Author.Tests.{eqb-true}
-use Rattle.laws.specs.Choose.{All, any, keep, firstAt}
+use Rattle.laws.specs.Choose.{All, any, keep, firstAt, equalb}
 use Rattle.nodes.specs.Node.{endsb, insideb, deeperb, directlyb, apartb, afterb, openb, sameb}
 use Rattle.nodes.specs.Words.{nodes, nodeAt, wordsOf}
 use Rattle.lists.specs.Check.{checkFrom, checkNodes, raggedb, longb, wordFault, checkWords}
@@ -28,6 +25,9 @@ use Rattle.marks.specs.Outcome.{outcomeOf, numberOutcome, numberOutput, tableMa
 use Rattle.marks.specs.Table.{closeAt, endOf, rowsFrom, tableOf, rowWords, tableWords, rows, rowIn, rowFault}
 use Rattle.forest.specs.Linked.{linksIn, linkedOf, linksOutput}
 use Rattle.forest.specs.Links.{upTo, firstOf, nodeIn, indices, innermostb, parentOf, childOf, siblingb, nextOf, linkOf, linksOf, linkWords}
+use Rattle.linked.specs.Check.{linkedb, checkLinks}
+use Rattle.linked.specs.Following.{answerWith, outputWith}
+use Rattle.linked.specs.Page.{unlinkedb, linkedPage, linkedOutput}
 use Rattle.trees.specs.Tree.{labels, listOf, treeWords}
 use Rattle.readings.specs.Reading.{withinb, decode}
 use Rattle.readings.specs.Sample.{sampled, pairedb, inZone, present}
@@ -46,22 +46,15 @@ use Rattle.ticket_words.specs.Page.{shownPage}
 use Rattle.ticket_words.specs.Words.{relationOf, orderOf, placeOf, ticketOf, ticketBack}
 use Rattle.questions.specs.Question.{questionsIn, checkQuestions}
 use Rattle.questions.specs.Ask.{findLists, pageTo, outputTo, wordsTaken, pagesTo, outputAfterAll, refusedPages, padded, askOf, askOutput}
-use Rattle.laws.proofs.Tests.{never, and-read}
-use Rattle.figures.specs.Figures.{Figure, figures, equalb, heldb}
-
--- Lists of numbers that pass the test are equal.
-equal : (xs ys : List ℕ) → equalb xs ys ≡ true → xs ≡ ys
-unfolding equalb
-equal [] [] h = refl
-equal [] (y ∷ ys) h = absurd (never h refl)
-equal (x ∷ xs) [] h = absurd (never h refl)
-equal (x ∷ xs) (y ∷ ys) h = let p = and-read (eqb x y) h in rw (eqb-true x y (p .0), equal xs ys (p .1))
+use Rattle.laws.proofs.Equal.{equal-read}
+use Rattle.laws.proofs.Tests.{and-read}
+use Rattle.figures.specs.Figures.{Figure, figures, heldb}
 
 -- Rows that pass the test have found what is stated.
 held : (rows : List Figure) → heldb rows ≡ true → All (λ r. r .found ≡ r .stated) rows
 unfolding heldb
 held [] h = tt
-held (r ∷ rows) h = let p = and-read (equalb (r .found) (r .stated)) h in (equal (r .found) (r .stated) (p .0), held rows (p .1))
+held (r ∷ rows) h = let p = and-read (equalb (r .found) (r .stated)) h in (equal-read (r .found) (r .stated) (p .0), held rows (p .1))
 
 -- The table passes the test.
 computed : heldb figures ≡ true
@@ -72,6 +65,7 @@ unfolding figures equalb heldb checkWords wordFault raggedb longb nodes checkNod
     openAfter strayb deepb markFault unclosedb faultFrom checkMarks outcomeOf numberOutcome numberOutput tableMarks unnumberOutcome
     unnumberOutput nodesWith pickedWords pickOutcome pickOutput closeAt endOf rowsFrom tableOf rowWords tableWords rows rowIn rowFault
     linksIn linkedOf linksOutput upTo firstOf nodeIn indices innermostb parentOf childOf siblingb nextOf linkOf linksOf linkWords
+    linkedb checkLinks answerWith outputWith unlinkedb linkedPage linkedOutput
     labels listOf treeWords ofInt ofBits toBits div lt nodeAt firstAt withinb decode sampled pairedb inZone present unbeaten lowOf highOf rangeOf zoneRange
     missingb faultyWordb labSamples insideZone sumOf subtotalOver subtotalWords sheetSubtotals sheetIn matchedb checkSheet sheetOf sheetOutput
     little bytesOf numbers numberAt partOf entries entryNumbers listsIn entriesIn entryAt contentsOf contentsEnd ascendb laidb brokenb

@@ -1,12 +1,12 @@
 -- docs/SCOPE.md, "Figures to hold against it": the cases marked [P] and some of our own, as rows of
 -- one table. Each row has its number above it.
 use Prim.Native.Nat.{ℕ, zero, suc, _+_, _*_}
-use mathlib.Core.Bool.{Bool, true, false, cond, _&&_}
+use mathlib.Core.Bool.{Bool, true, cond, _&&_}
 use mathlib.Core.List.{List, [], _∷_, _++_, map, flatMap}
-use lib.Dec.{eqb}
 use lib.Ieee.{binary32, toBits}
-use lib.ListN.{length, replicate, take, drop}
-use Rattle.answers.specs.Answer.{TAKEN, RAGGED, LONG, LEVEL, ORDER, CROSS, DEPTH, JOINT, ROOM, STRAY, UNCLOSED, CONTENTS, ABSENT, READING}
+use lib.ListN.{length, replicate, take, drop, set}
+use Rattle.answers.specs.Answer.{TAKEN, RAGGED, LONG, LEVEL, ORDER, CROSS, DEPTH, JOINT, ROOM, STRAY, UNCLOSED, CONTENTS, ABSENT, READING, LINKS}
+use Rattle.laws.specs.Choose.{equalb}
 use Rattle.nodes.specs.Words.{nodes}
 use Rattle.answers.specs.declared.verdict.Verdict.{Verdict}
 use Rattle.lists.specs.Check.{checkWords}
@@ -37,6 +37,9 @@ use Rattle.marks.specs.Outcome.{numberOutcome, numberOutput, unnumberOutcome, u
 use Rattle.marks.specs.Table.{ROW-WORDS}
 use Rattle.forest.specs.Linked.{linkedOf, linksOutput}
 use Rattle.forest.specs.Links.{NONE, LINK-WORDS}
+use Rattle.linked.specs.Check.{checkLinks}
+use Rattle.linked.specs.Following.{Lent, LentCall, answerLent, outputLent, shownLent}
+use Rattle.linked.specs.Following.Lent.{nothing, words as lent}
 use Rattle.sheets.specs.Hundredths.{NO-HUNDREDTHS}
 use Rattle.sheets.specs.Sheet.{SUBTOTAL-WORDS, sheetOf, sheetOutput}
 use Rattle.writing.specs.WriteCall.{bytesFor}
@@ -394,6 +397,50 @@ batch book questions spare answer count pages pairs =
       stated = answer ∷ count ∷ flatMap (λ p. p) pages ++ starts pairs ++ replicate spare UNTOUCHED;
     }
 
+-- The links of Z and of S.
+abbrev pub linksOfZ : List ℕ
+linksOfZ = NONE ∷ 1 ∷ NONE ∷ 0 ∷ NONE ∷ NONE ∷ []
+
+abbrev pub linksOfS : List ℕ
+linksOfS = NONE ∷ NONE ∷ 1 ∷ NONE ∷ NONE ∷ NONE ∷ []
+
+-- A figure of the check of links for a list, with an answer that points at no node.
+abbrev pub told : List ℕ → List ℕ → ℕ → Figure
+told list links answer = record { found = verdictNumbers (checkLinks list links); stated = answer ∷ ANCESTORS ∷ 0 ∷ [] }
+
+-- A figure of the links of Z with `word` put at each place in turn, and the check's answer to each.
+abbrev pub altered : ℕ → List ℕ → Figure
+altered word answers = record {
+  found = flatMap (λ place. checkLinks (words Z) (set linksOfZ place word) .answer ∷ []) (0 ∷ 1 ∷ 2 ∷ 3 ∷ 4 ∷ 5 ∷ []);
+  stated = answers;
+}
+
+-- A page call with these lists, what it is lent as links, and room for `room` pairs.
+abbrev pub lentCall : ℕ → List ℕ → List ℕ → Lent → LentCall
+lentCall room ancestors descendants links =
+    record { call = record { ancestors = ancestors; descendants = descendants; out = replicate (PAIR-WORDS * room) UNTOUCHED }; links = links }
+
+-- What such a call shows, as numbers: as for a plain call, and then the words of the output after
+-- the pairs.
+abbrev pub seenLent : Ticket → LentCall → List ℕ
+seenLent t k =
+    answerLent t k .verdict .answer ∷ answerLent t k .count
+    ∷ starts (map (λ p. (p .ancestor .start, p .descendant .start)) (shownLent t k)) ++ (cond (answerLent t k .done) 1 0 ∷ [])
+    ++ drop (PAIR-WORDS * answerLent t k .count) (outputLent t k)
+
+-- What a sequence of such calls shows, in which each takes the ticket that the last one returned.
+abbrev pub seenThroughLent : Ticket → List LentCall → List ℕ
+seenThroughLent t [] = []
+seenThroughLent t (k ∷ ks) = seenLent t k ++ seenThroughLent (answerLent t k .ticket) ks
+
+-- A figure of page calls, plain or lent links, that start with a fresh ticket.
+abbrev pub jumps : Relation → Order → List LentCall → List ℕ → Figure
+jumps relation order ks stated = record { found = seenThroughLent (ticketAt (asked relation order) Fresh) ks; stated = stated }
+
+-- What a page call shows that is refused with this answer and has room for `room` pairs.
+abbrev pub untouched : ℕ → ℕ → List ℕ
+untouched answer room = shows answer [] 0 ++ replicate (PAIR-WORDS * room) UNTOUCHED
+
 -- The table. A row's number and its meaning stand right above the row. A float is given by its
 -- bits, and the line above says which number that is.
 unfoldable pub figures : List Figure
@@ -681,14 +728,59 @@ figures =
     -- 136: a fault in a list that no question asks about, which comes before ABSENT.
     ∷ batch (bookOf ((2, Z) ∷ (3, S) ∷ (7, (1, 9, 3) ∷ (2, 3, 3) ∷ []) ∷ [])) (placed 2 3 ∷ placed 2 5 ∷ []) 8 TAKEN 2
     (keptPage DEPTH 2 1 ∷ keptPage DEPTH 2 1 ∷ []) []
+    -- 137: the links of Z are taken.
+    ∷ told (words Z) linksOfZ TAKEN
+    -- 138: with 0 at each place in turn, only the fourth word, which is 0 already, leaves them
+    -- right.
+    ∷ altered 0 (LINKS ∷ LINKS ∷ LINKS ∷ TAKEN ∷ LINKS ∷ LINKS ∷ [])
+    -- 139: the same with 1, which is the second word.
+    ∷ altered 1 (LINKS ∷ TAKEN ∷ LINKS ∷ LINKS ∷ LINKS ∷ LINKS ∷ [])
+    -- 140: and with the word for none.
+    ∷ altered NONE (TAKEN ∷ LINKS ∷ TAKEN ∷ LINKS ∷ TAKEN ∷ TAKEN ∷ [])
+    -- 141: the links of another list of two nodes.
+    ∷ told (words Z) linksOfS LINKS
+    -- 142: one word short.
+    ∷ told (words Z) (take 5 linksOfZ) LINKS
+    -- 143: one word long.
+    ∷ told (words Z) (linksOfZ ++ (NONE ∷ [])) LINKS
+    -- 144: no links for Z.
+    ∷ told (words Z) [] LINKS
+    -- 145: no links for an empty list.
+    ∷ told [] [] TAKEN
+    -- 146: one word for an empty list.
+    ∷ told [] (NONE ∷ []) LINKS
+    -- 147: a list that isn't accepted draws its own answer, whatever the words are.
+    ∷ record { found = verdictNumbers (checkLinks (words ((1, 5, 1) ∷ (5, 7, 2) ∷ [])) []); stated = CROSS ∷ ANCESTORS ∷ 1 ∷ [] }
+    -- 148: two documents with one root each: neither root comes next after the other.
+    ∷ told (documentWords 5 ((1, 9, 1) ∷ []) ++ documentWords 6 ((1, 9, 1) ∷ [])) (replicate 6 NONE) TAKEN
+    -- 149: next followed across documents.
+    ∷ told (documentWords 5 ((1, 9, 1) ∷ []) ++ documentWords 6 ((1, 9, 1) ∷ [])) (set (replicate 6 NONE) 2 1) LINKS
+    -- 150: lent the links of Z, the listing of Z and S, by inside in descendant order.
+    ∷ jumps Inside Descendant (lentCall 3 (words Z) (words S) (lent linksOfZ) ∷ []) (done ((2, 4) ∷ (3, 4) ∷ (2, 8) ∷ []))
+    -- 151: in ancestor order.
+    ∷ jumps Inside Ancestor (lentCall 3 (words Z) (words S) (lent linksOfZ) ∷ []) (done ((2, 4) ∷ (2, 8) ∷ (3, 4) ∷ []))
+    -- 152: directly inside, in descendant order.
+    ∷ jumps Directly Descendant (lentCall 2 (words Z) (words S) (lent linksOfZ) ∷ []) (done ((3, 4) ∷ (2, 8) ∷ []))
+    -- 153: in ancestor order.
+    ∷ jumps Directly Ancestor (lentCall 2 (words Z) (words S) (lent linksOfZ) ∷ []) (done ((2, 8) ∷ (3, 4) ∷ []))
+    -- 154: the only sample stands right after an inner zone, in descendant order.
+    ∷ jumps Inside Descendant (lentCall 1 (words Z) (words ((8, 9, 3) ∷ [])) (lent linksOfZ) ∷ []) (done ((2, 8) ∷ []))
+    -- 155: and in ancestor order.
+    ∷ jumps Inside Ancestor (lentCall 1 (words Z) (words ((8, 9, 3) ∷ [])) (lent linksOfZ) ∷ []) (done ((2, 8) ∷ []))
+    -- 156: room 2 with links, then the rest without.
+    ∷ jumps Inside Descendant (lentCall 2 (words Z) (words S) (lent linksOfZ) ∷ lentCall 1 (words Z) (words S) nothing ∷ [])
+    (notDone ((2, 4) ∷ (3, 4) ∷ []) ++ done ((2, 8) ∷ []))
+    -- 157: a call in between with links that aren't those of Z is refused, and changes nothing.
+    ∷ jumps Inside Descendant
+    (lentCall 2 (words Z) (words S) nothing ∷ lentCall 1 (words Z) (words S) (lent linksOfS) ∷ lentCall 1 (words Z) (words S) (lent linksOfZ) ∷ [])
+    (notDone ((2, 4) ∷ (3, 4) ∷ []) ++ untouched LINKS 1 ++ done ((2, 8) ∷ []))
+    -- 158: JOINT comes before LINKS.
+    ∷ jumps Inside Descendant (lentCall 1 (words ((1, 9, 1) ∷ [])) (words ((4, 12, 2) ∷ [])) (lent []) ∷ []) (untouched JOINT 1)
+    -- 159: so does a fault of the descendants' own list.
+    ∷ jumps Inside Descendant (lentCall 1 (words Z) (words ((8, 9, 3) ∷ (4, 6, 4) ∷ [])) (lent []) ∷ []) (untouched ORDER 1)
+    -- 160: empty lists with empty links.
+    ∷ jumps Inside Ancestor (lentCall 0 [] [] (lent []) ∷ []) (done [])
     ∷ []
-
--- The two lists of numbers are equal.
-unfoldable pub equalb : List ℕ → List ℕ → Bool
-equalb [] [] = true
-equalb [] (y ∷ ys) = false
-equalb (x ∷ xs) [] = false
-equalb (x ∷ xs) (y ∷ ys) = eqb x y && equalb xs ys
 
 -- Every row has found what is stated.
 unfoldable pub heldb : List Figure → Bool
