@@ -60,7 +60,7 @@ extern "C" {
 
 /* The version of the library that this header belongs to. It rises when something here changes:
  * belfry_version returns that of the archive, and the two have to be equal. */
-#define BELFRY_VERSION 4
+#define BELFRY_VERSION 5
 
 /* A call of words takes no null, and an answer that nobody looks at may be a refusal. A compiler
  * that has these attributes warns of a null and of a dropped answer. */
@@ -209,6 +209,8 @@ typedef enum belfry_order {
  * a NaN or below zero. Or it exceeds 100 percent or 1,000 grams per kilogram. In a sheet: a
  * sample's word is above 10,000 and isn't 65,535. */
 #define BELFRY_READING 17
+/* The links lent aren't exactly those of the list. In a page call that is the ancestors' list. */
+#define BELFRY_LINKS 18
 
 /* A node of a list. */
 typedef struct {
@@ -441,6 +443,25 @@ belfry_page belfry_list(const uint32_t *ancestors, size_t ancestor_words,
                         const uint32_t *descendants, size_t descendant_words, belfry_ticket ticket,
                         uint32_t *out, size_t out_words);
 
+/* Hands out the next page as belfry_list does, for a caller who lends the links of the ancestors
+ * too, as belfry_links writes them. With these it passes over a zone together with everything
+ * inside it, where no descendant lies in it. The page, the ticket and what is written are those of
+ * belfry_list, for every ticket and room. So the pages of a listing may come from both calls.
+ * The links may come from anyone, since each call checks them. After an edit of the ancestors they
+ * have to be written anew. The descendants have no part in them.
+ * On every farm that was measured, checking the links cost more than passing over zones saved. So
+ * use belfry_list unless you have measured otherwise.
+ * Answers: those of belfry_list. Then LINKS with list 0 and index 0, when the words aren't exactly
+ * the links of the ancestors. A refusal with LINKS is one like the others: the ticket comes back as
+ * it was, nothing is written, and the call isn't done.
+ * Takes at most 1,664 bytes of stack. */
+BELFRY_MUST_USE
+BELFRY_NONNULL
+belfry_page belfry_list_linked(const uint32_t *ancestors, size_t ancestor_words,
+                               const uint32_t *descendants, size_t descendant_words,
+                               const uint32_t *links, size_t link_words, belfry_ticket ticket,
+                               uint32_t *out, size_t out_words);
+
 /* Finds the low and the high of the lab readings in one zone. It reads both lists and the readings,
  * and writes nothing. `zone` is the zone's index. The readings have two words for each sample, in
  * the samples' order: a kind and the bits of a float.
@@ -514,6 +535,16 @@ BELFRY_MUST_USE
 BELFRY_NONNULL
 belfry_result belfry_links(const uint32_t *list, size_t words, uint32_t *out, size_t out_words);
 
+/* Checks links that may come from anyone. It reads the list and the links, and writes nothing. The
+ * answer is TAKEN exactly when the links are those that belfry_links writes for the list, word for
+ * word and no word more.
+ * Answers: those of belfry_check, then LINKS with list 0 and index 0.
+ * Takes at most 720 bytes of stack. */
+BELFRY_MUST_USE
+BELFRY_NONNULL
+belfry_verdict belfry_links_check(const uint32_t *list, size_t words, const uint32_t *links,
+                                  size_t link_words);
+
 /* Checks a book. It reads the book and writes nothing.
  * Answers: CONTENTS, then LEVEL to DEPTH for the first body at fault, with the list's place in the
  * book and the node's index in that list.
@@ -565,7 +596,7 @@ belfry_pages belfry_ask(const uint8_t *book, size_t bytes, const uint32_t *quest
                         size_t question_words, uint32_t *out, size_t out_words);
 
 /* Writes an answer's name into all eight bytes, padded with blanks; eight blanks for a number above
- * BELFRY_READING. It is never refused.
+ * BELFRY_LINKS. It is never refused.
  * Takes at most 160 bytes of stack. */
 BELFRY_NONNULL
 void belfry_name(uint32_t answer, uint8_t out[BELFRY_NAME_BYTES]);
@@ -659,6 +690,21 @@ static inline belfry_page belfry_list_pairs(const belfry_node *ancestors, size_t
                        BELFRY_WORDS_OF(out, room, ancestor.document));
 }
 
+/* Hands out the next page of pairs, as belfry_list_linked does: one link for each ancestor. Give
+ * room for BELFRY_PAGE_PAIRS, as to belfry_list_pairs.
+ * Answers: those of belfry_check_two_lists, then LINKS. */
+BELFRY_MUST_USE
+static inline belfry_page belfry_linked_pairs(const belfry_node *ancestors, size_t ancestor_count,
+                                              const belfry_node *descendants,
+                                              size_t descendant_count, const belfry_link *links,
+                                              size_t link_count, belfry_ticket ticket,
+                                              belfry_pair *out, size_t room) {
+    return belfry_list_linked(BELFRY_WORDS_OF(ancestors, ancestor_count, document),
+                              BELFRY_WORDS_OF(descendants, descendant_count, document),
+                              BELFRY_WORDS_OF(links, link_count, parent), ticket,
+                              BELFRY_WORDS_OF(out, room, ancestor.document));
+}
+
 /* Finds the low and the high of the lab readings in the zone at index `zone`, as belfry_zone_range
  * does: one reading for each sample. Where `present` is 0, there is no low and no high.
  * Answers: those of belfry_check_two_lists, RAGGED when there aren't as many readings as samples,
@@ -721,6 +767,15 @@ BELFRY_MUST_USE
 static inline belfry_result belfry_link_nodes(const belfry_node *list, size_t count,
                                               belfry_link *out, size_t room) {
     return belfry_links(BELFRY_WORDS_OF(list, count, document), BELFRY_WORDS_OF(out, room, parent));
+}
+
+/* Checks links that may come from anyone, as belfry_links_check does: one link for each node.
+ * Answers: those of belfry_check_nodes, then LINKS. */
+BELFRY_MUST_USE
+static inline belfry_verdict belfry_check_node_links(const belfry_node *list, size_t count,
+                                                     const belfry_link *links, size_t link_count) {
+    return belfry_links_check(BELFRY_WORDS_OF(list, count, document),
+                              BELFRY_WORDS_OF(links, link_count, parent));
 }
 
 /* Writes a book, as belfry_book_write does: `nodes` holds the nodes of all lists one after the

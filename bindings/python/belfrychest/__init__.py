@@ -11,14 +11,16 @@ shape (n, 4).
 read it.
 `pairs` lists the pairs of two lists one by one, `listing` returns all of them in one array, and
 `page` writes one page. These take lists of at most MOST nodes; `Pieces` takes lists of any length.
+All but `Pieces` may be lent the ancestors' `links`, and pass over zones without samples by them.
+`check_links` checks links that come from anyone.
 `zone_range` returns the low and the high of the lab readings in a zone, and None where it has none.
 `sheet` adds up the readings of every zone at once, in whole numbers.
 `ask` asks a book several questions in one call.
 
 A refusal of the library is raised as `Refused`, and leaves whatever was lent for writing as it was.
-`verdict` and `verdict_two` return it instead. So does `ask` for each question, in its `Reply`.
-Memory that can't be lent is a TypeError or a ValueError, and so is a number that doesn't have 32
-bits; neither reaches the archive.
+`verdict`, `verdict_two` and `verdict_links` return it instead. So does `ask` for each question, in
+its `Reply`. Memory that can't be lent is a TypeError or a ValueError, and so is a number that
+doesn't have 32 bits; neither reaches the archive.
 
 What is proved is proved of lists that stay as they are for the length of a call. So no other Python
 code runs during a call of the archive; but don't lend memory that is written meanwhile by another
@@ -26,7 +28,8 @@ process, or by a read in another thread.
 """
 from ._answers import Refused, Verdict, name
 from ._books import book_body, book_check, book_lists, book_write, book_write_into, write_book
-from ._lists import check, check_two, faulty, links, links_into, verdict, verdict_two
+from ._lists import check, check_links, check_two, faulty, links, links_into
+from ._lists import verdict, verdict_links, verdict_two
 from ._marks import number, number_into, pick, pick_into, unnumber, unnumber_into
 from ._memory import Buffer, Words
 from ._nodes import Link, Node, Pair, Row, Subtotal
@@ -47,8 +50,8 @@ __all__ = [
     "PAGE_PAIRS", "Page", "Pair", "Percent", "Pieces", "Question", "Range", "Reading", "Refused",
     "Relation", "Reply", "Row", "Subtotal", "TEXT", "Ticket", "Verdict", "Words", "__version__",
     "ask", "book_body", "book_check", "book_lists", "book_write", "book_write_into", "check",
-    "check_two", "faulty", "links", "links_into", "listing", "name", "node_links", "node_pairs",
-    "nodes", "number", "number_into", "page", "pairs", "pick", "pick_into", "reading_words",
-    "rows", "sheet", "sheet_into", "subtotals", "unnumber", "unnumber_into", "verdict",
-    "verdict_two", "words", "write_book", "zone_range",
+    "check_links", "check_two", "faulty", "links", "links_into", "listing", "name", "node_links",
+    "node_pairs", "nodes", "number", "number_into", "page", "pairs", "pick", "pick_into",
+    "reading_words", "rows", "sheet", "sheet_into", "subtotals", "unnumber", "unnumber_into",
+    "verdict", "verdict_links", "verdict_two", "words", "write_book", "zone_range",
 ]

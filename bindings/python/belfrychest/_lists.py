@@ -1,4 +1,4 @@
-"""Checking lists, and linking the nodes of one."""
+"""Checking lists, linking the nodes of one, and checking such links."""
 from array import array
 
 from ._answers import Verdict, settle, verdict_of
@@ -10,6 +10,7 @@ _check = function("check", VerdictStruct, *lent_memory)
 _check_two = function("check_two", VerdictStruct, *lent_memory, *lent_memory)
 _faulty = function("faulty", PartStruct, *lent_memory, *lent_memory)
 _links = function("links", WrittenStruct, *lent_memory, *lent_memory)
+_links_check = function("links_check", VerdictStruct, *lent_memory, *lent_memory)
 
 
 def verdict(nodes: Buffer) -> Verdict:
@@ -70,3 +71,17 @@ def links(nodes: Buffer) -> Words:
     out = room_for("nodes", nodes, NODES, LINK_WORDS)
     del out[LINK_WORDS * links_into(nodes, out):]
     return out
+
+
+def verdict_links(nodes: Buffer, links: Buffer) -> Verdict:
+    """Returns what the check of links answers, which may come from anyone: what is wrong with the
+    list, then LINKS unless the words are exactly what `links` returns for it.
+    """
+    with lent("nodes", nodes, NODES) as given, lent("links", links, LINKS) as forest:
+        found = _links_check(given.address, given.length, forest.address, forest.length)
+    return verdict_of(found)
+
+
+def check_links(nodes: Buffer, links: Buffer) -> None:
+    """Raises `Refused` unless the list is accepted and the links are its own."""
+    settle(verdict_links(nodes, links))

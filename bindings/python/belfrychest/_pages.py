@@ -2,19 +2,22 @@
 import operator
 import struct
 from array import array
+from contextlib import contextmanager
 from dataclasses import dataclass
 from enum import IntEnum
-from typing import Any, Callable, Iterator, Sequence, Tuple
+from typing import Any, Callable, Iterator, Optional, Sequence, Tuple
 
 from ._answers import settle, verdict_of
 from ._archive import PageStruct, TicketStruct, function, lent_memory
-from ._memory import NODES, PAIRS, Buffer, Words, keep_apart, lent, word
+from ._memory import LINKS, NODES, PAIRS, Buffer, Lent, Words, keep_apart, lent, word
 from ._nodes import Pair, node_pairs
 from ._table import (
     NUMBER_BYTES, PAGE_PAIRS, PAIR_WORDS, TICKET_BYTES, TICKET_FORM, TICKET_WORDS,
 )
 
 _list = function("list", PageStruct, *lent_memory, *lent_memory, TicketStruct, *lent_memory)
+_list_linked = function("list_linked", PageStruct, *lent_memory, *lent_memory, *lent_memory,
+                        TicketStruct, *lent_memory)
 
 
 class Relation(IntEnum):
@@ -134,30 +137,51 @@ def refuse_no_room(words: int) -> None:
             "never be the last")
 
 
-def page(ancestors: Buffer, descendants: Buffer, ticket: Ticket, out: Buffer) -> Page:
+@contextmanager
+def _lent_links(links: Optional[Buffer]) -> Iterator[Tuple[Lent, ...]]:
+    """Lends the links, if there are any."""
+    if links is None:
+        yield ()
+    else:
+        with lent("links", links, LINKS) as forest:
+            yield (forest,)
+
+
+def page(ancestors: Buffer, descendants: Buffer, ticket: Ticket, out: Buffer, *,
+         links: Optional[Buffer] = None) -> Page:
     """Writes the next pairs of a listing into `out`, as many as it has room for, eight words each:
     the ancestor's four, then the descendant's.
 
     The answer's ticket leads to the next page. A refusal is raised and counts for nothing: the
     ticket given is still good. Every page checks both lists anew, and many small pages are slow:
     give room for PAGE_PAIRS pairs.
+
+    The links of the ancestors, as `links` returns them, may be lent too. Zones without samples are
+    then passed over together with everything inside them, and the page is the same. The links may
+    come from anyone, and are refused with LINKS unless they are exactly those of the ancestors as
+    they are now. On every farm that was measured, checking them cost more than it saved.
     """
     require("ticket", ticket, Ticket)
     given = TicketStruct(*ticket.to_words())
     with lent("ancestors", ancestors, NODES) as zones, \
             lent("descendants", descendants, NODES) as samples, \
+            _lent_links(links) as forest, \
             lent("out", out, PAIRS, writable=True) as room:
-        keep_apart(room, zones, samples)
+        keep_apart(room, zones, samples, *forest)
         refuse_no_room(room.length)
-        found = _list(zones.address, zones.length, samples.address, samples.length, given,
-                      room.address, room.length)
+        read = [number for memory in (zones, samples, *forest)
+                for number in (memory.address, memory.length)]
+        found = (_list_linked if forest else _list)(*read, given, room.address, room.length)
     settle(verdict_of(found.verdict, two_lists=True))
     return Page(found.count, found.done != 0, ticket_of(found.ticket))
 
 
 def pairs(ancestors: Buffer, descendants: Buffer, *, relation: Relation = Relation.INSIDE,
-          order: Order = Order.DESCENDANT, room: int = PAGE_PAIRS) -> Iterator[Pair]:
-    """Lists all pairs of two lists, one by one. They are fetched in pages of `room` pairs.
+          order: Order = Order.DESCENDANT, room: int = PAGE_PAIRS,
+          links: Optional[Buffer] = None) -> Iterator[Pair]:
+    """Lists all pairs of two lists, one by one. They are fetched in pages of `room` pairs. The
+    links of the ancestors may be lent as to `page`. If the ancestors are edited between two pairs,
+    write their links anew into the same memory, with `links_into`.
 
     Between two pairs the lists may be edited, and the next page sees it. When the listing ends,
     every pair that stood in the lists unaltered at each page has been handed out. Each pair handed
@@ -166,17 +190,19 @@ def pairs(ancestors: Buffer, descendants: Buffer, *, relation: Relation = Relati
     tickets). A page that is refused raises `Refused` and ends the listing; to go on after a repair,
     call `page` and keep its tickets.
     """
-    return turned(lambda ticket, out: page(ancestors, descendants, ticket, out),
+    return turned(lambda ticket, out: page(ancestors, descendants, ticket, out, links=links),
                   Ticket.fresh(relation=relation, order=order), room)
 
 
 def listing(ancestors: Buffer, descendants: Buffer, *, relation: Relation = Relation.INSIDE,
-            order: Order = Order.DESCENDANT) -> Words:
-    """Returns all pairs of two lists in one array, eight words each, as `page` writes them."""
+            order: Order = Order.DESCENDANT, links: Optional[Buffer] = None) -> Words:
+    """Returns all pairs of two lists in one array, eight words each, as `page` writes them. The
+    links of the ancestors may be lent as to `page`.
+    """
     whole, ticket, done = array("I"), Ticket.fresh(relation=relation, order=order), False
     out = page_room(PAGE_PAIRS)
     while not done:
-        written = page(ancestors, descendants, ticket, out)
+        written = page(ancestors, descendants, ticket, out, links=links)
         whole += out[:PAIR_WORDS * written.count]
         ticket, done = written.ticket, written.done
     return whole

@@ -1,7 +1,7 @@
 """The version, the limits of the C header, and the answers. Written by bin/tables."""
 from enum import IntEnum
 
-__version__ = "4"
+__version__ = "5"
 
 MOST_NODES = 4096
 MOST_LEVELS = 64
@@ -65,6 +65,7 @@ class Answer(IntEnum):
     CONTENTS = 15
     ABSENT = 16
     READING = 17
+    LINKS = 18
 
 
 HINTS = {
@@ -138,5 +139,9 @@ HINTS = {
         "per kilogram from 0 to 1,000, or a missing one, whose bits are 0. For a sheet, give "
         "hundredths of a percent from 0 to 10,000, or 65,535 for a missing one. Never give 0 for "
         "a sample that the lab didn't read."
+    ),
+    Answer.LINKS: (
+        "Write the links of that list anew: these are of another list, are older than its last "
+        "edit, or are cut off. A page call without links gives the same page."
     ),
 }

@@ -27,6 +27,10 @@
 //! lists are edited between the pages, [`next_page`] hands out a page at a time and a [`Ticket`] to
 //! go on with. [`Pieces`] does all this for lists of any length.
 //!
+//! The zones' [`links`] may be lent too. [`next_linked_page`] and [`Listing::linked`] find the same
+//! pairs, and pass over a zone without samples with all that is inside it. On every farm
+//! that was measured, checking the links cost more than it saved.
+//!
 //! [`zone_range`] returns the low and the high of the lab readings in a zone. Where the lab has
 //! read none of its samples it returns `None`, and never 0. [`sheet()`] adds up the readings of
 //! every zone at once, in whole numbers, and counts the samples that have one.
@@ -61,11 +65,11 @@ mod ticket;
 pub use answer::Refusal;
 pub use book::{body_nodes, book_body, book_bytes, book_check, book_write, book_write_into};
 pub use limits::*;
-pub use list::{check, check_two, faulty, links, links_into, Fault};
+pub use list::{check, check_links, check_two, faulty, links, links_into, Fault};
 pub use listing::{listing, Listing};
 pub use marks::{number, number_into, pick, pick_into, unnumber, unnumber_into};
-pub use node::{nodes, rows, Entry, Link, Node, Pair, Row};
-pub use page::{next_page, Page};
+pub use node::{node_links, nodes, rows, Entry, Link, Node, Pair, Row};
+pub use page::{next_linked_page, next_page, Page};
 pub use pieces::Pieces;
 pub use question::{ask, Found, Question, Replies, Reply};
 pub use raw::{version, words};

@@ -1,4 +1,4 @@
-//! The checks of one list and of two, the part to repair, and the links of a list.
+//! The checks of one list and of two, the part to repair, and the links of a list with their check.
 
 use crate::answer::{settle, settle_two, Refusal};
 use crate::limits::{DESCENDANTS, MOST_NODES, NODE_WORDS};
@@ -50,4 +50,10 @@ pub fn links_into(list: &[Node], out: &mut [Link]) -> Result<usize, Refusal> {
     let written = raw::links(words(list), words_mut(out));
     settle(written.verdict)?;
     Ok(written.count)
+}
+
+/// Checks links that may come from anyone. They are taken exactly when they are those that
+/// [`links`] returns for the list. Refused as [`check`] is, then with LINKS.
+pub fn check_links(list: &[Node], links: &[Link]) -> Result<(), Refusal> {
+    settle(raw::links_check(words(list), words(links)))
 }

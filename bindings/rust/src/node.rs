@@ -136,6 +136,13 @@ pub fn rows(words: &[u32]) -> Result<&[Row], Refusal> {
     whole(words)
 }
 
+/// Returns words as links, three for each node, without a copy. Refused with LINKS where a word is
+/// left over, since no list has such links. Whether they are the links of a list is what
+/// [`crate::check_links`] tells.
+pub fn node_links(words: &[u32]) -> Result<&[Link], Refusal> {
+    items(words).ok_or_else(|| Refusal::without_place(Answer::Links))
+}
+
 fn whole<T: OfWords>(words: &[u32]) -> Result<&[T], Refusal> {
     items(words).ok_or_else(|| Refusal::without_place(Answer::Ragged))
 }

@@ -1,7 +1,7 @@
 //! A page of a listing.
 
 use crate::answer::{settle_two, Refusal};
-use crate::node::{Node, Pair};
+use crate::node::{Link, Node, Pair};
 use crate::raw::{self, words, words_mut};
 use crate::table::Answer;
 use crate::ticket::Ticket;
@@ -36,6 +36,62 @@ pub fn next_page(
     page_within(ancestors, descendants, ticket, out)
 }
 
+/// Does what [`next_page`] does, for a caller who lends the links of the ancestors too. The call
+/// passes over a zone together with everything inside it, where no descendant lies in it. The page
+/// is that of [`next_page`] for every ticket and output, so the pages of a listing may come from
+/// both.
+///
+/// Every page checks the links too, so they may come from anyone. On every farm that was
+/// measured, this cost more than it saved. After an edit of the ancestors they have to be made
+/// anew:
+///
+/// ```
+/// use belfrychest::{links, next_linked_page, next_page};
+/// use belfrychest::{Answer, Node, Order, Pair, Relation, Ticket};
+///
+/// let node = |start, end, level| Node { document: 5, start, end, level };
+///
+/// // The second zone holds the third, and no sample.
+/// let mut zones = vec![node(1, 40, 1), node(2, 9, 2), node(3, 8, 3), node(20, 29, 2)];
+///
+/// let samples = [node(21, 22, 3)];
+/// let forest = links(&zones)?;
+///
+/// let ticket = Ticket::fresh(Relation::Inside, Order::Descendant);
+/// let (mut out, mut plain) = ([Pair::default(); 4], [Pair::default(); 4]);
+///
+/// let page = next_linked_page(&zones, &samples, &forest, ticket, &mut out)?;
+/// assert_eq!(page, next_page(&zones, &samples, ticket, &mut plain)?);
+/// assert_eq!((page.count, out), (2, plain));
+///
+/// zones.remove(2);
+/// let refused = next_linked_page(&zones, &samples, &forest, ticket, &mut out);
+/// assert_eq!(refused.unwrap_err().answer, Answer::Links);
+///
+/// let page = next_linked_page(&zones, &samples, &links(&zones)?, ticket, &mut out)?;
+/// assert_eq!((page.count, page.done), (2, true));
+/// # Ok::<(), belfrychest::Refusal>(())
+/// ```
+///
+/// Refused as [`next_page`] is, then with LINKS where the links aren't exactly those of the
+/// ancestors.
+pub fn next_linked_page(
+    ancestors: &[Node],
+    descendants: &[Node],
+    links: &[Link],
+    ticket: Ticket,
+    out: &mut [Pair],
+) -> Result<Page, Refusal> {
+    hold_room(out)?;
+    settled(raw::list_linked(
+        words(ancestors),
+        words(descendants),
+        words(links),
+        ticket.into(),
+        words_mut(out),
+    ))
+}
+
 /// Refuses an output with no place for a pair.
 pub(crate) fn hold_room(out: &[Pair]) -> Result<(), Refusal> {
     if out.is_empty() {
@@ -52,7 +108,11 @@ pub(crate) fn page_within(
     ticket: Ticket,
     out: &mut [Pair],
 ) -> Result<Page, Refusal> {
-    let page = raw::list(words(ancestors), words(descendants), ticket.into(), words_mut(out));
+    settled(raw::list(words(ancestors), words(descendants), ticket.into(), words_mut(out)))
+}
+
+/// Returns the page that a call answered, or its refusal.
+fn settled(page: raw::Page) -> Result<Page, Refusal> {
     settle_two(page.verdict)?;
     Ok(Page { count: page.count, done: page.done != 0, ticket: page.ticket.into() })
 }

@@ -148,6 +148,17 @@ extern "C" {
         out: *mut u32,
         out_words: usize,
     ) -> Page;
+    fn belfry_list_linked(
+        ancestors: *const u32,
+        ancestor_words: usize,
+        descendants: *const u32,
+        descendant_words: usize,
+        links: *const u32,
+        link_words: usize,
+        ticket: Ticket,
+        out: *mut u32,
+        out_words: usize,
+    ) -> Page;
     fn belfry_zone_range(
         zones: *const u32,
         zone_words: usize,
@@ -188,6 +199,12 @@ extern "C" {
         out_words: usize,
     ) -> Written;
     fn belfry_links(list: *const u32, words: usize, out: *mut u32, out_words: usize) -> Written;
+    fn belfry_links_check(
+        list: *const u32,
+        words: usize,
+        links: *const u32,
+        link_words: usize,
+    ) -> Verdict;
     fn belfry_book_check(book: *const u8, bytes: usize) -> Book;
     fn belfry_book_body(book: *const u8, bytes: usize, tag: u32) -> Body;
     fn belfry_book_write(
@@ -267,6 +284,30 @@ pub fn list(ancestors: &[u32], descendants: &[u32], ticket: Ticket, out: &mut [u
     }
 }
 
+/// Returns the page that `belfry_list_linked` writes and answers.
+pub fn list_linked(
+    ancestors: &[u32],
+    descendants: &[u32],
+    links: &[u32],
+    ticket: Ticket,
+    out: &mut [u32],
+) -> Page {
+    hold_version();
+    unsafe {
+        belfry_list_linked(
+            ancestors.as_ptr(),
+            ancestors.len(),
+            descendants.as_ptr(),
+            descendants.len(),
+            links.as_ptr(),
+            links.len(),
+            ticket,
+            out.as_mut_ptr(),
+            out.len(),
+        )
+    }
+}
+
 /// Returns what `belfry_zone_range` answers for a zone.
 pub fn zone_range(zones: &[u32], samples: &[u32], readings: &[u32], zone: u32) -> Range {
     hold_version();
@@ -322,6 +363,12 @@ pub fn pick(table: &[u32], tag: u32, out: &mut [u32]) -> Written {
 pub fn links(list: &[u32], out: &mut [u32]) -> Written {
     hold_version();
     unsafe { belfry_links(list.as_ptr(), list.len(), out.as_mut_ptr(), out.len()) }
+}
+
+/// Returns what `belfry_links_check` answers for a list and words that may be its links.
+pub fn links_check(list: &[u32], links: &[u32]) -> Verdict {
+    hold_version();
+    unsafe { belfry_links_check(list.as_ptr(), list.len(), links.as_ptr(), links.len()) }
 }
 
 /// Returns what `belfry_book_check` answers for a book.

@@ -1,7 +1,7 @@
 //! The version, the answers and their hints. Written by bin/tables.
 
 /// The version of the library that this crate is made for.
-pub const VERSION: u32 = 4;
+pub const VERSION: u32 = 5;
 
 /// What a call can answer, by the numbers of docs/SCOPE.md, Answer numbers.
 #[derive(Clone, Copy, Debug, PartialEq, Eq, Hash)]
@@ -50,6 +50,8 @@ pub enum Answer {
     /// infinite, a NaN or below zero. Or it exceeds 100 percent or 1,000 grams per kilogram. In a
     /// sheet: a sample's word is above 10,000 and isn't 65,535.
     Reading,
+    /// The links lent aren't exactly those of the list. In a page call that is the ancestors' list.
+    Links,
     /// An answer that this crate doesn't know, by its number.
     Unknown(u32),
 }
@@ -126,5 +128,10 @@ pub(crate) const ROWS: &[(Answer, &str)] = &[
         per kilogram from 0 to 1,000, or a missing one, whose bits are 0. For a sheet, give \
         hundredths of a percent from 0 to 10,000, or 65,535 for a missing one. Never give 0 for \
         a sample that the lab didn't read.",
+    ),
+    (
+        Answer::Links,
+        "Write the links of that list anew: these are of another list, are older than its last \
+        edit, or are cut off. A page call without links gives the same page.",
     ),
 ];

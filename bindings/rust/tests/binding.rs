@@ -503,6 +503,116 @@ fn nodes_are_linked() {
     assert_eq!(links(&siblings(MOST_NODES + 1)), Err(refusal(Answer::Long)));
 }
 
+/// Returns the links with one word changed.
+fn with_word(links: &[Link], place: usize, word: u32) -> Vec<Link> {
+    let mut changed = words(links).to_vec();
+    changed[place] = word;
+    node_links(&changed).expect("they are whole").to_vec()
+}
+
+#[test]
+fn links_are_taken_exactly_when_they_are_those_of_the_list() {
+    let list = [ZONES[0], ZONES[1], SAMPLES[1]];
+    let linked = links(&list).expect("the list is taken");
+    let wrong = Err(refusal(Answer::Links));
+    assert_eq!(check_links(&list, &linked), Ok(()));
+    assert_eq!(check_links(&[], &[]), Ok(()));
+    for place in 0..words(&linked).len() {
+        for word in [0, 1, 2, 3, 1 << 31, NONE - 1, NONE] {
+            let is_changed = words(&linked)[place] != word;
+            let expected = if is_changed { wrong } else { Ok(()) };
+            assert_eq!(check_links(&list, &with_word(&linked, place, word)), expected);
+        }
+    }
+    assert_eq!(check_links(&list, &linked[..2]), wrong);
+    assert_eq!(check_links(&list, &[&linked[..], &linked[2..]].concat()), wrong);
+    assert_eq!(check_links(&list, &[]), wrong);
+    assert_eq!(check_links(&[], &linked[..1]), wrong);
+    assert_eq!(check_links(&SAMPLES, &links(&ZONES).expect("they are taken")), wrong);
+    assert_eq!(check_links(&TURNED, &linked), Err(refusal_at(Answer::Order, 0, 1)));
+    assert_eq!(check_links(&siblings(MOST_NODES + 1), &[]), Err(refusal(Answer::Long)));
+    let hint = Answer::Links.hint();
+    let said = check_links(&list, &[]).expect_err("there are no links").to_string();
+    assert_eq!(said, format!("refused 18 LINKS: {hint}"));
+}
+
+#[test]
+fn words_are_lent_as_links_and_back() {
+    let linked = links(&ZONES).expect("they are taken");
+    let stored = words(&linked).to_vec();
+    let lent = node_links(&stored).expect("they are whole");
+    assert_eq!(lent, linked);
+    assert_eq!(lent.as_ptr().cast(), stored.as_ptr());
+    assert_eq!(node_links(&[]), Ok(&[][..]));
+    for left_over in 1..LINK_WORDS {
+        assert_eq!(node_links(&stored[left_over..]), Err(refusal(Answer::Links)));
+    }
+}
+
+/// Returns all pairs by page calls that are lent links and have room for `room` pairs. Each page
+/// must be the one of a call without links.
+fn paged_with_links(lists: &(Vec<Node>, Vec<Node>), fresh: Ticket, room: usize) -> Vec<Pair> {
+    let (zones, samples) = lists;
+    let linked = links(zones).expect("the farm is taken");
+    let (mut out, mut plain) = (vec![PAIR_PAINT; room], vec![PAIR_PAINT; room]);
+    let (mut found, mut ticket) = (Vec::new(), fresh);
+    loop {
+        let page = next_linked_page(zones, samples, &linked, ticket, &mut out);
+        assert_eq!((page, &out), (next_page(zones, samples, ticket, &mut plain), &plain));
+        let Page { count, done, ticket: next } = page.expect("the farm is taken");
+        found.extend_from_slice(&out[..count]);
+        if done {
+            return found;
+        }
+        ticket = next;
+    }
+}
+
+#[test]
+fn pages_with_links_are_the_pages_without() {
+    let farm = sample_farm();
+    let (zones, samples) = &farm;
+    let linked = links(zones).expect("the farm is taken");
+    for (relation, order) in [(0, 0), (0, 1), (1, 0), (1, 1)] {
+        let fresh = Ticket::from_words([relation, order, 0, 0, 0, 0]);
+        let Ticket { relation, order, .. } = fresh;
+        let whole = listing(zones, samples, relation, order).expect("the farm is taken");
+        for room in 1..=whole.len() + 1 {
+            assert_eq!(paged_with_links(&farm, fresh, room), whole);
+            let buffer = vec![PAIR_PAINT; room];
+            let listing = Listing::linked(zones, samples, &linked, relation, order, buffer);
+            assert_eq!(listing.expect("the farm is taken").collect::<Vec<_>>(), whole);
+        }
+    }
+}
+
+#[test]
+fn a_page_with_wrong_links_is_refused_and_leaves_the_output() {
+    let linked = links(&ZONES).expect("they are taken");
+    let fresh = Ticket::fresh(Relation::Directly, Order::Ancestor);
+    let mut out = [PAIR_PAINT; 2];
+    let mut refused = |descendants: &[Node], links: &[Link]| {
+        let found = next_linked_page(&ZONES, descendants, links, fresh, &mut out);
+        let listing =
+            Listing::linked(&ZONES, descendants, links, fresh.relation, fresh.order, [PAIR_PAINT]);
+        assert_eq!(listing.map(|_| ()), found.map(|_| ()));
+        assert_eq!(out, [PAIR_PAINT; 2]);
+        found.expect_err("something is wrong with it")
+    };
+    for place in 0..words(&linked).len() {
+        let changed = with_word(&linked, place, 7);
+        assert_eq!(refused(&SAMPLES, &changed), refusal(Answer::Links));
+        assert_eq!(refused(&[], &changed), refusal(Answer::Links));
+        assert_eq!(refused(&CROSSING, &changed), refusal(Answer::Joint));
+        assert_eq!(refused(&TURNED, &changed), refusal_at(Answer::Order, DESCENDANTS, 1));
+    }
+    assert_eq!(refused(&SAMPLES, &linked[..1]), refusal(Answer::Links));
+    assert_eq!(refused(&SAMPLES, &[]), refusal(Answer::Links));
+    assert_eq!(refused(&CROSSING, &linked), refusal(Answer::Joint));
+    let long = Refusal { list: Some(DESCENDANTS), ..refusal(Answer::Long) };
+    assert_eq!(refused(&siblings(MOST_NODES + 1), &[]), long);
+}
+
 const BOOK: &[u8; 92] = include_bytes!("../../../examples/figure.book");
 const ENTRIES: [Entry; 2] = [Entry { tag: 2, count: 2 }, Entry { tag: 3, count: 2 }];
 

@@ -25,6 +25,10 @@ belfry_page belfry_list(const uint32_t *, size_t, const uint32_t *, size_t, belf
                         uint32_t *, size_t) {
     return {refused, 0, 0, ticket};
 }
+belfry_page belfry_list_linked(const uint32_t *, size_t, const uint32_t *, size_t, const uint32_t *,
+                               size_t, belfry_ticket ticket, uint32_t *, size_t) {
+    return {refused, 0, 0, ticket};
+}
 belfry_range belfry_zone_range(const uint32_t *, size_t, const uint32_t *, size_t, const uint32_t *,
                                size_t, uint32_t) {
     return {refused, 0, 0, 0};
@@ -44,6 +48,9 @@ belfry_result belfry_pick(const uint32_t *, size_t, uint32_t, uint32_t *, size_t
 }
 belfry_result belfry_links(const uint32_t *, size_t, uint32_t *, size_t) {
     return {refused, 0};
+}
+belfry_verdict belfry_links_check(const uint32_t *, size_t, const uint32_t *, size_t) {
+    return refused;
 }
 belfry_book belfry_book_check(const uint8_t *, size_t) {
     return {refused, 0};

@@ -135,12 +135,39 @@ fn a_page_with_room_for_no_pair_is_refused() {
         assert_eq!(next_page(&zones, &samples, ticket, &mut []), Err(room));
         assert_eq!(Pieces::new(&zones, &samples).page(ticket, &mut []), Err(room));
     }
+    assert_eq!(next_linked_page(&zones, &samples, &[], fresh, &mut []), Err(room));
     let listing = |samples| Listing::new(&zones, samples, INSIDE, BY_SAMPLES, []).map(|_| ());
     assert_eq!(listing(&samples), Err(room));
     assert_eq!(listing(&[]), Err(room));
     let asked = |questions: &[Question]| ask(&[], questions, &mut []).map(|_| ());
     assert_eq!(asked(&[Question::fresh(2, 3, INSIDE, BY_SAMPLES)]), Err(room));
     assert_eq!(asked(&[]), Err(room));
+}
+
+/// Tries links that were made before the zones were edited, and those of the samples. The ticket is
+/// still good, and the listing goes on with links that are made anew, or without any.
+#[test]
+fn links_from_before_an_edit_are_refused() {
+    let mut zones = vec![node(2, 30, 2), node(3, 7, 3), node(9, 20, 3), node(10, 15, 4)];
+    let samples = [node(4, 6, 4), node(11, 12, 5), node(16, 17, 4), node(21, 22, 3)];
+    let before = links(&zones).expect("the zones are taken");
+    let mut out = [Pair::default(); 5];
+    let fresh = Ticket::fresh(INSIDE, BY_SAMPLES);
+    let first = next_linked_page(&zones, &samples, &before, fresh, &mut out[..2]);
+    let Page { count, done, ticket } = first.expect("the zones are taken");
+    assert_eq!((count, done), (2, false));
+
+    zones[3] = node(23, 25, 3);
+    let of_samples = links(&samples).expect("the samples are taken");
+    for wrong in [before, of_samples] {
+        let refused = next_linked_page(&zones, &samples, &wrong, ticket, &mut out);
+        assert_eq!(refused, Err(refusal(Answer::Links)));
+    }
+    let anew = links(&zones).expect("the zones are taken");
+    let linked = next_linked_page(&zones, &samples, &anew, ticket, &mut out);
+    let plain = next_page(&zones, &samples, ticket, &mut [Pair::default(); 5]);
+    assert_eq!(linked, plain);
+    assert_eq!(linked.map(|page| (page.count, page.done)), Ok((5, true)));
 }
 
 /// Tries a question to a list that the book doesn't have, between one whose list is empty and one
