@@ -73,6 +73,46 @@ static void call_list(void) {
     expect_output(out, sizeof out, out, 0);
 }
 
+/* The links of the zones, and one word more. */
+static const uint32_t zone_links[] = {BELFRY_NONE, 1, BELFRY_NONE, 0, BELFRY_NONE, BELFRY_NONE, 0};
+
+/* Checks a page that isn't the last one, of a call that is lent links. */
+static void expect_linked(const char *what, belfry_page page, uint32_t answer, size_t count,
+                          belfry_ticket ticket) {
+    expect_verdict(what, page.verdict, answer, 0, 0);
+    expect("done", page.done, 0);
+    expect("count", page.count, count);
+    expect_ticket(page.ticket, ticket);
+}
+
+/* Fetches the page of two pairs with the links of the zones, then with a wrong word, a word less, a
+ * word more and none at all. Lists that don't go together come before the links. */
+static void call_list_linked(void) {
+    const uint32_t pairs[] = {5, 2, 10, 2, 5, 4, 6, 4, 5, 2, 10, 2, 5, 8, 9, 3};
+    const uint32_t crossing[] = {5, 6, 8, 3}, wrong[] = {none, 1, none, 0, none, 1};
+    const belfry_ticket fresh = {BELFRY_INSIDE, 9, BELFRY_FRESH, 71, 72, 73};
+    const belfry_ticket after_two = {BELFRY_INSIDE, 9, BELFRY_PLACED, 5, 2, 8};
+    uint32_t out[MOST];
+
+    memset(out, PAINT, sizeof out);
+    belfry_page page = belfry_list_linked(zones, 8, samples, 8, zone_links, 6, fresh, out, 16);
+    expect_linked("belfry_list_linked", page, BELFRY_TAKEN, 2, after_two);
+    expect_output(out, sizeof out, pairs, sizeof pairs);
+
+    memset(out, PAINT, sizeof out);
+    page = belfry_list_linked(zones, 8, samples, 8, wrong, 6, fresh, out, 16);
+    expect_linked("belfry_list_linked, a wrong word", page, BELFRY_LINKS, 0, fresh);
+    page = belfry_list_linked(zones, 8, samples, 8, zone_links, 5, fresh, out, 16);
+    expect_linked("belfry_list_linked, a word less", page, BELFRY_LINKS, 0, fresh);
+    page = belfry_list_linked(zones, 8, samples, 8, zone_links, 7, fresh, out, 16);
+    expect_linked("belfry_list_linked, a word more", page, BELFRY_LINKS, 0, fresh);
+    page = belfry_list_linked(zones, 8, samples, 8, zone_links, 0, after_two, out, 16);
+    expect_linked("belfry_list_linked, no word", page, BELFRY_LINKS, 0, after_two);
+    page = belfry_list_linked(zones, 8, crossing, 4, wrong, 6, fresh, out, 16);
+    expect_linked("belfry_list_linked, lists at odds", page, BELFRY_JOINT, 0, fresh);
+    expect_output(out, sizeof out, out, 0);
+}
+
 /* Asks the outer zone for its low and high, then the inner zone without a reading and with a faulty
  * one. */
 static void call_zone_range(void) {
@@ -170,6 +210,28 @@ static void call_links(void) {
     expect_verdict("belfry_links, refused", linked.verdict, BELFRY_ORDER, 0, 1);
     expect("count", linked.count, 0);
     expect_output(out, sizeof out, out, 0);
+}
+
+/* Checks the links of the zones, and the same with a wrong word, a word less and a word more. The
+ * refusal of a list comes before that of its links. */
+static void call_links_check(void) {
+    uint32_t links[COUNT(zone_links)];
+    memcpy(links, zone_links, sizeof links);
+    expect_verdict("belfry_links_check", belfry_links_check(zones, 8, links, 6), BELFRY_TAKEN, 0,
+                   0);
+    expect_verdict("belfry_links_check, a word less", belfry_links_check(zones, 8, links, 5),
+                   BELFRY_LINKS, 0, 0);
+    expect_verdict("belfry_links_check, a word more", belfry_links_check(zones, 8, links, 7),
+                   BELFRY_LINKS, 0, 0);
+    expect_verdict("belfry_links_check, of other nodes", belfry_links_check(samples, 8, links, 6),
+                   BELFRY_LINKS, 0, 0);
+    expect_verdict("belfry_links_check, a refused list", belfry_links_check(turned, 12, links, 6),
+                   BELFRY_ORDER, 0, 1);
+    links[3] = none;
+    expect_verdict("belfry_links_check, a wrong word", belfry_links_check(zones, 8, links, 6),
+                   BELFRY_LINKS, 0, 0);
+    expect_verdict("belfry_links_check, nothing", belfry_links_check(zones, 0, links, 0),
+                   BELFRY_TAKEN, 0, 0);
 }
 
 /* Returns the number at a place of a book, the lowest byte first. */
@@ -355,10 +417,10 @@ static void make_question(void) {
 static void call_name(void) {
     uint8_t name[BELFRY_NAME_BYTES + 1];
     memset(name, PAINT, sizeof name);
-    belfry_name(BELFRY_READING, name);
+    belfry_name(BELFRY_LINKS, name);
     printf("belfry_name\n");
     for (size_t i = 0; i < BELFRY_NAME_BYTES; i++)
-        expect("a byte of the name", name[i], (uint8_t) "READING "[i]);
+        expect("a byte of the name", name[i], (uint8_t) "LINKS   "[i]);
     expect("the byte after the name", name[BELFRY_NAME_BYTES], PAINT);
 }
 
@@ -367,10 +429,12 @@ int main(void) {
     call_checks();
     make_ticket();
     call_list();
+    call_list_linked();
     call_zone_range();
     call_sheet();
     call_tables();
     call_links();
+    call_links_check();
     call_book();
     call_faulty_book();
     make_question();

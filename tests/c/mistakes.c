@@ -1,5 +1,12 @@
 /* The mistakes of a C user, by name: `mistakes NAME` tries one, and holds what comes of it against
  * what the header says. */
+/* C99 alone has neither mmap nor its flags. */
+#define _DEFAULT_SOURCE 1
+
+#include <stdlib.h>
+#include <sys/mman.h>
+#include <unistd.h>
+
 #include "expect.h"
 
 static const belfry_node zones[] = {{5, 2, 30, 2}, {5, 3, 7, 3}, {5, 9, 20, 3}, {5, 10, 15, 4}};
@@ -56,6 +63,23 @@ static void give_null_lists(void) {
                    0, 0);
     expect_verdict("belfry_link_nodes, no output", belfry_link_nodes(zones, 4, NULL, 0).verdict,
                    BELFRY_ROOM, 0, 0);
+}
+
+/* Gives null with a count of 0 to the calls that are lent links. */
+static void give_null_links(void) {
+    belfry_pair out[ROOM];
+    expect_verdict("belfry_check_node_links", belfry_check_node_links(NULL, 0, NULL, 0),
+                   BELFRY_TAKEN, 0, 0);
+    expect_verdict("belfry_check_node_links, no links", belfry_check_node_links(zones, 4, NULL, 0),
+                   BELFRY_LINKS, 0, 0);
+    expect_page("belfry_linked_pairs, no lists and no output",
+                belfry_linked_pairs(NULL, 0, NULL, 0, NULL, 0, fresh_ticket(), NULL, 0), 1, 0);
+    expect_page("belfry_linked_pairs, no zones",
+                belfry_linked_pairs(NULL, 0, samples, 4, NULL, 0, fresh_ticket(), out, ROOM), 1, 0);
+    expect_verdict(
+        "belfry_linked_pairs, no links",
+        belfry_linked_pairs(zones, 4, samples, 4, NULL, 0, fresh_ticket(), out, ROOM).verdict,
+        BELFRY_LINKS, 0, 0);
 }
 
 /* Gives null with a count of 0 to the calls of readings and hundredths. */
@@ -148,6 +172,7 @@ static void give_null_questions(void) {
 
 static void give_null(void) {
     give_null_lists();
+    give_null_links();
     give_null_readings();
     give_null_tables();
     give_null_books();
@@ -189,6 +214,69 @@ static void overflow_inputs(void) {
     expect_verdict("belfry_write_nodes, the nodes",
                    belfry_write_nodes(empty_list, 1, zones, nodes, book, sizeof book).verdict,
                    BELFRY_CONTENTS, 0, 0);
+}
+
+/* Lists, links and rooms for pairs whose words can't be counted. */
+static void overflow_links(void) {
+    const size_t nodes = SIZE_MAX / BELFRY_NODE_WORDS + 1, all = SIZE_MAX / BELFRY_LINK_WORDS + 1;
+    belfry_link links[4];
+    belfry_pair pairs[ALL_PAIRS];
+    expect("the links", belfry_link_nodes(zones, 4, links, 4).count, 4);
+    expect_verdict("belfry_check_node_links, the nodes",
+                   belfry_check_node_links(zones, nodes, links, 4), BELFRY_LONG, 0, 0);
+    expect_verdict("belfry_check_node_links, the links",
+                   belfry_check_node_links(zones, 4, links, all), BELFRY_LINKS, 0, 0);
+    expect_verdict("belfry_check_node_links, none", belfry_check_node_links(zones, 0, links, all),
+                   BELFRY_LINKS, 0, 0);
+    expect_verdict("belfry_linked_pairs, all bits of both",
+                   belfry_linked_pairs(zones, SIZE_MAX, samples, 4, links, SIZE_MAX, fresh_ticket(),
+                                       pairs, ALL_PAIRS)
+                       .verdict,
+                   BELFRY_LONG, 0, 0);
+    expect_verdict(
+        "belfry_linked_pairs, the links",
+        belfry_linked_pairs(zones, 4, samples, 4, links, all, fresh_ticket(), pairs, ALL_PAIRS)
+            .verdict,
+        BELFRY_LINKS, 0, 0);
+    expect_page("belfry_linked_pairs, the room",
+                belfry_linked_pairs(zones, 4, samples, 4, links, 4, fresh_ticket(), pairs,
+                                    SIZE_MAX / BELFRY_PAIR_WORDS + 1),
+                1, ALL_PAIRS);
+}
+
+/* Returns where `size` bytes may be written right before memory that may not be touched. */
+static void *at_a_guard(size_t size) {
+    const size_t page = (size_t)sysconf(_SC_PAGESIZE);
+    char *memory =
+        (char *)mmap(NULL, 2 * page, PROT_READ | PROT_WRITE, MAP_PRIVATE | MAP_ANONYMOUS, -1, 0);
+    if (memory == MAP_FAILED || mprotect(memory + page, page, PROT_NONE) != 0) {
+        perror("mistakes");
+        exit(1);
+    }
+    return memory + page - size;
+}
+
+/* Zones side by side and their links, with a count far above what is there. Both calls answer LONG
+ * before they read past the last zone. */
+static void overflow_guarded_links(void) {
+    enum { THERE = 4 };
+    const size_t told = (size_t)1 << 40;
+    belfry_node *list = (belfry_node *)at_a_guard(THERE * sizeof *list);
+    belfry_link *links = (belfry_link *)at_a_guard(THERE * sizeof *links);
+    belfry_pair pairs[ALL_PAIRS];
+    for (uint32_t i = 0; i < THERE; i++) {
+        const belfry_node node = {5, i, i, 1};
+        const belfry_link link = {BELFRY_NONE, BELFRY_NONE, i + 1};
+        list[i] = node;
+        links[i] = link;
+    }
+    expect_verdict("belfry_check_node_links, a count that isn't there",
+                   belfry_check_node_links(list, told, links, told), BELFRY_LONG, 0, 0);
+    expect_verdict(
+        "belfry_linked_pairs, a count that isn't there",
+        belfry_linked_pairs(list, told, samples, 4, links, told, fresh_ticket(), pairs, ALL_PAIRS)
+            .verdict,
+        BELFRY_LONG, 0, 0);
 }
 
 /* Rooms whose words can't be counted: multiplied as they are, there would be room for nothing. */
@@ -239,6 +327,8 @@ static void overflow_questions(void) {
 
 static void overflow(void) {
     overflow_inputs();
+    overflow_links();
+    overflow_guarded_links();
     overflow_rooms();
     overflow_questions();
 }
@@ -264,6 +354,45 @@ static void give_no_room(void) {
     expect_page("room for the last pair", page, 1, 1);
     expect_page("room for no pair, and none remains",
                 belfry_list_pairs(zones, 4, samples, 4, page.ticket, pairs, 0), 1, 0);
+}
+
+/* Lists the farm's pairs with these links and some room. */
+static belfry_page list_linked(const belfry_node *list, const belfry_link *links,
+                               belfry_ticket ticket, belfry_pair *out, size_t room) {
+    return belfry_linked_pairs(list, 4, samples, 4, links, 4, ticket, out, room);
+}
+
+/* Lends links that were written before an edit, and those of the descendants. Both are refused, and
+ * the ticket is still good. With links that are written anew, and also without any, the listing
+ * goes on. */
+static void lend_other_links(void) {
+    belfry_node edited[4];
+    belfry_link before[4], after[4], of_samples[4];
+    belfry_pair pairs[ROOM];
+    memcpy(edited, zones, sizeof edited);
+    edited[3].start = 23;
+    edited[3].end = 25;
+    edited[3].level = 3;
+    expect("the links", belfry_link_nodes(zones, 4, before, 4).count, 4);
+    expect("the links after the edit", belfry_link_nodes(edited, 4, after, 4).count, 4);
+    expect("the links of the samples", belfry_link_nodes(samples, 4, of_samples, 4).count, 4);
+
+    belfry_page page = list_linked(zones, before, fresh_ticket(), pairs, 2);
+    expect_page("the first page", page, 0, 2);
+    const belfry_ticket ticket = page.ticket;
+    memset(pairs, PAINT, sizeof pairs);
+    page = list_linked(edited, before, ticket, pairs, ROOM);
+    expect_verdict("the links before the edit", page.verdict, BELFRY_LINKS, 0, 0);
+    expect("done", page.done, 0);
+    expect("count", page.count, 0);
+    expect_ticket(page.ticket, ticket);
+    page = list_linked(edited, of_samples, ticket, pairs, ROOM);
+    expect_verdict("the links of the samples", page.verdict, BELFRY_LINKS, 0, 0);
+    expect_ticket(page.ticket, ticket);
+    expect_output(pairs, sizeof pairs, pairs, 0);
+
+    expect_page("links written anew", list_linked(edited, after, ticket, pairs, ROOM), 1, 5);
+    expect_page("no links", belfry_list_pairs(edited, 4, samples, 4, ticket, pairs, ROOM), 1, 5);
 }
 
 /* Holds what the zones of the samples answer, by their indexes, against what has to be there. */
@@ -407,7 +536,7 @@ static void print_name(void) {
     expect("what it returns", belfry_answer_name(BELFRY_ROOM, name) == name, 1);
     expect_output(name, sizeof name, part, sizeof part);
     expect("the length of an unknown answer's name",
-           strlen(belfry_answer_name(BELFRY_READING + 1, name)), 0);
+           strlen(belfry_answer_name(BELFRY_LINKS + 1, name)), 0);
 }
 
 static const struct {
@@ -421,6 +550,7 @@ static const struct {
     {"missing", take_missing_for_zero},
     {"sheet", lend_zero_for_missing},
     {"question", ask_by_mistake},
+    {"links", lend_other_links},
     {"ticket", store_ticket},
     {"name", print_name},
 };

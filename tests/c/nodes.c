@@ -97,6 +97,46 @@ static void list_both(size_t zone_count, size_t sample_count, size_t room) {
     expect_output(out, sizeof out, by_words, sizeof out);
 }
 
+/* The links of the zones; with fewer zones there are others. */
+static belfry_link zone_links[COUNT(zones)];
+static uint32_t zone_link_words[COUNT(zones) * BELFRY_LINK_WORDS];
+
+static void link_zones(size_t zone_count) {
+    memset(zone_links, PAINT, sizeof zone_links);
+    expect("the links", belfry_link_nodes(zones, zone_count, zone_links, COUNT(zone_links)).count,
+           zone_count);
+    memcpy(zone_link_words, zone_links, sizeof zone_link_words);
+}
+
+/* Lists a page with room for some pairs and this many links of the zones, and checks these links
+ * alone. */
+static void list_linked(size_t zone_count, size_t sample_count, size_t link_count, size_t room) {
+    const belfry_ticket fresh = BELFRY_TICKET(BELFRY_INSIDE, BELFRY_ANCESTOR_ORDER);
+    belfry_pair out[ROOM];
+    paint();
+    memset(out, PAINT, sizeof out);
+    link_zones(zone_count);
+    const belfry_page words = belfry_list_linked(
+        zone_words, BELFRY_NODE_WORDS * zone_count, sample_words, BELFRY_NODE_WORDS * sample_count,
+        zone_link_words, BELFRY_LINK_WORDS * link_count, fresh, by_words, BELFRY_PAIR_WORDS * room);
+    const belfry_page pairs = belfry_linked_pairs(zones, zone_count, samples, sample_count,
+                                                  zone_links, link_count, fresh, out, room);
+    expect_same("belfry_linked_pairs", pairs.verdict, words.verdict);
+    expect("done", pairs.done, words.done);
+    expect("count", pairs.count, words.count);
+    expect_ticket(pairs.ticket, words.ticket);
+    expect_output(out, sizeof out, by_words, sizeof out);
+
+    expect_verdict("belfry_links_check",
+                   belfry_links_check(zone_words, BELFRY_NODE_WORDS * zone_count, zone_link_words,
+                                      BELFRY_LINK_WORDS * link_count),
+                   link_count == zone_count ? BELFRY_TAKEN : BELFRY_LINKS, 0, 0);
+    expect_same("belfry_check_node_links",
+                belfry_check_node_links(zones, zone_count, zone_links, link_count),
+                belfry_links_check(zone_words, BELFRY_NODE_WORDS * zone_count, zone_link_words,
+                                   BELFRY_LINK_WORDS * link_count));
+}
+
 /* Asks for the zone after the last one too, and gives as many readings as samples or one more. */
 static void range_of(size_t zone_count, size_t sample_count, size_t reading_count, uint32_t zone) {
     const belfry_range words = belfry_zone_range(
@@ -261,6 +301,9 @@ static void try_lists(void) {
         check_both(zone_count, sample_count);
         list_both(zone_count, sample_count, ROOM);
         list_both(zone_count, sample_count, 2);
+        list_linked(zone_count, sample_count, zone_count, ROOM);
+        list_linked(zone_count, sample_count, zone_count, 2);
+        list_linked(zone_count, sample_count, (zone_count + 1) % (COUNT(zones) + 1), ROOM);
         for (uint32_t zone = 0; zone <= zone_count; zone++) {
             range_of(zone_count, sample_count, sample_count % (COUNT(readings) + 1), zone);
             range_of(zone_count, sample_count, COUNT(readings), zone);

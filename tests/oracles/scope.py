@@ -8,7 +8,7 @@ import struct
 
 NAMES = """
     TAKEN RAGGED LONG LEVEL SPAN ORDER CROSS DEPTH JOINT ROOM MARK STRAY DEEP UNCLOSED TABLE
-    CONTENTS ABSENT READING
+    CONTENTS ABSENT READING LINKS
 """.split()
 ANSWER = {name: number for number, name in enumerate(NAMES)}
 MOST = 4096
@@ -283,6 +283,29 @@ def links(nodes):
 
     return [(parents[i], min((j for j in everyone if parents[j] == i), default=NONE),
              min((j for j in everyone if is_sibling(i, j)), default=NONE)) for i in everyone]
+
+
+def check_links(words, given):
+    """Returns the answer, the list and the index for a list of words and words lent as links."""
+    answer, index = check_words(words, 4), 0
+    if answer == "TAKEN":
+        answer, index = check_list(cut(words, 4))
+    if answer == "TAKEN" and list(given) != flat(links(cut(words, 4))):
+        answer = "LINKS"
+    return answer, 0, index
+
+
+def linked_page(ancestors, descendants, given, ticket, room):
+    """Returns the answer, the list and the index of a page call that is lent links, and its page:
+    the plain one, or that of a refusal.
+    """
+    verdict = check_two(ancestors, descendants)
+    if verdict[0] == "TAKEN":
+        verdict = check_links(ancestors, given)
+    if verdict[0] != "TAKEN":
+        return *verdict, ([], False, ticket)
+    pairs = listing(cut(ancestors, 4), cut(descendants, 4), *ticket[:2])
+    return *verdict, page(pairs, ticket, room)
 
 
 # The field book, and what the program prints of it.

@@ -61,6 +61,8 @@ S = in_five((4, 6, 4), (8, 9, 3))
 E = in_five((1, 9, 1), (2, 6, 2), (4, 6, 3), (5, 6, 4))
 T = in_five((3, 3, 3), (6, 6, 5), (9, 9, 2))
 ENTRIES = array("I", [2, 2, 3, 2])
+# The links of Z.
+FOREST = array("I", [NONE, 1, NONE, 0, NONE, NONE])
 BOOK = figure_books.FIGURE
 INSIDE = Ticket.fresh(relation=Relation.INSIDE, order=Order.DESCENDANT)
 

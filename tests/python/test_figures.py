@@ -3,9 +3,10 @@ import math
 import pickle
 import unittest
 from array import array
+from itertools import product
 
 from support import (
-    BOOK, E, ENTRIES, INSIDE, LISTINGS, MARKS, S, T, TABLE, Z, figure_books, in_five, model,
+    BOOK, E, ENTRIES, FOREST, INSIDE, LISTINGS, MARKS, S, T, TABLE, Z, figure_books, in_five, model,
     painted, starts, ticket, words,
 )
 
@@ -89,6 +90,34 @@ class Figures(unittest.TestCase):
         last = belfry.page(Z, S, first.ticket, out)
         self.assertEqual(last, Page(1, True, ticket(0, 0, 1, 5, 8, 2)))
         self.assertEqual(out, Z[:4] + S[4:] + Z[4:] + S[:4] + painted(1))
+
+    def test_pages_of_two_with_links(self):
+        out = painted(17)
+        first = belfry.page(Z, S, INSIDE, out, links=FOREST)
+        self.assertEqual(first, Page(2, False, ticket(0, 0, 1, 5, 4, 3)))
+        self.assertEqual(out, Z[:4] + S[:4] + Z[4:] + S[:4] + painted(1))
+        last = belfry.page(Z, S, first.ticket, out, links=FOREST)
+        self.assertEqual(last, Page(1, True, ticket(0, 0, 1, 5, 8, 2)))
+        self.assertEqual(out, Z[:4] + S[4:] + Z[4:] + S[:4] + painted(1))
+
+    def test_listings_with_links(self):
+        for zones, samples in ((Z, S), (E, T), (Z, Z), (S, Z), (array("I"), S), (Z, array("I"))):
+            forest = belfry.links(zones)
+            for which in LISTINGS:
+                found = belfry.listing(zones, samples, **which, links=forest)
+                self.assertEqual(found, belfry.listing(zones, samples, **which))
+                one_by_one = belfry.pairs(zones, samples, **which, links=forest, room=1)
+                self.assertEqual(belfry.words(one_by_one), found)
+
+    def test_links_with_any_word_changed(self):
+        for zones in (Z, E, S, T):
+            forest = belfry.links(zones)
+            self.assertEqual(belfry.verdict_links(zones, forest), TAKEN)
+            self.assertIsNone(belfry.check_links(zones, forest))
+            for place, word in product(range(len(forest)), (0, 1, 2, 3, 4, 1 << 31, NONE)):
+                changed = forest[:place] + array("I", [word]) + forest[place + 1:]
+                expected = Answer.TAKEN if forest[place] == word else Answer.LINKS
+                self.assertEqual(belfry.verdict_links(zones, changed), Verdict(expected))
 
     def test_ranges(self):
         tenth = model.as_float(38.0 / 10.0)
@@ -230,9 +259,9 @@ class Figures(unittest.TestCase):
         self.assertEqual(len(belfry.faulty(Z, S)), 0)
 
     def test_names(self):
-        self.assertEqual([belfry.name(number) for number in range(18)], model.NAMES)
+        self.assertEqual([belfry.name(number) for number in range(19)], model.NAMES)
         self.assertEqual([answer.name for answer in Answer], model.NAMES)
-        self.assertEqual((belfry.name(18), belfry.name(NONE)), ("", ""))
+        self.assertEqual((belfry.name(19), belfry.name(NONE)), ("", ""))
 
 
 class Writing(unittest.TestCase):
@@ -282,6 +311,21 @@ REFUSALS = [
     (lambda: belfry.links(CROSSED), Answer.CROSS, 0, 1),
     (lambda: belfry.page(S, TOO_DEEP, INSIDE, painted(8)), Answer.DEPTH, 1, 1),
     (lambda: belfry.check_two(in_five((1, 9, 1)), in_five((4, 12, 2))), Answer.JOINT, None, None),
+    (lambda: belfry.check_links(Z[:3], FOREST), Answer.RAGGED, None, None),
+    (lambda: belfry.check_links(LONG, FOREST), Answer.LONG, None, None),
+    (lambda: belfry.check_links(CROSSED, FOREST), Answer.CROSS, 0, 1),
+    (lambda: belfry.check_links(Z, FOREST[1:]), Answer.LINKS, None, None),
+    (lambda: belfry.check_links(Z, FOREST[3:]), Answer.LINKS, None, None),
+    (lambda: belfry.check_links(Z, FOREST + FOREST[:1]), Answer.LINKS, None, None),
+    (lambda: belfry.check_links(Z, array("I")), Answer.LINKS, None, None),
+    (lambda: belfry.check_links(array("I"), FOREST[3:]), Answer.LINKS, None, None),
+    (lambda: belfry.check_links(S, FOREST), Answer.LINKS, None, None),
+    (lambda: belfry.page(Z, S, INSIDE, painted(8), links=FOREST[1:]), Answer.LINKS, None, None),
+    (lambda: belfry.page(Z, LEVELS, INSIDE, painted(8), links=FOREST[1:]), Answer.LEVEL, 1, 1),
+    (lambda: belfry.listing(Z, LONG, links=array("I")), Answer.LONG, 1, None),
+    (lambda: belfry.listing(Z, S, links=belfry.links(S)), Answer.LINKS, None, None),
+    (lambda: belfry.listing(Z, in_five((6, 8, 3)), links=S[:3]), Answer.JOINT, None, None),
+    (lambda: next(belfry.pairs(Z, S, links=array("I"))), Answer.LINKS, None, None),
     (lambda: belfry.zone_range(Z[:3], S, GOOD, 0), Answer.RAGGED, 0, None),
     (lambda: belfry.zone_range(Z, S[:3], GOOD, 0), Answer.RAGGED, 1, None),
     (lambda: belfry.zone_range(LONG, S, GOOD, 0), Answer.LONG, 0, None),
@@ -358,10 +402,11 @@ class Refusals(unittest.TestCase):
         for refused, expected in (
             (Refused(5, 1, 2), "5 ORDER, list 1, index 2: "), (Refused(2, 0), "2 LONG, list 0: "),
             (Refused(8), "8 JOINT: "), (Refused(17, index=3), "17 READING, index 3: "),
+            (Refused(18), "18 LINKS: "),
         ):
             self.assertEqual(str(refused), expected + HINTS[refused.number])
             self.assertEqual(refused.hint, HINTS[refused.number])
-        self.assertEqual((set(HINTS), len(set(HINTS.values()))), (set(Answer), 18))
+        self.assertEqual((set(HINTS), len(set(HINTS.values()))), (set(Answer), 19))
 
     def test_it_can_be_pickled(self):
         again = pickle.loads(pickle.dumps(Refused(6, 1, 7)))
@@ -371,6 +416,7 @@ class Refusals(unittest.TestCase):
         out, book = painted(40), bytearray(b"\xa5" * 100)
         for call in (
             lambda: belfry.page(Z, S + S, INSIDE, out),
+            lambda: belfry.page(Z, S, INSIDE, out, links=FOREST[:-1]),
             lambda: belfry.number_into(5, MARKS[:-1], out),
             lambda: belfry.unnumber_into(TABLE[5:], out),
             lambda: belfry.pick_into(TABLE[1:], 2, out),

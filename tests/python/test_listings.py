@@ -6,8 +6,8 @@ import unittest
 from array import array
 
 from support import (
-    INSIDE, LISTINGS, S, Z, in_five, listing, painted, random_tree, some_of, starts, ticket, tuples,
-    words,
+    INSIDE, LISTINGS, S, Z, in_five, listing, model, painted, random_tree, some_of, starts, ticket,
+    tuples, words,
 )
 
 import belfrychest as belfry
@@ -71,7 +71,29 @@ class Listings(unittest.TestCase):
                  for _ in range(60)]
         self.assertGreater(sum(stood), 60)
 
-    def hold_demand_three(self, rng, nodes, relation, order):
+    def test_what_holds_when_links_come_and_go(self):
+        rng, self.stale = random.Random(11), 0
+        stood = [self.hold_demand_three(rng, random_tree(rng, 14), **rng.choice(LISTINGS),
+                                        lend=self.lend)
+                 for _ in range(100)]
+        self.assertGreater(sum(stood), 100)
+        self.assertGreater(self.stale, 100)
+
+    def lend(self, rng, zones, samples, reached, out):
+        """Returns a page without links or with those of the zones. Before it, links of other zones
+        are refused, and nothing is written.
+        """
+        before, forest = array("I", out), words(model.links(zones))
+        other = words(model.links(some_of(rng, zones)))
+        if other != forest:
+            self.stale += 1
+            with self.assertRaisesRegex(Refused, "^18 LINKS: "):
+                belfry.page(words(zones), words(samples), reached, out, links=other)
+            self.assertEqual(out, before)
+        links = forest if rng.random() < 0.7 else None
+        return belfry.page(words(zones), words(samples), reached, out, links=links)
+
+    def hold_demand_three(self, rng, nodes, relation, order, lend=None):
         """Checks that every pair that stood at each page was handed out, that no key came twice,
         and that each pair stood in its own page's lists.
         """
@@ -81,7 +103,8 @@ class Listings(unittest.TestCase):
             zones = sorted({*kept, *some_of(rng, nodes)})
             samples = sorted({*kept, *some_of(rng, nodes)})
             out = painted(8 * rng.randint(1, 3))
-            written = belfry.page(words(zones), words(samples), reached, out)
+            written = lend(rng, zones, samples, reached, out) if lend else \
+                belfry.page(words(zones), words(samples), reached, out)
             now, page = listing(zones, samples, relation, order), tuples(out, written.count)
             self.assertLessEqual(set(page), set(now))
             stood = set(now) if stood is None else stood & set(now)

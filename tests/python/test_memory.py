@@ -8,8 +8,8 @@ from mmap import mmap
 from types import SimpleNamespace
 
 from support import (
-    BOOK, ENTRIES, INSIDE, MARKS, PAINT, S, TABLE, Z, figure_books, in_five, painted, starts,
-    words,
+    BOOK, ENTRIES, FOREST, INSIDE, MARKS, PAINT, S, TABLE, Z, figure_books, in_five, painted,
+    starts, words,
 )
 
 import belfrychest as belfry
@@ -82,11 +82,27 @@ class Memory(unittest.TestCase):
                 self.assertEqual(belfry.Pieces(zones, samples).listing(), belfry.listing(Z, S))
                 self.assertEqual(list(belfry.nodes(zones)), list(belfry.nodes(Z)))
                 self.assertEqual(belfry.links(zones), belfry.links(Z))
+                self.assertIsNone(belfry.check_links(zones, FOREST))
+                found = belfry.listing(zones, samples, links=FOREST)
+                self.assertEqual(found, belfry.listing(Z, S))
                 self.assertEqual(belfry.zone_range(zones, samples, READINGS, 0), (4.5, 100.0))
                 self.assertEqual(belfry.sheet(zones, samples, HUNDREDTHS), SHEET)
                 self.assertEqual(belfry.faulty(crossed, samples).tolist(), [5, 3, 12, 3])
                 self.assertEqual(belfry.faulty(samples, crossed).tolist(), [5, 3, 12, 3])
                 self.assertEqual(belfry.write_book({3: samples, 2: zones}), BOOK)
+
+    def test_links_of_every_kind(self):
+        rows = {"rows and columns": lambda numbers: shaped(numbers, 3),
+                "three dimensions": lambda numbers: shaped(numbers, 1, 3)}
+        fitting = {kind: make for kind, make in KINDS.items()
+                   if kind not in ("ctypes in rows", "numpy in rows")}
+        for kind, make in {**fitting, **rows}.items():
+            with self.subTest(kind=kind):
+                forest = make(FOREST.tolist())
+                self.assertIsNone(belfry.check_links(Z, forest))
+                self.assertEqual(belfry.listing(Z, S, links=forest), belfry.listing(Z, S))
+                self.assertEqual(list(belfry.pairs(Z, S, links=forest, room=1)),
+                                 list(belfry.pairs(Z, S)))
 
     def test_outputs_of_every_writable_kind(self):
         for kind in set(KINDS) - {"read-only view", "read-only bytes"}:
@@ -121,6 +137,11 @@ class Memory(unittest.TestCase):
                 self.assertEqual(belfry.ask(BOOK, nothing), [])
                 page = belfry.page(nothing, nothing, INSIDE, painted(8))
                 self.assertEqual(page, Page(0, True, INSIDE))
+                page = belfry.page(nothing, S, INSIDE, painted(8), links=nothing)
+                self.assertEqual(page, Page(0, True, INSIDE))
+                self.assertIsNone(belfry.check_links(nothing, nothing))
+                self.assertRaisesRegex(Refused, "LINKS", belfry.check_links, Z, nothing)
+                self.assertRaisesRegex(Refused, "LINKS", belfry.listing, Z, S, links=nothing)
                 self.assertRaisesRegex(Refused, "UNCLOSED", belfry.number, 5, nothing)
                 self.assertRaisesRegex(Refused, "TABLE", belfry.unnumber, nothing)
                 with _memory.lent("memory", nothing, _memory.NODES) as lent:
@@ -148,6 +169,8 @@ class Memory(unittest.TestCase):
             self.assertEqual(cut.page(INSIDE, painted(8)), Page(0, True, INSIDE))
             self.assertEqual(belfry.faulty(*lists).tolist(), [])
         self.assertEqual(belfry.links(nothing), array("I"))
+        self.assertIsNone(belfry.check_links(nothing, in_rows(3)))
+        self.assertEqual(belfry.listing(nothing, S, links=in_rows(3)), array("I"))
         self.assertEqual(belfry.book_write(in_rows(2), nothing), bytes(4))
         book = belfry.write_book({2: nothing, 3: S})
         self.assertEqual([part.tolist() for part in belfry.book_lists(book).values()],
@@ -169,9 +192,11 @@ class Memory(unittest.TestCase):
     def test_no_call_copies_a_list(self):
         nodes = words(figure_books.siblings(belfry.MOST, 2))
         book = belfry.book_write(array("I", [2, belfry.MOST]), nodes)
-        out = painted(8)
+        out, forest = painted(8), belfry.links(nodes)
         for call in (
             lambda: belfry.check(nodes), lambda: belfry.check_two(nodes, nodes),
+            lambda: belfry.check_links(nodes, forest),
+            lambda: belfry.page(nodes, nodes, INSIDE, out, links=forest),
             lambda: belfry.faulty(nodes, nodes), lambda: belfry.page(nodes, nodes, INSIDE, out),
             lambda: belfry.book_check(book), lambda: belfry.book_body(book, 2),
             lambda: belfry.book_lists(book), lambda: belfry.Pieces(nodes, nodes).check(),
@@ -197,7 +222,8 @@ class Memory(unittest.TestCase):
         nodes, signed, kept = S + S, array("i", [1]), []
         for call in (
             lambda: belfry.check_two(Z, nodes), lambda: belfry.page(Z, nodes, INSIDE, nodes),
-            lambda: belfry.check_two(nodes, signed),
+            lambda: belfry.check_two(nodes, signed), lambda: belfry.check_links(Z, nodes),
+            lambda: belfry.page(Z, S, INSIDE, nodes, links=nodes),
             lambda: belfry.Pieces(Z, nodes, _size=1).check(),
             lambda: belfry.Pieces(Z, nodes, _size=1).page(INSIDE, painted(8)),
         ):
@@ -207,12 +233,14 @@ class Memory(unittest.TestCase):
                 kept.append(error)
             nodes.extend(Z)
             signed.append(1)
-        self.assertEqual(list(map(type, kept)), [Refused, ValueError, TypeError, Refused, Refused])
+        self.assertEqual(list(map(type, kept)), [
+            Refused, ValueError, TypeError, Refused, ValueError, Refused, Refused,
+        ])
         part = belfry.faulty(Z, nodes)
         self.assertRaises(BufferError, nodes.append, 5)
         part.release()
         nodes.append(5)
-        self.assertEqual(len(nodes), 57)
+        self.assertEqual(len(nodes), 73)
 
     def test_other_threads_wait_during_a_call(self):
         self.assertIs(type(_archive.library), ctypes.PyDLL)
@@ -248,6 +276,8 @@ class Shapes(unittest.TestCase):
             (lambda: belfry.sheet_into(Z, S, [1, 2], wrong), "3, the numbers of a subtotal"),
             (lambda: belfry.unnumber(wrong), "5, the numbers of a row"),
             (lambda: belfry.links_into(Z, wrong), "3, the numbers of a link"),
+            (lambda: belfry.check_links(Z, wrong), "3, the numbers of a link"),
+            (lambda: belfry.listing(Z, S, links=wrong), "3, the numbers of a link"),
             (lambda: belfry.book_write(wrong, Z), "2, the numbers of an entry"),
             (lambda: belfry.number(5, wrong), "1, the numbers of a mark"),
             (lambda: belfry.ask(BOOK, wrong), "8, the numbers of a question"),
@@ -303,6 +333,7 @@ WRONG = {
     "questions": [wrong for wrong in WRONG_WORDS if type(wrong[0]) is not list] + [
         ([Question(2, 3), None], TypeError), ([(2, 3, INSIDE)], TypeError), ([2, 3], TypeError),
         ([QUESTIONS], TypeError)],
+    "links": [wrong for wrong in WRONG_WORDS if wrong[0] is not None],
     "book": WRONG_BYTES,
     "out bytes": WRONG_BYTES + [(bytes(100), TypeError)],
     "number": [(-1, ValueError), (1 << 32, ValueError), (1.0, TypeError), ("2", TypeError),
@@ -315,6 +346,15 @@ CALLS = [
     (belfry.check_two, TWO), (belfry.verdict_two, TWO), (belfry.faulty, TWO),
     (belfry.page, [*TWO, ("ticket", INSIDE), ("out", painted(24))]),
     (lambda zones, samples: list(belfry.pairs(zones, samples)), TWO), (belfry.listing, TWO),
+    (belfry.check_links, [("words", Z), ("words", FOREST)]),
+    (belfry.verdict_links, [("words", Z), ("words", FOREST)]),
+    (lambda zones, samples, place, out, forest:
+     belfry.page(zones, samples, place, out, links=forest),
+     [*TWO, ("ticket", INSIDE), ("out", painted(24)), ("links", FOREST)]),
+    (lambda zones, samples, forest: list(belfry.pairs(zones, samples, links=forest)),
+     [*TWO, ("links", FOREST)]),
+    (lambda zones, samples, forest: belfry.listing(zones, samples, links=forest),
+     [*TWO, ("links", FOREST)]),
     (lambda zones, samples: belfry.Pieces(zones, samples).verdict(), TWO),
     (lambda zones, samples: belfry.Pieces(zones, samples).meeting(), TWO),
     (lambda zones, samples: belfry.Pieces(zones, samples).listing(), TWO),
@@ -381,6 +421,8 @@ class WrongArguments(unittest.TestCase):
             lambda: belfry.page(whole, S, INSIDE, whole),
             lambda: belfry.page(S, lent[:8], INSIDE, lent[7:]),
             lambda: belfry.page(lent[:8], S, INSIDE, lent[:8]),
+            lambda: belfry.page(Z, S, INSIDE, lent[20:], links=lent[15:21]),
+            lambda: belfry.page(Z, S, INSIDE, lent[20:28], links=lent[27:33]),
             lambda: belfry.Pieces(lent[:8], S).page(INSIDE, lent),
             lambda: belfry.Pieces(S, lent[:8]).page(INSIDE, lent[7:]),
             lambda: belfry.number_into(5, lent[8:19], lent[18:]),

@@ -5,7 +5,7 @@ from collections import OrderedDict, deque
 from inspect import signature
 from types import MappingProxyType
 
-from support import BOOK, INSIDE, S, Z, painted, starts, ticket, words
+from support import BOOK, FOREST, INSIDE, S, Z, in_five, painted, starts, ticket, words
 
 import belfrychest as belfry
 from belfrychest import (
@@ -308,6 +308,71 @@ class WhatIsNoQuestion(unittest.TestCase):
         self.assertEqual(Question(2, 3), Question(2, 3, INSIDE))
 
 
+class LinksFromBeforeAnEdit(unittest.TestCase):
+    """Such links would lead past zones that hold samples, and the pairs would be lost."""
+
+    def setUp(self):
+        self.zones = in_five((2, 30, 2), (3, 7, 3), (9, 20, 3), (10, 15, 4))
+        self.samples = in_five((4, 6, 4), (11, 12, 5), (16, 17, 4), (21, 22, 3))
+        self.forest = belfry.links(self.zones)
+
+    def move_last_zone(self):
+        self.zones[12:] = in_five((23, 25, 3))
+
+    def test_they_are_refused_and_the_ticket_is_still_good(self):
+        out = painted(40)
+        first = belfry.page(self.zones, self.samples, INSIDE, out[:16], links=self.forest)
+        self.assertEqual((first.count, first.done), (2, False))
+        self.move_last_zone()
+        for wrong in (self.forest, belfry.links(self.samples), array("I")):
+            with self.assertRaisesRegex(Refused, "^18 LINKS: "):
+                belfry.page(self.zones, self.samples, first.ticket, out, links=wrong)
+            self.assertEqual(out, painted(40))
+        plain, anew = painted(40), belfry.links(self.zones)
+        found = belfry.page(self.zones, self.samples, first.ticket, out, links=anew)
+        self.assertEqual((found.count, found.done), (5, True))
+        self.assertEqual(belfry.page(self.zones, self.samples, first.ticket, plain), found)
+        self.assertEqual(out, plain)
+
+    def test_a_listing_ends_at_its_next_page(self):
+        found = belfry.pairs(self.zones, self.samples, links=self.forest, room=2)
+        self.assertEqual(starts([next(found), next(found)]), [(2, 4), (3, 4)])
+        self.move_last_zone()
+        self.assertRaisesRegex(Refused, "LINKS", next, found)
+
+    def test_a_listing_goes_on_where_the_links_follow_the_edit(self):
+        found = belfry.pairs(self.zones, self.samples, links=self.forest, room=2)
+        self.assertEqual(starts([next(found), next(found)]), [(2, 4), (3, 4)])
+        self.move_last_zone()
+        self.assertEqual(belfry.links_into(self.zones, self.forest), 4)
+        self.assertEqual(starts(found), [(2, 11), (9, 11), (2, 16), (9, 16), (2, 21)])
+
+    def test_an_edit_of_the_samples_needs_no_new_links(self):
+        del self.samples[4:8]
+        found = belfry.pairs(self.zones, self.samples, links=self.forest)
+        self.assertEqual(starts(found), [(2, 4), (3, 4), (2, 16), (9, 16), (2, 21)])
+
+
+class WhatIsNoLinks(unittest.TestCase):
+    def test_empty_links_are_not_the_same_as_none(self):
+        self.assertEqual(belfry.listing(Z, S, links=None), belfry.listing(Z, S))
+        self.assertRaisesRegex(Refused, "^18 LINKS: ", belfry.listing, Z, S, links=array("I"))
+
+    def test_tuples_are_no_memory(self):
+        for given in (list(belfry.node_links(FOREST)), [], (), {}, True):
+            with self.subTest(given=given):
+                with self.assertRaisesRegex(TypeError, "^links must be a buffer of unsigned 32-"):
+                    belfry.listing(Z, S, links=given)
+
+    def test_by_position(self):
+        for call in (
+            lambda: belfry.pairs(Z, S, FOREST), lambda: belfry.listing(Z, S, FOREST),
+            lambda: belfry.page(Z, S, INSIDE, painted(8), FOREST),
+        ):
+            with self.assertRaisesRegex(TypeError, "positional argument"):
+                call()
+
+
 class APageWithRoomForNoPair(unittest.TestCase):
     """Such a page is never done while a pair remains, so a loop "until done" didn't end."""
 
@@ -316,6 +381,8 @@ class APageWithRoomForNoPair(unittest.TestCase):
             out, message = painted(room), f"room for a pair, 8 words, not {room}"
             self.assertRaisesRegex(ValueError, message, belfry.page, Z, S, INSIDE, out)
             self.assertRaisesRegex(ValueError, message, Pieces(Z, S).page, INSIDE, out)
+            self.assertRaisesRegex(ValueError, message, belfry.page, Z, S, INSIDE, out,
+                                   links=FOREST)
             self.assertEqual(out, painted(room))
 
     def test_it_is_one_even_where_nothing_is_left(self):

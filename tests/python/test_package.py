@@ -52,7 +52,7 @@ class Names(unittest.TestCase):
         own = [Refused.__init__, Refused.__str__, Ticket.__init__, Pieces.__init__]
         methods = [method for class_ in (Ticket, Pieces) for name, method in
                    inspect.getmembers(class_, inspect.isroutine) if not name.startswith("_")]
-        self.assertEqual((len(self.public_functions()), len(methods)), (34, 11))
+        self.assertEqual((len(self.public_functions()), len(methods)), (36, 11))
         for function in self.public_functions() + methods:
             self.assertGreater(len(function.__doc__ or ""), 0, function)
         for function in self.public_functions() + methods + own:
@@ -194,23 +194,28 @@ class Readme(unittest.TestCase):
         self.assertEqual((started.returncode, out.decode(), err), (0, expected, b""))
 
     def test_the_program_that_lists_by_order_and_size(self):
-        listing, _, _, _, _ = self.blocks("python")
-        printed, _, _, _ = self.blocks("text")
+        listing, *_ = self.blocks("python")
+        printed, *_ = self.blocks("text")
         self.assert_prints(listing, printed)
 
     def test_the_program_that_joins_in_several_processes(self):
         """Runs it on the lists of test_mistakes."""
-        _, joining, _, _, _ = self.blocks("python")
+        _, joining, *_ = self.blocks("python")
         self.assert_prints(joining, "9000 pairs\n")
 
+    def test_the_program_that_lends_links(self):
+        _, _, lending, *_ = self.blocks("python")
+        _, printed, *_ = self.blocks("text")
+        self.assert_prints(lending, printed)
+
     def test_the_program_that_asks_for_a_zone_without_a_reading(self):
-        _, _, asking, _, _ = self.blocks("python")
-        _, printed, _, _ = self.blocks("text")
+        _, _, _, asking, *_ = self.blocks("python")
+        _, _, printed, *_ = self.blocks("text")
         self.assert_prints(asking, printed)
 
     def test_the_program_that_adds_up_a_sheet(self):
-        _, _, _, adding, _ = self.blocks("python")
-        _, _, printed, _ = self.blocks("text")
+        _, _, _, _, adding, _ = self.blocks("python")
+        _, _, _, printed, _ = self.blocks("text")
         self.assert_prints(adding, printed)
 
     def test_the_program_that_asks_several_questions(self):

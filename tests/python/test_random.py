@@ -8,8 +8,8 @@ from collections import Counter
 from itertools import chain
 
 from support import (
-    LISTINGS, damaged, figure_books, in_model, listing, model, most_around, random_marks,
-    random_tree, some_of, two_lists, words,
+    LISTINGS, damaged, figure_books, in_model, listing, model, most_around, painted, random_marks,
+    random_tree, some_of, tuples, two_lists, words,
 )
 
 import belfrychest as belfry
@@ -69,6 +69,32 @@ def random_question(rng):
     return Question(*tags, Ticket.from_words(words_[:6]))
 
 
+def random_ticket(rng):
+    key = [rng.randint(5, 7), rng.randint(0, 30), rng.randint(0, 30)]
+    placed = rng.random() < 0.5
+    return Ticket.from_words([rng.randint(0, 1), rng.randint(0, 1), placed, *key])
+
+
+def random_links(rng, zones, samples):
+    """Returns words to be lent as links of the zones. Half of the time they are these links. Else a
+    word is another, some are missing or too many, or they are those of other nodes.
+    """
+    made = words(model.links(zones))
+    if rng.random() < 0.5:
+        return made
+    wrong = rng.choice(("a word", "a word", "fewer", "more", "others"))
+    if wrong == "a word" and made:
+        place = rng.randrange(len(made))
+        made[place] = rng.choice((0, 1, place // 3, belfry.NONE, 1 << 31, (made[place] + 1) % 9))
+    elif wrong == "fewer":
+        del made[-rng.randint(1, 3):]
+    elif wrong == "more":
+        made.extend([belfry.NONE] * rng.randint(1, 3))
+    elif wrong == "others":
+        return words(model.links(rng.choice((samples, zones[1:], zones[:-1]))))
+    return made
+
+
 def shown(reply):
     """Returns a reply as the model has it."""
     verdict = reply.verdict
@@ -99,6 +125,50 @@ class AgainstTheModel(unittest.TestCase):
         self.assertEqual(answers, {Answer.TAKEN} | set(map(Answer, range(3, 9))))
         self.assertGreater(at_one_end[Answer.TAKEN], 40)
         self.assertGreater(at_one_end[Answer.JOINT], 4)
+
+    def test_links(self):
+        rng, answers = random.Random(11), Counter()
+        for _ in range(1500):
+            tree = random_tree(rng, 14)
+            nodes, others = damaged(rng, some_of(rng, tree)), some_of(rng, tree)
+            forest = random_links(rng, nodes, others)
+            answer, number, index = model.check_links(words(nodes), forest)
+            found = self.placed(belfry.check_links, words(nodes), forest)
+            self.assertEqual(found[:3], (answer, number, index))
+            answers[answer] += 1
+        for answer in ("TAKEN", "LEVEL", "SPAN", "ORDER", "CROSS", "DEPTH", "LINKS"):
+            self.assertGreater(answers[answer], 10, answer)
+
+    def test_pages_with_links(self):
+        """Tries few samples among many zones. What is taken is held against the plain page too."""
+        rng, answers = random.Random(12), Counter()
+        for _ in range(1500):
+            tree = random_tree(rng, 30, rng.choice(((5,), (5, 6), (5, 6, 7))))
+            zones = damaged(rng, tree) if rng.random() < 0.4 else some_of(rng, tree)
+            share = rng.choice((0.1, 0.1, 0.5))
+            samples = [node for node in tree if rng.random() < share]
+            if rng.random() < 0.1:
+                samples = damaged(rng, samples)
+            forest, reached, room = random_links(rng, zones, samples), random_ticket(rng), \
+                rng.randint(1, 9)
+            *wanted, page = model.linked_page(words(zones), words(samples), forest,
+                                              in_model(reached), room)
+            out = painted(8 * room)
+            *found, written = self.placed(lambda: belfry.page(
+                words(zones), words(samples), reached, out, links=forest))
+            self.assertEqual(found, wanted)
+            answers[wanted[0], page[1], page[0] != []] += 1
+            if wanted[0] == "TAKEN":
+                shown_page = tuples(out, written.count), written.done, in_model(written.ticket)
+                self.assertEqual(shown_page, page)
+                plain = painted(8 * room)
+                self.assertEqual(belfry.page(words(zones), words(samples), reached, plain), written)
+                self.assertEqual(plain, out)
+            else:
+                self.assertEqual(out, painted(8 * room))
+        for key in (("TAKEN", True, True), ("TAKEN", True, False), ("TAKEN", False, True),
+                    ("LINKS", False, False), ("JOINT", False, False), ("CROSS", False, False)):
+            self.assertGreater(answers[key], 10, key)
 
     def test_ranges(self):
         rng, answers = random.Random(7), set()

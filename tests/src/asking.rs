@@ -76,6 +76,8 @@ fn raw_page(ticket: raw::Ticket, page: &pages::Page) -> raw::Page {
     }
 }
 
+/// Makes a page call without links, and the same with those of the ancestors, which must answer and
+/// write the same. A list that is refused has no links.
 pub fn list(
     ancestors: &[u32],
     descendants: &[u32],
@@ -87,7 +89,28 @@ pub fn list(
     hold(&question, out, &page.words(), raw_page(ticket, &page), |out| {
         raw::list(ancestors, descendants, ticket, out)
     });
+    let links = links::links(ancestors, usize::MAX).words;
+    let question = ("page with links", ancestors, descendants, ticket);
+    hold(&question, out, &page.words(), raw_page(ticket, &page), |out| {
+        raw::list_linked(ancestors, descendants, &links, ticket, out)
+    });
     page.verdict.answer
+}
+
+/// Makes a page call that is lent these words as links, and returns what the model says of it.
+pub fn list_linked(
+    ancestors: &[u32],
+    descendants: &[u32],
+    links: &[u32],
+    ticket: raw::Ticket,
+    out: &mut [u32],
+) -> pages::Page {
+    let page = pages::linked_page(ancestors, descendants, links, &meaning(&ticket), out.len());
+    let question = ("page", ancestors, descendants, "links", links, ticket);
+    hold(&question, out, &page.words(), raw_page(ticket, &page), |out| {
+        raw::list_linked(ancestors, descendants, links, ticket, out)
+    });
+    page
 }
 
 /// Returns all pairs that the archive lists for a ticket, of lists that it takes.
@@ -155,6 +178,16 @@ pub fn links(list: &[u32], out: &mut [u32]) -> Answer {
         raw::links(list, out)
     });
     expected.verdict.answer
+}
+
+pub fn links_check(list: &[u32], words: &[u32]) -> Answer {
+    let expected = links::check_links(list, words);
+    assert_eq!(
+        raw::links_check(list, words),
+        raw_verdict(expected),
+        "given and expected: check of {list:?} with the links {words:?}"
+    );
+    expected.answer
 }
 
 pub fn book_check(book: &[u8]) -> Answer {

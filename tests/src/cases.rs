@@ -4,7 +4,7 @@
 use crate::asking;
 use crate::ends::{clash, is_between, meet, most_around, most_at_one_end};
 use crate::ground::Ground;
-use crate::making::{books, hundredths, lists, marks, questions, readings, tickets};
+use crate::making::{books, hundredths, links as lent, lists, marks, questions, readings, tickets};
 use crate::model::answers::Answer::{self, *};
 use crate::model::answers::NAME_BYTES;
 use crate::model::books::{
@@ -13,7 +13,7 @@ use crate::model::books::{
 use crate::model::links::LINK_WORDS;
 use crate::model::marks::{CLOSE, ROW_WORDS};
 use crate::model::nodes::{nodes, NODE_WORDS};
-use crate::model::pages::{pairs, Pair, Relation, Ticket, PAIR_WORDS};
+use crate::model::pages::{pairs, Page, Pair, Relation, Ticket, PAIR_WORDS};
 use crate::model::questions::{ask as answered, Asked};
 use crate::model::readings::{Range, MISSING, READING_WORDS};
 use crate::model::sheets::SUBTOTAL_WORDS;
@@ -21,6 +21,7 @@ use crate::model::MOST;
 use crate::random::{each_case, Random};
 use crate::tally::Kind::{self, *};
 use crate::tally::Tally;
+use belfrychest::raw;
 
 /// A function, by a case of it, which counts itself, and by the answers that it can give. The kinds
 /// are those in which nodes end at one position.
@@ -112,6 +113,49 @@ fn stops_between(ticket: &Ticket, mut pairs: Vec<Pair>, room: usize) -> bool {
     pairs.retain(|pair| ticket.place.map_or(true, |place| pair.key(ticket.order) > place));
     pairs.sort_by_key(|pair| pair.key(ticket.order));
     0 < room && room < pairs.len() && is_between(&pairs[room - 1], &pairs[room])
+}
+
+pub const LIST_LINKED: Function = Function {
+    case: |random, ground, tally| {
+        list_linked(random, ground, tally);
+    },
+    answers: &[Taken, Ragged, Long, Level, Span, Order, Cross, Depth, Joint, Links],
+    kinds: &[Shared, Three, AtOdds, Between],
+};
+
+/// What a page call was lent, the words of its output, and what the model says.
+pub struct Linked {
+    pub ancestors: Vec<u32>,
+    pub descendants: Vec<u32>,
+    pub links: Vec<u32>,
+    pub ticket: raw::Ticket,
+    pub words: usize,
+    pub page: Page,
+}
+
+/// Makes a page call that is lent links. Two of three calls have many zones and few samples, and
+/// now and then there is no room.
+pub fn list_linked(random: &mut Random, ground: Ground, tally: &mut Tally) -> Linked {
+    let (ancestors, descendants) =
+        if random.one_in(3) { lists::two_lists(random) } else { lists::two_sparse_lists(random) };
+    let links = lent::links(random, &ancestors, &descendants);
+    let ticket = tickets::made_up(random, &ancestors, &descendants);
+    let asked = asking::meaning(&ticket);
+    let pairs = pairs(asked.relation, &nodes(&ancestors), &nodes(&descendants));
+    let needed = random.around(pairs.len() * PAIR_WORDS);
+    let words = if random.one_in(8) { random.below(PAIR_WORDS) } else { needed };
+    let page = asking::list_linked(
+        &ground.lend(&ancestors),
+        &ground.lend(&descendants),
+        &ground.lend(&links),
+        ticket,
+        &mut ground.room(words),
+    );
+    let answer = page.verdict.answer;
+    count_two(tally, answer, &ancestors, &descendants);
+    tally.see(Three, answer == Taken && most_around(&pairs) >= 3);
+    tally.see(Between, answer == Taken && stops_between(&asked, pairs, words / PAIR_WORDS));
+    Linked { ancestors, descendants, links, ticket, words, page }
 }
 
 pub const ZONE_RANGE: Function = Function {
@@ -224,6 +268,20 @@ fn links(random: &mut Random, ground: Ground, tally: &mut Tally) {
     let needed = LINK_WORDS * (list.len() / NODE_WORDS);
     let mut out = ground.room(random.around(needed));
     let answer = asking::links(&ground.lend(&list), &mut out);
+    count_one(tally, answer, &list);
+}
+
+pub const LINKS_CHECK: Function = Function {
+    case: links_check,
+    answers: &[Taken, Ragged, Long, Level, Span, Order, Cross, Depth, Links],
+    kinds: &[Three],
+};
+
+fn links_check(random: &mut Random, ground: Ground, tally: &mut Tally) {
+    let (list, other) =
+        if random.one_in(2) { lists::two_lists(random) } else { lists::two_sparse_lists(random) };
+    let links = lent::links(random, &list, &other);
+    let answer = asking::links_check(&ground.lend(&list), &ground.lend(&links));
     count_one(tally, answer, &list);
 }
 

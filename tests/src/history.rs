@@ -10,6 +10,7 @@
 
 use crate::asking::meaning;
 use crate::ends::is_between;
+use crate::model::answers::Answer;
 use crate::model::nodes::{nodes, Node};
 use crate::model::pages::{pairs, Pair, PAIR_WORDS};
 use crate::paint::Word;
@@ -49,6 +50,8 @@ pub struct History {
     pub done: usize,
     pub pages: usize,
     pub refused: usize,
+    /// How many calls were refused with LINKS.
+    pub unlinked: usize,
     /// How often a pair that had stood was found altered.
     pub altered: usize,
     /// How often a page went on between two ancestors that end at one position.
@@ -65,17 +68,28 @@ impl History {
             done: 0,
             pages: 0,
             refused: 0,
+            unlinked: 0,
             altered: 0,
             between: 0,
         }
     }
 
     /// Makes the next call, with an output of `room` words, and returns its answer. If it was
-    /// accepted, the last pairs of `handed_out` are those that it wrote.
-    pub fn call(&mut self, ancestors: &[u32], descendants: &[u32], room: usize) -> Page {
+    /// accepted, the last pairs of `handed_out` are those that it wrote. It may be lent words as
+    /// links of the ancestors.
+    pub fn call(
+        &mut self,
+        ancestors: &[u32],
+        descendants: &[u32],
+        links: Option<&[u32]>,
+        room: usize,
+    ) -> Page {
         let [coat, _] = u32::COATS;
         let mut out = vec![coat; room];
-        let page = raw::list(ancestors, descendants, self.ticket, &mut out);
+        let page = match links {
+            Some(links) => raw::list_linked(ancestors, descendants, links, self.ticket, &mut out),
+            None => raw::list(ancestors, descendants, self.ticket, &mut out),
+        };
         assert!(
             out[PAIR_WORDS * page.count..].iter().all(|&word| word == coat),
             "altered after {} pairs",
@@ -91,6 +105,7 @@ impl History {
         if page.verdict.answer != 0 {
             assert_eq!((page.count, page.done, page.ticket), (0, 0, self.ticket), "a refused call");
             self.refused += 1;
+            self.unlinked += usize::from(page.verdict.answer == Answer::Links as u32);
             return;
         }
         assert!(

@@ -4,6 +4,7 @@
 pub mod books;
 pub mod edits;
 pub mod hundredths;
+pub mod links;
 pub mod lists;
 pub mod marks;
 pub mod questions;

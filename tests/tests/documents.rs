@@ -8,9 +8,9 @@ use outside::making::lists::{nest, nest_with_one_end};
 use outside::making::tickets::FRESH;
 use outside::model::answers::Answer::{self, *};
 use outside::model::books;
-use outside::model::links::LINK_WORDS;
+use outside::model::links::{links_of, LINK_WORDS};
 use outside::model::lists::MOST_LEVEL;
-use outside::model::nodes::{words, Node, NODE_WORDS};
+use outside::model::nodes::{nodes, words, Node, NODE_WORDS};
 use outside::model::MOST;
 use outside::random::{each_case, Random};
 use outside::tally::Tally;
@@ -36,6 +36,10 @@ fn ask(ancestors: &[Node], descendants: &[Node]) -> Answer {
         let (first, second) = (&lists[first], &lists[second]);
         asking::check(first);
         asking::links(first, &mut vec![0; LINK_WORDS * (first.len() / NODE_WORDS)]);
+        for links in [first, second].map(|list| links_of(&nodes(list))) {
+            asking::links_check(first, &links);
+            asking::list_linked(first, second, &links, FRESH, &mut [0; 40]);
+        }
         asking::faulty(first, second);
         asking::list(first, second, FRESH, &mut [0; 40]);
     }

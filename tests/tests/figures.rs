@@ -11,7 +11,7 @@ use outside::model::books::bytes;
 use outside::model::links::NONE;
 use outside::model::marks::ROW_WORDS;
 use outside::model::nodes::{nodes, NODE_WORDS};
-use outside::model::pages::PAIR_WORDS;
+use outside::model::pages::{Pair, PAIR_WORDS};
 use outside::model::printing::printed;
 use outside::model::sheets::{NO_HUNDREDTHS, SUBTOTAL_WORDS};
 
@@ -275,6 +275,35 @@ fn links_of_the_zones() {
     assert_eq!(out, [NONE, 1, NONE, 0, 2, NONE, 1, 3, NONE, 2, NONE, NONE]);
 }
 
+/// Lends the links of the zones to the check and to pages of two pairs, then each other length, and
+/// links of other zones.
+#[test]
+fn links_that_are_lent() {
+    let links = [NONE, 1, NONE, 0, NONE, NONE, NONE];
+    let lend = |links: &[u32], ticket: Ticket| {
+        let page =
+            asking::list_linked(&zones(), &samples(), links, ticket, &mut [0; 2 * PAIR_WORDS]);
+        let starts = |pair: &Pair| [pair.ancestor.start, pair.descendant.start];
+        let found: Vec<[u32; 2]> = page.pairs.iter().map(starts).collect();
+        (page.verdict.answer, found, page.done)
+    };
+    assert_eq!(asking::links_check(&zones(), &links[..6]), Taken);
+    assert_eq!(lend(&links[..6], ticket(0, 0)), (Taken, vec![[2, 4], [3, 4]], false));
+    let second = Ticket { placed: 1, document: 5, first: 4, second: 3, ..FRESH };
+    assert_eq!(lend(&links[..6], second), (Taken, vec![[2, 8]], true));
+    for length in [0, 1, 3, 5, 7] {
+        assert_eq!(asking::links_check(&zones(), &links[..length]), Links);
+        assert_eq!(lend(&links[..length], ticket(0, 0)), (Links, vec![], false));
+    }
+    let side_by_side = [NONE, NONE, 1, NONE, NONE, NONE];
+    assert_eq!(lend(&side_by_side, second), (Links, vec![], false));
+    assert_eq!(asking::links_check(&samples(), &side_by_side), Taken);
+    assert_eq!(asking::links_check(&[], &[]), Taken);
+    assert_eq!(asking::links_check(&[], &links[..3]), Links);
+    assert_eq!(asking::links_check(&zones()[..7], &links[..6]), Ragged);
+    assert_eq!(asking::links_check(&list(&[[1, 5, 1], [5, 7, 2]]), &links[..6]), Cross);
+}
+
 #[test]
 fn book_of_zones_and_samples() {
     let nodes = [zones(), samples()].concat();
@@ -408,9 +437,9 @@ fn empty_lists_have_no_pairs() {
 #[test]
 fn names_are_filled_up_with_blanks() {
     let name = |number| String::from_utf8(raw::name(number).to_vec()).expect("names are ASCII");
-    let names: Vec<String> = (0..=18).chain([u32::MAX]).map(name).collect();
+    let names: Vec<String> = (0..=19).chain([u32::MAX]).map(name).collect();
     let table = "TAKEN   RAGGED  LONG    LEVEL   SPAN    ORDER   CROSS   DEPTH   JOINT   \
                  ROOM    MARK    STRAY   DEEP    UNCLOSEDTABLE   CONTENTSABSENT  \
-                 READING ";
+                 READING LINKS   ";
     assert_eq!(names.concat(), format!("{table}{:16}", ""));
 }

@@ -14,7 +14,7 @@ const CASES: u64 = 2_500;
 /// Seeds that no other test has.
 const SEEDS: u64 = 1 << 40;
 
-const FUNCTIONS: [Function; 14] = [
+const FUNCTIONS: [Function; 16] = [
     cases::CHECK,
     cases::CHECK_TWO,
     cases::FAULTY,
@@ -29,6 +29,8 @@ const FUNCTIONS: [Function; 14] = [
     cases::ZONE_RANGE,
     cases::SHEET,
     cases::ASK,
+    cases::LINKS_CHECK,
+    cases::LIST_LINKED,
 ];
 
 fn hold(ground: Ground, first_seed: u64) {

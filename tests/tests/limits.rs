@@ -10,7 +10,7 @@ use outside::making::tickets::FRESH;
 use outside::model::answers::Answer::{self, *};
 use outside::model::answers::{Verdict, ANCESTORS, DESCENDANTS};
 use outside::model::books::{self, bytes, contents_end, MOST_LISTS, NODE_BYTES, NUMBER_BYTES};
-use outside::model::links::{LINK_WORDS, NONE};
+use outside::model::links::{links_of, LINK_WORDS, NONE};
 use outside::model::lists::MOST_LEVEL;
 use outside::model::marks::{CLOSE, ROW_WORDS, TEXT};
 use outside::model::nodes::{words, Node, NODE_WORDS};
@@ -41,7 +41,10 @@ fn refused(answer: Answer) -> raw::Written {
 fn draws(list: &[u32], answer: Answer) {
     let other = words(&texts(1));
     let verdict = |number| raw::Verdict { answer: answer as u32, list: number, index: 0 };
+    let links = |list: &[u32]| vec![NONE; LINK_WORDS * (list.len() / NODE_WORDS)];
     assert_eq!(raw::check(list), verdict(0));
+    assert_eq!(raw::links_check(list, &links(list)), verdict(0));
+    assert_eq!(raw::links_check(list, &[]), verdict(0));
     hold(&answer, &mut [0; 12], &[], refused(answer), |out| raw::links(list, out));
     for (ancestors, descendants, number) in
         [(list, &other[..], ANCESTORS), (&other, list, DESCENDANTS), (list, list, ANCESTORS)]
@@ -51,6 +54,11 @@ fn draws(list: &[u32], answer: Answer) {
         assert_eq!(raw::faulty(ancestors, descendants), part);
         let page = raw::Page { verdict: verdict(number), done: 0, count: 0, ticket: FRESH };
         hold(&answer, &mut [0; 12], &[], page, |out| raw::list(ancestors, descendants, FRESH, out));
+        for links in [links(ancestors), vec![]] {
+            hold(&answer, &mut [0; 12], &[], page, |out| {
+                raw::list_linked(ancestors, descendants, &links, FRESH, out)
+            });
+        }
         let sheet = raw::Written { verdict: verdict(number), count: 0 };
         hold(&answer, &mut [0; 12], &[], sheet, |out| raw::sheet(ancestors, descendants, &[], out));
     }
@@ -83,6 +91,12 @@ fn links_of_the_longest_list() {
     hold(&"one word less", &mut vec![0; expected.len() - 1], &[], refused(Room), |out| {
         raw::links(&list, out)
     });
+    let wrong = raw_verdict(Verdict::of(Links));
+    assert_eq!(raw::links_check(&list, &expected), TAKEN);
+    assert_eq!(raw::links_check(&list, &expected[1..]), wrong);
+    assert_eq!(raw::links_check(&list, &expected[LINK_WORDS..]), wrong);
+    assert_eq!(raw::links_check(&list, &[&expected[..], &[NONE]].concat()), wrong);
+    assert_eq!(raw::links_check(&list, &[&expected[..], &[NONE; LINK_WORDS]].concat()), wrong);
 }
 
 /// Returns the words of all pairs of a nest and of the texts in it, in descendant order or in
@@ -133,6 +147,9 @@ fn all_pairs_are_listed(zones: &[Node], texts: &[Node]) {
         hold(&order, &mut vec![0; expected.len()], &expected, page, |out| {
             raw::list(&ancestors, &descendants, given, out)
         });
+        hold(&order, &mut vec![0; expected.len()], &expected, page, |out| {
+            raw::list_linked(&ancestors, &descendants, &links_of(zones), given, out)
+        });
         let mut one_less = vec![0; expected.len() - 1];
         let page = raw::list(&ancestors, &descendants, given, &mut one_less);
         assert_eq!((page.done, page.count), (0, count - 1));
@@ -162,6 +179,8 @@ fn the_deepest_nest() {
         let zones = words(&nest(DEEPEST));
         assert_eq!(asking::check(&zones), Taken);
         assert_eq!(asking::links(&zones, &mut [0; LINK_WORDS * DEEPEST]), Taken);
+        assert_eq!(asking::links_check(&zones, &links_of(&nest(DEEPEST))), Taken);
+        assert_eq!(asking::links_check(&zones, &links_of(&nest(DEEPEST - 1))), Links);
         for (relation, order) in [(0, 0), (0, 1), (1, 0), (1, 1)] {
             let ticket = Ticket { relation, order, ..FRESH };
             assert_eq!(asking::list(&zones, &zones, ticket, &mut [0; 20_000]), Taken);
@@ -171,6 +190,7 @@ fn the_deepest_nest() {
         let deeper = words(&nest(DEEPEST + 1));
         assert_eq!(asking::check(&deeper), Level);
         assert_eq!(raw::check(&deeper).index, MOST_LEVEL);
+        assert_eq!(asking::links_check(&deeper, &links_of(&nest(DEEPEST + 1))), Level);
     }
 }
 
@@ -411,6 +431,9 @@ fn greatest_and_least_numbers() {
             let inner = [documents[1], y[0], y[1], 2];
             tally.count(asking::check(&[outer, inner].concat()));
             asking::links(&[outer, inner].concat(), &mut [0; 6]);
+            for links in [[NONE, 1, NONE, 0, NONE, NONE], [NONE, NONE, 1, NONE, NONE, NONE]] {
+                asking::links_check(&[outer, inner].concat(), &links);
+            }
             for ticket in [FRESH, Ticket { relation: 1, order: 1, ..FRESH }] {
                 asking::list(&outer, &inner, ticket, &mut [0; 9]);
             }

@@ -1,12 +1,14 @@
 //! Listings of two lists that nobody alters, followed from a fresh ticket through pages of any
 //! rooms, 0 among them. The pages one after the other are the full listing. A call is done exactly
-//! when the rooms so far are enough for it, and a call after that writes nothing.
+//! when the rooms so far are enough for it, and a call after that writes nothing. Some calls are
+//! lent the links of the ancestors, and some aren't.
 
 use belfrychest::raw::{self, Ticket};
 use outside::asking::{meaning, TAKEN};
 use outside::ends::is_between;
 use outside::making::lists::{any_family, some_of};
 use outside::making::tickets::FRESH;
+use outside::model::links::links_of;
 use outside::model::nodes::{nodes, words, Node};
 use outside::model::pages::{pairs, Pair, PAIR_WORDS};
 use outside::random::{each_case, Random};
@@ -24,6 +26,8 @@ const LEAST: u64 = 100;
 struct Listing {
     ancestors: Vec<u32>,
     descendants: Vec<u32>,
+    /// The links of the ancestors.
+    links: Vec<u32>,
     /// The words of the model's full listing, and those that were handed out so far.
     full: Vec<u32>,
     handed_out: Vec<u32>,
@@ -43,6 +47,7 @@ impl Listing {
         Listing {
             ancestors: words(ancestors),
             descendants: words(descendants),
+            links: links_of(ancestors),
             full: full_listing(&ticket, ancestors, descendants),
             handed_out: Vec::new(),
             ticket,
@@ -58,11 +63,16 @@ impl Listing {
         self.full.len() <= PAIR_WORDS * self.rooms
     }
 
-    /// Makes the next call, with room for `room` pairs and some words more, which make no pair.
-    /// Fails unless it is done exactly when the rooms so far are enough.
-    fn call(&mut self, room: usize, more: usize) {
+    /// Makes the next call, with room for `room` pairs and some words more, which make no pair. It
+    /// may be lent the links. Fails unless it is done exactly when the rooms so far are enough.
+    fn call(&mut self, room: usize, more: usize, is_linked: bool) {
+        let Listing { ancestors, descendants, links, ticket, .. } = &*self;
         let mut out = vec![0; PAIR_WORDS * room + more];
-        let page = raw::list(&self.ancestors, &self.descendants, self.ticket, &mut out);
+        let page = if is_linked {
+            raw::list_linked(ancestors, descendants, links, *ticket, &mut out)
+        } else {
+            raw::list(ancestors, descendants, *ticket, &mut out)
+        };
         self.rooms += room;
         assert_eq!(
             (page.verdict, page.done),
@@ -104,9 +114,9 @@ fn follow(random: &mut Random, fresh: Ticket) -> Listing {
     let all = any_family(random);
     let mut listing = Listing::from(fresh, &some_of(random, &all), &some_of(random, &all));
     while !listing.had_enough() {
-        listing.call(random.pick(&ROOMS), random.below(PAIR_WORDS));
+        listing.call(random.pick(&ROOMS), random.below(PAIR_WORDS), random.one_in(2));
     }
-    listing.call(random.pick(&ROOMS), random.below(PAIR_WORDS));
+    listing.call(random.pick(&ROOMS), random.below(PAIR_WORDS), random.one_in(2));
     assert_eq!(listing.handed_out, listing.full, "handed out, and the full listing");
     listing
 }

@@ -1,4 +1,4 @@
-//! More than a million random cases of the fifteen functions, sound and damaged, against the
+//! More than a million random cases of the seventeen functions, sound and damaged, against the
 //! model. An answer that a function can give and that never came is a failure too.
 
 use outside::cases::{self, Function};
@@ -80,6 +80,16 @@ fn sheet() {
 #[test]
 fn ask() {
     hold(&cases::ASK, 14);
+}
+
+#[test]
+fn links_check() {
+    hold(&cases::LINKS_CHECK, 15);
+}
+
+#[test]
+fn list_linked() {
+    hold(&cases::LIST_LINKED, 16);
 }
 
 #[test]

@@ -10,6 +10,7 @@ use outside::making::tickets::FRESH;
 use outside::model::answers::Answer::{self, *};
 use outside::model::answers::{Verdict, ANCESTORS, DESCENDANTS};
 use outside::model::books::{bytes, contents_end, numbers, Tagged, MOST_LISTS, NUMBER_BYTES};
+use outside::model::links::{LINK_WORDS, NONE};
 use outside::model::lists::MOST_LEVEL;
 use outside::model::marks::{CLOSE, ROW_WORDS, TEXT};
 use outside::model::nodes::{words, Node, NODE_WORDS};
@@ -84,11 +85,21 @@ fn each_fault_anywhere(test: impl Fn(&[Node], Answer, usize)) {
     }
 }
 
+/// Returns words that may be lent as links of a list: none, what the archive writes if it does, and
+/// others, as many as the list needs and one more.
+fn any_links(list: &[u32]) -> [Vec<u32>; 4] {
+    let needed = LINK_WORDS * (list.len() / NODE_WORDS);
+    let mut written = vec![NONE; needed];
+    raw::links(list, &mut written);
+    [vec![], written, vec![0; needed], vec![NONE; needed + 1]]
+}
+
 /// Fails unless all calls of two lists refuse these with this verdict, show the part at the faulty
 /// node, give the ticket back and write nothing. There are too few words for a sheet, which is
-/// checked later.
+/// checked later. So are links, right ones and wrong ones.
 fn refuses_two(ancestors: &[Node], descendants: &[Node], verdict: Verdict, part: [usize; 2]) {
     let (ancestors, descendants) = (words(ancestors), words(descendants));
+    let links = any_links(&ancestors);
     let expected = raw_verdict(verdict);
     assert_eq!(raw::check_two(&ancestors, &descendants), expected);
     assert_eq!(
@@ -102,6 +113,11 @@ fn refuses_two(ancestors: &[Node], descendants: &[Node], verdict: Verdict, part:
         hold(&verdict, &mut [0; ROOM], &[], page, |out| {
             raw::list(&ancestors, &descendants, ticket, out)
         });
+        for links in &links {
+            hold(&verdict, &mut [0; ROOM], &[], page, |out| {
+                raw::list_linked(&ancestors, &descendants, links, ticket, out)
+            });
+        }
     }
     let refused = raw::Written { verdict: expected, count: 0 };
     hold(&verdict, &mut [0; ROOM], &[], refused, |out| {
@@ -117,6 +133,9 @@ fn one_list() {
         assert_eq!(raw::check(&list), verdict);
         let refused = raw::Written { verdict, count: 0 };
         hold(&refused, &mut [0; ROOM], &[], refused, |out| raw::links(&list, out));
+        for links in any_links(&list) {
+            assert_eq!(raw::links_check(&list, &links), verdict);
+        }
     });
 }
 

@@ -66,7 +66,7 @@ fn call(history: &mut History, text: &str) -> String {
     let (room, lists) = text.split_once(':').expect("the output's words and a colon");
     let (room, (ancestors, descendants)) = (number(room), two_lists(lists).expect("two lists"));
     asking::list(&ancestors, &descendants, history.ticket, &mut vec![0; room]);
-    let page = history.call(&ancestors, &descendants, room);
+    let page = history.call(&ancestors, &descendants, None, room);
     let pairs = &history.handed_out[history.handed_out.len() - page.count..];
     let done = if page.done == 1 { "done" } else { "not done" };
     let verdict = format!(

@@ -68,6 +68,7 @@ impl Seen {
             let (expected, mut given) = (strict::links(nodes), vec![0; LINK_WORDS * nodes.len()]);
             assert_eq!(asking::links(&list, &mut given), Taken);
             assert_eq!(given, expected, "links of {nodes:?}");
+            assert_eq!(asking::links_check(&list, &expected), Taken);
             let mut parents = expected.iter().step_by(LINK_WORDS);
             self.nested += u64::from(parents.any(|&parent| parent != NONE));
         }

@@ -101,6 +101,7 @@ fn lists_are_taken_and_linked_as_the_trees_are() {
         let mut links = vec![0; LINK_WORDS * tree.nodes.len()];
         assert_eq!(asking::links(&list, &mut links), Taken);
         assert_eq!(links, links_of(&tree), "links, and those of the tree: {:?}", tree.nodes);
+        assert_eq!(asking::links_check(&list, &links), Taken);
         let places = 0..tree.nodes.len();
         let shared = places.clone().filter(|&place| ends_where_its_parent_ends(&tree, place));
         let is_of_kind = [

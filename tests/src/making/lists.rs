@@ -124,6 +124,38 @@ fn deep_family(random: &mut Random) -> Vec<Node> {
     nodes
 }
 
+/// Returns documents with one root each, at most `size` nodes in each. It is a family too.
+fn rooted_family(random: &mut Random, size: usize) -> Vec<Node> {
+    let mut nodes = Vec::new();
+    for document in DOCUMENTS {
+        if !random.one_in(3) {
+            nodes.extend(tree(random, document, size).nodes);
+        }
+    }
+    nodes
+}
+
+/// Returns a family, and of it zones and samples: many zones, and mostly few samples.
+pub fn sparse_lists(random: &mut Random) -> [Vec<Node>; 2] {
+    let all = match random.below(40) {
+        0 => deep_family(random),
+        1..=4 => family(random, LARGE),
+        5..=14 => rooted_family(random, 2 * SMALL),
+        15..=34 => shape_of_five(random, 4 * SMALL),
+        _ => family(random, SMALL),
+    };
+    let [zones_in_8, samples_in_24] = [random.pick(&[5, 7, 8, 8]), random.pick(&[1, 1, 2, 4, 15])];
+    let zones = all.iter().copied().filter(|_| random.below(8) < zones_in_8).collect();
+    [zones, all.iter().copied().filter(|_| random.below(24) < samples_in_24).collect()]
+}
+
+/// Returns the nodes of one document.
+fn shape_of_five(random: &mut Random, size: usize) -> Vec<Node> {
+    let mut nodes = shape(random, size);
+    settle(random, 5, &mut nodes);
+    nodes
+}
+
 /// Returns mostly a small family, now and then a large or a deep one.
 pub fn any_family(random: &mut Random) -> Vec<Node> {
     match random.below(200) {
@@ -251,4 +283,13 @@ pub fn two_lists(random: &mut Random) -> (Vec<u32>, Vec<u32>) {
         _ => (),
     }
     (mostly_sound(random, ancestors), mostly_sound(random, descendants))
+}
+
+/// Returns many zones and few samples, which are mostly accepted and mostly agree.
+pub fn two_sparse_lists(random: &mut Random) -> (Vec<u32>, Vec<u32>) {
+    let [ancestors, descendants] = sparse_lists(random);
+    if random.one_in(3) {
+        return (mostly_sound(random, ancestors), mostly_sound(random, descendants));
+    }
+    (misfit(random, words(&ancestors), NODE_WORDS), misfit(random, words(&descendants), NODE_WORDS))
 }

@@ -21,12 +21,13 @@ pub enum Answer {
     Contents,
     Absent,
     Reading,
+    Links,
 }
 
 /// The names in the order of their numbers.
-pub const NAMES: [&str; 18] = [
+pub const NAMES: [&str; 19] = [
     "TAKEN", "RAGGED", "LONG", "LEVEL", "SPAN", "ORDER", "CROSS", "DEPTH", "JOINT", "ROOM", "MARK",
-    "STRAY", "DEEP", "UNCLOSED", "TABLE", "CONTENTS", "ABSENT", "READING",
+    "STRAY", "DEEP", "UNCLOSED", "TABLE", "CONTENTS", "ABSENT", "READING", "LINKS",
 ];
 
 /// The bytes of a name's row.

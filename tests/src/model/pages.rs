@@ -1,6 +1,7 @@
 //! The full listing of two lists, tickets, and the pages of a listing.
 
 use super::answers::{Answer, Verdict};
+use super::links::are_links;
 use super::lists::check_two;
 use super::nodes::{directly_inside, inside, nodes, Node, NODE_WORDS};
 
@@ -113,4 +114,20 @@ pub fn page(ancestors: &[u32], descendants: &[u32], ticket: &Ticket, words: usiz
     remaining.truncate(room);
     let place = remaining.last().map(|pair| pair.key(ticket.order)).or(ticket.place);
     Page { verdict, done, pairs: remaining, place }
+}
+
+/// Returns the page of a call that is lent links of the ancestors too: the plain one, unless the
+/// words aren't those links.
+pub fn linked_page(
+    ancestors: &[u32],
+    descendants: &[u32],
+    links: &[u32],
+    ticket: &Ticket,
+    words: usize,
+) -> Page {
+    let page = page(ancestors, descendants, ticket, words);
+    if page.verdict.answer == Answer::Taken && !are_links(ancestors, links) {
+        return Page::refused(Verdict::of(Answer::Links), ticket);
+    }
+    page
 }
