@@ -1,21 +1,28 @@
 /* Whether every twin answers and writes as the archive does: on all shapes, on lists at the limits
    and on random small lists, most of which are damaged. In many of these a node ends where the one
-   around it ends. agree CASES says how many random ones. A difference is printed and ends it with
-   1. */
+   around it ends. The links that are lent are right, or wrong in some words. agree CASES says how
+   many random ones. A difference is printed and ends it with 1. */
 #include "codes.h"
 #include "shapes.h"
 #include <stdio.h>
 #include <stdlib.h>
 #include <string.h>
 
-enum { MOST_PAIRS = 300000, MOST_NOTES = 1 << 16, ANSWERS = BELFRY_READING + 1 };
+enum {
+    MOST_PAIRS = 300000,
+    MOST_NOTES = 1 << 16,
+    ANSWERS = BELFRY_LINKS + 1,
+    /* How far apart the words of a shape's links lie that are made wrong. Words of all three kinds
+       are among them. */
+    WRONG_APART = 97
+};
 
 /* What a case gives to the calls. */
 struct input {
-    const uint32_t *ancestors, *descendants, *readings, *hundredths, *marks, *questions;
+    const uint32_t *ancestors, *descendants, *links, *readings, *hundredths, *marks, *questions;
     const uint8_t *book;
-    size_t ancestor_words, descendant_words, reading_words, hundredth_words, mark_words, book_bytes,
-        question_words;
+    size_t ancestor_words, descendant_words, link_words, reading_words, hundredth_words, mark_words,
+        book_bytes, question_words;
     size_t rooms[2];
     belfry_ticket ticket;
     uint32_t zone, tag;
@@ -89,15 +96,25 @@ static void note_checks(struct notes *notes, const struct code *code, const stru
     note_verdict(notes, two);
 }
 
+/* Makes the call with links, and the plain one where there are none. */
+static belfry_page next_page(const struct code *code, const struct input *in, belfry_ticket ticket,
+                             size_t room_words, int linked) {
+    if (linked)
+        return code->list_linked(in->ancestors, in->ancestor_words, in->descendants,
+                                 in->descendant_words, in->links, in->link_words, ticket, out,
+                                 room_words);
+    return code->list(in->ancestors, in->ancestor_words, in->descendants, in->descendant_words,
+                      ticket, out, room_words);
+}
+
 /* Notes page after page with one room, from a ticket on, until one is done or nothing is written.
  * */
 static void note_pages(struct notes *notes, const struct code *code, const struct input *in,
-                       belfry_ticket ticket, size_t room_words) {
+                       belfry_ticket ticket, size_t room_words, int linked) {
     belfry_page page;
     do {
         clear_out(room_words);
-        page = code->list(in->ancestors, in->ancestor_words, in->descendants, in->descendant_words,
-                          ticket, out, room_words);
+        page = next_page(code, in, ticket, room_words, linked);
         note_page(notes, &page);
         note_out(notes, room_words);
         ticket = page.ticket;
@@ -110,9 +127,11 @@ static void note_listings(struct notes *notes, const struct code *code, const st
         belfry_ticket made_up = in->ticket;
         made_up.relation = kind & 1;
         made_up.order = kind >> 1;
-        note_pages(notes, code, in, fresh, in->rooms[0]);
-        note_pages(notes, code, in, fresh, in->rooms[1]);
-        note_pages(notes, code, in, made_up, in->rooms[1]);
+        for (int linked = 0; linked < 2; linked++) {
+            note_pages(notes, code, in, fresh, in->rooms[0], linked);
+            note_pages(notes, code, in, fresh, in->rooms[1], linked);
+            note_pages(notes, code, in, made_up, in->rooms[1], linked);
+        }
     }
 }
 
@@ -157,6 +176,8 @@ static void note_others(struct notes *notes, const struct code *code, const stru
         note_written(notes, code->number(in->tag, in->marks, in->mark_words, out, in->rooms[i]),
                      in->rooms[i]);
     }
+    note_verdict(notes,
+                 code->links_check(in->ancestors, in->ancestor_words, in->links, in->link_words));
     belfry_book book = code->book_check(in->book, in->book_bytes);
     belfry_body body = code->book_body(in->book, in->book_bytes, in->tag);
     note_verdict(notes, book.verdict);
@@ -194,11 +215,28 @@ static void note_all(struct notes *notes, const struct code *code, const struct 
     note_questions(notes, code, in);
 }
 
-/* Runs a case on all codes, and ends where one differs from the archive. */
-static void compare(const struct input *in, const char *name, unsigned long number) {
-    note_all(&expected, &codes[0], in);
+/* Notes what is answered to links: by their check, and by a page of each listing. */
+static void note_linked(struct notes *notes, const struct code *code, const struct input *in) {
+    notes->count = 0;
+    note_verdict(notes,
+                 code->links_check(in->ancestors, in->ancestor_words, in->links, in->link_words));
+    for (uint32_t kind = 0; kind < 4; kind++) {
+        clear_out(BELFRY_PAIR_WORDS);
+        belfry_page page =
+            next_page(code, in, BELFRY_TICKET(kind & 1, kind >> 1), BELFRY_PAIR_WORDS, 1);
+        note_page(notes, &page);
+        note_out(notes, BELFRY_PAIR_WORDS);
+    }
+}
+
+typedef void noting(struct notes *notes, const struct code *code, const struct input *in);
+
+/* Runs a case on all codes, and ends where one differs from the archive in what is noted. */
+static void compare(noting *note_them, const struct input *in, const char *name,
+                    unsigned long number) {
+    note_them(&expected, &codes[0], in);
     for (size_t i = 1; i < CODES; i++) {
-        note_all(&found, &codes[i], in);
+        note_them(&found, &codes[i], in);
         if (found.count == expected.count &&
             memcmp(found.note, expected.note, found.count * sizeof found.note[0]) == 0)
             continue;
@@ -228,9 +266,10 @@ enum {
 
 /* A random case. */
 struct small {
-    size_t words[SMALL_LISTS], marks, bytes, questions;
+    size_t words[SMALL_LISTS], links, marks, bytes, questions;
     uint32_t list[SMALL_LISTS][BELFRY_NODE_WORDS * MOST_SMALL],
-        reading[BELFRY_READING_WORDS * MOST_SMALL], hundredths[MOST_SMALL + 1], mark[SMALL_MARKS],
+        link[BELFRY_LINK_WORDS * (MOST_SMALL + 1)], reading[BELFRY_READING_WORDS * MOST_SMALL],
+        hundredths[MOST_SMALL + 1], mark[SMALL_MARKS],
         question[BELFRY_QUESTION_WORDS * (SMALL_QUESTIONS + 1)];
     uint8_t book[BELFRY_BOOK_BYTES(SMALL_LISTS, SMALL_NODES) + 1];
 };
@@ -322,6 +361,33 @@ static void fill_book(struct small *s) {
         s->bytes = below(2) ? below(end) : end + 1;
 }
 
+/* Changes a word of the links: to that of another node, or by a little, or to another limit. */
+static void damage_link(struct small *s) {
+    static const uint32_t others[] = {0, BELFRY_MOST_NODES, BELFRY_NONE - 1, BELFRY_NONE};
+    uint32_t *word = &s->link[below(s->links)], choice = below(3);
+    if (choice == 0)
+        *word = s->link[below(s->links)];
+    else if (choice == 1)
+        *word += below(5) - 2;
+    else
+        *word = others[below(4)];
+}
+
+/* Fills in the links of the zones before these are damaged. In every second case some words are
+ * changed, and some have words too few or too many. */
+static void fill_links(struct small *s) {
+    belfry_result made =
+        codes[0].links(s->list[0], s->words[0], s->link, BELFRY_LINK_WORDS * MOST_SMALL);
+    s->links = BELFRY_LINK_WORDS * made.count;
+    if (s->links > 0 && below(2))
+        for (size_t changes = below(3); changes > 0; changes--)
+            damage_link(s);
+    if (s->links > 0 && below(16) == 0)
+        s->links -= 1 + below(BELFRY_LINK_WORDS);
+    else if (below(16) == 0)
+        s->links += 1 + below(BELFRY_LINK_WORDS);
+}
+
 /* Fills in a reading for each sample, and most often leaves them sound. Values lie close together,
  * so that many are equal, and at the limits. */
 static void fill_readings(struct small *s) {
@@ -382,6 +448,7 @@ static int meet_at_an_end(const struct input *in) {
 static void compare_random(unsigned long number) {
     static struct small s;
     fill_lists(&s);
+    fill_links(&s);
     for (size_t damages = below(3); damages > 0; damages--) {
         size_t list = below(SMALL_LISTS);
         damage_list(s.list[list], &s.words[list]);
@@ -396,6 +463,8 @@ static void compare_random(unsigned long number) {
         .ancestor_words = s.words[0],
         .descendants = s.list[1],
         .descendant_words = s.words[1],
+        .links = s.link,
+        .link_words = s.links,
         .readings = s.reading,
         .reading_words = BELFRY_READING_WORDS * (s.words[1] / BELFRY_NODE_WORDS) -
                          (s.words[1] > 0 && below(16) == 0),
@@ -415,7 +484,7 @@ static void compare_random(unsigned long number) {
                    .first = below(24),
                    .second = below(24)},
     };
-    compare(&in, "random case", number);
+    compare(note_all, &in, "random case", number);
     if (meet_at_an_end(&in))
         seen_at_an_end[belfry_check_two(in.ancestors, in.ancestor_words, in.descendants,
                                         in.descendant_words)
@@ -428,10 +497,29 @@ static const uint32_t questions[] = {
     ZONE_TAG, SAMPLE_TAG, 0, 1, 0, 0, 0, 0, ZONE_TAG, SAMPLE_TAG, 0, 0, 0, 0, 0, 0,
 };
 
+/* Compares links of which one word is wrong, as far apart as said above. It is in turn one less,
+ * one more, and NONE or 0. */
+static void compare_wrong_links(const struct input *in, uint32_t *links, const char *name) {
+    for (size_t i = 0; i < in->link_words; i += WRONG_APART) {
+        const uint32_t word = links[i];
+        const uint32_t wrong[] = {word - 1, word + 1, word == BELFRY_NONE ? 0 : BELFRY_NONE};
+        links[i] = wrong[i / WRONG_APART % 3];
+        compare(note_linked, in, name, i);
+        links[i] = word;
+    }
+}
+
+/* Fills in the links of a list, and returns how many words they have. They are none if it is
+ * refused. */
+static size_t fill_in_links(uint32_t *links, const uint32_t *list, size_t words) {
+    return BELFRY_LINK_WORDS *
+           codes[0].links(list, words, links, BELFRY_LINK_WORDS * BELFRY_MOST_NODES).count;
+}
+
 static void compare_shape(const char *name) {
     static struct shape lists, document;
-    static uint32_t readings[BELFRY_READING_WORDS * BELFRY_MOST_NODES],
-        hundredths[BELFRY_MOST_NODES];
+    static uint32_t links[BELFRY_LINK_WORDS * BELFRY_MOST_NODES],
+        readings[BELFRY_READING_WORDS * BELFRY_MOST_NODES], hundredths[BELFRY_MOST_NODES];
     static uint8_t book[BELFRY_BOOK_BYTES(SMALL_LISTS, SMALL_LISTS * BELFRY_MOST_NODES)];
     build_shape(&lists, name, BELFRY_MOST_NODES);
     build_document(&document, name, BELFRY_MOST_NODES);
@@ -444,6 +532,8 @@ static void compare_shape(const char *name) {
         .ancestor_words = BELFRY_NODE_WORDS * lists.zones,
         .descendants = lists.sample,
         .descendant_words = BELFRY_NODE_WORDS * lists.samples,
+        .links = links,
+        .link_words = fill_in_links(links, lists.zone, BELFRY_NODE_WORDS * lists.zones),
         .readings = readings,
         .reading_words = BELFRY_READING_WORDS * lists.samples,
         .hundredths = hundredths,
@@ -462,7 +552,8 @@ static void compare_shape(const char *name) {
                    .first = lists.zone[BELFRY_NODE_WORDS * (lists.zones / 2) + 1],
                    .second = lists.zone[BELFRY_NODE_WORDS * (lists.zones / 3) + 1]},
     };
-    compare(&in, name, BELFRY_MOST_NODES);
+    compare(note_all, &in, name, BELFRY_MOST_NODES);
+    compare_wrong_links(&in, links, name);
 }
 
 /* How the nodes of a list at a limit lie: side by side, each inside the one before, or so and all
@@ -472,8 +563,8 @@ enum lie { SIBLINGS, NEST, NEST_WITH_ONE_END };
 /* Compares lists and marks of as many words as are given. */
 static void compare_limit(size_t words, size_t mark_words, enum lie lie) {
     static uint32_t list[BELFRY_NODE_WORDS * (BELFRY_MOST_NODES + 1)], mark[BELFRY_MOST_NODES + 1];
-    static uint32_t readings[BELFRY_READING_WORDS * (BELFRY_MOST_NODES + 1)],
-        hundredths[BELFRY_MOST_NODES + 1];
+    static uint32_t links[BELFRY_LINK_WORDS * BELFRY_MOST_NODES],
+        readings[BELFRY_READING_WORDS * (BELFRY_MOST_NODES + 1)], hundredths[BELFRY_MOST_NODES + 1];
     static uint8_t book[CONTENTS_BYTES];
     build_readings(readings, BELFRY_MOST_NODES + 1, IN_TURN);
     build_hundredths(hundredths, BELFRY_MOST_NODES + 1);
@@ -489,6 +580,8 @@ static void compare_limit(size_t words, size_t mark_words, enum lie lie) {
         .ancestor_words = words,
         .descendants = list,
         .descendant_words = words,
+        .links = links,
+        .link_words = fill_in_links(links, list, words),
         .readings = readings,
         .reading_words = BELFRY_READING_WORDS * (words / BELFRY_NODE_WORDS),
         .hundredths = hundredths,
@@ -501,7 +594,7 @@ static void compare_limit(size_t words, size_t mark_words, enum lie lie) {
         .question_words = sizeof questions / sizeof questions[0],
         .rooms = {BELFRY_ROW_WORDS * (BELFRY_MOST_NODES + 1), BELFRY_ROW_WORDS * (mark_words - 2)},
     };
-    compare(&in, "the limits", words);
+    compare(note_all, &in, "the limits", words);
 }
 
 /* Tells whether some case drew each answer that the calls compared here can give, and whether zones

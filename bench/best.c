@@ -373,3 +373,125 @@ static void link_nodes(const struct node *nodes, size_t count,
             links[kin.parent][1] = i;
     }
 }
+
+/* Tells whether the links name the elder sibling of a node whose document has one before it, and no
+   next sibling of the others that have ended. It goes up from the node before, along parents that
+   were compared already. */
+static inline int is_elder_named(const struct node *nodes, uint32_t i, const belfry_link *links) {
+    uint32_t elder = i - 1, parent;
+    while ((parent = links[elder].parent) != BELFRY_NONE && nodes[parent].end < nodes[i].start) {
+        if (links[elder].next_sibling != BELFRY_NONE)
+            return 0;
+        elder = parent;
+    }
+    return links[elder].next_sibling == i && links[i].parent == parent;
+}
+
+/* Tells whether the links name nothing after a node: no child, and no next sibling of it or of any
+   node around it. */
+static inline int is_last_named(uint32_t i, const belfry_link *links) {
+    if (links[i].first_child != BELFRY_NONE)
+        return 0;
+    for (; i != BELFRY_NONE; i = links[i].parent)
+        if (links[i].next_sibling != BELFRY_NONE)
+            return 0;
+    return 1;
+}
+
+/* Tells whether the links say of a node, which isn't the first, what the list says. */
+static inline int is_node_named(const struct node *nodes, uint32_t i, const belfry_link *links) {
+    const uint32_t before = i - 1;
+    if (nodes[before].document != nodes[i].document)
+        return links[i].parent == BELFRY_NONE && is_last_named(before, links);
+    if (nodes[before].end >= nodes[i].start)
+        return links[before].first_child == i && links[i].parent == before;
+    return links[before].first_child == BELFRY_NONE && is_elder_named(nodes, i, links);
+}
+
+static int are_links(const struct node *nodes, size_t count, const belfry_link *links) {
+    if (count == 0)
+        return 1;
+    if (links[0].parent != BELFRY_NONE)
+        return 0;
+    for (uint32_t i = 1; i < count; i++)
+        if (!is_node_named(nodes, i, links))
+            return 0;
+    return is_last_named(count - 1, links);
+}
+
+/* The listings that jump. */
+
+/* Returns the zone after one and everything inside it. After the last of a document none is named,
+   and what lies inside it is passed by strides. */
+static inline const struct node *past_zone(const struct node *zones, const struct node *zones_end,
+                                           const belfry_link *links, const struct node *zone) {
+    if (links[zone - zones].first_child == BELFRY_NONE)
+        return zone + 1;
+    const struct node *next = named_after(zones, links, zone);
+    if (next)
+        return next;
+    next = zone + 1;
+    while (zones_end - next > STRIDE && is_open(zone, next + STRIDE))
+        next += STRIDE;
+    do
+        next++;
+    while (is_open_at(zone, next, zones_end));
+    return next;
+}
+
+/* Puts the ancestors onto the stack as open_before does, and passes those that have ended with
+   everything inside them. */
+static inline struct node *open_jumping(struct node *top, struct lists *l, const struct node *zones,
+                                        const belfry_link *links, const struct node *d) {
+    while (l->ancestor < l->ancestors_end && is_before(l->ancestor, d))
+        if (is_open(l->ancestor, d))
+            *++top = *l->ancestor++;
+        else
+            l->ancestor = past_zone(zones, l->ancestors_end, links, l->ancestor);
+    return top;
+}
+
+static int jump_descendants(struct lists l, const belfry_link *links, const belfry_ticket *ticket,
+                            struct writing *w) {
+    struct node stack[STACK_NODES], *top = stack;
+    const struct node *zones = l.ancestor;
+    const struct node *d = first_leader(ticket, l.descendant, l.descendants_end);
+    uint64_t start = first_start(ticket, d, l.descendants_end);
+    const int directly = ticket->relation != BELFRY_INSIDE;
+    *top = EVERYTHING;
+    for (; d < l.descendants_end; d++) {
+        top = open_jumping(open_at(stack, top, d), &l, zones, links, d);
+        const struct node *first = stack + 1;
+        if (directly)
+            first = top > stack && top->level + 1 == d->level ? top : top + 1;
+        if (!put_row(w, BELFRY_DESCENDANT_ORDER, d, from_start(first, top + 1, start), top + 1))
+            return 0;
+        start = 0;
+    }
+    return 1;
+}
+
+static int jump_ancestors(struct lists l, const belfry_link *links, const belfry_ticket *ticket,
+                          struct writing *w) {
+    const struct node *zones = l.ancestor, *a = first_leader(ticket, zones, l.ancestors_end);
+    const struct node *d = l.descendant, *d_end = l.descendants_end, *guess = d;
+    uint64_t start = first_start(ticket, a, l.ancestors_end);
+    const int directly = ticket->relation != BELFRY_INSIDE;
+    for (; a < l.ancestors_end; start = 0) {
+        for (; d < d_end && !is_before(a, d); d++)
+            ;
+        if (d == d_end)
+            return 1;
+        if (!is_open(a, d)) {
+            a = past_zone(zones, l.ancestors_end, links, a);
+            continue;
+        }
+        guess = end_of_run(a, d, d_end, guess);
+        const struct node *first = from_start(d, guess, start);
+        if (!(directly ? put_children(w, a, l.ancestors_end, first, guess)
+                       : put_row(w, BELFRY_ANCESTOR_ORDER, a, first, guess)))
+            return 0;
+        a++;
+    }
+    return 1;
+}

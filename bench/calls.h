@@ -20,6 +20,12 @@
         const uint32_t *hundredths, size_t hundredth_words, uint32_t *out, size_t out_words); \
     belfry_result prefix##_links(const uint32_t *list, size_t words, uint32_t *out, \
                                  size_t out_words); \
+    belfry_verdict prefix##_links_check(const uint32_t *list, size_t words, const uint32_t *links, \
+                                        size_t link_words); \
+    belfry_page prefix##_list_linked(const uint32_t *ancestors, size_t ancestor_words, \
+                                     const uint32_t *descendants, size_t descendant_words, \
+                                     const uint32_t *links, size_t link_words, \
+                                     belfry_ticket ticket, uint32_t *out, size_t out_words); \
     belfry_result prefix##_number(uint32_t document, const uint32_t *marks, size_t mark_words, \
                                   uint32_t *out, size_t out_words); \
     belfry_book prefix##_book_check(const uint8_t *book, size_t bytes); \

@@ -11,8 +11,8 @@ TWIN_CALLS(twin_gcc_best)
 #define CODE(name, prefix) \
     { \
         name, prefix##_check, prefix##_check_two, prefix##_list, prefix##_zone_range, \
-            prefix##_sheet, prefix##_links, prefix##_number, prefix##_book_check, \
-            prefix##_book_body, prefix##_ask \
+            prefix##_sheet, prefix##_links, prefix##_links_check, prefix##_list_linked, \
+            prefix##_number, prefix##_book_check, prefix##_book_body, prefix##_ask \
     }
 
 const struct code codes[CODES] = {

@@ -27,6 +27,12 @@ struct code {
                            size_t sample_words, const uint32_t *hundredths, size_t hundredth_words,
                            uint32_t *out, size_t out_words);
     belfry_result (*links)(const uint32_t *list, size_t words, uint32_t *out, size_t out_words);
+    belfry_verdict (*links_check)(const uint32_t *list, size_t words, const uint32_t *links,
+                                  size_t link_words);
+    belfry_page (*list_linked)(const uint32_t *ancestors, size_t ancestor_words,
+                               const uint32_t *descendants, size_t descendant_words,
+                               const uint32_t *links, size_t link_words, belfry_ticket ticket,
+                               uint32_t *out, size_t out_words);
     belfry_result (*number)(uint32_t document, const uint32_t *marks, size_t mark_words,
                             uint32_t *out, size_t out_words);
     belfry_book (*book_check)(const uint8_t *book, size_t bytes);

@@ -11,7 +11,12 @@
    driver lists SHAPE NODES
        prints the zones, an empty line and the samples, a node to a line
    driver book SHAPE NODES
-       writes the book of both lists */
+       writes the book of both lists
+   driver looked MEASURE SHAPE NODES
+       prints how many zones a listing looks at: those that the plain call decides about, those that
+       the call with links does, and those that it reads in addition to confirm its jumps */
+#include "linking.h"
+#include "looking.h"
 #include "measures.h"
 #include "timing.h"
 #include <stdio.h>
@@ -92,8 +97,12 @@ int main(int argc, char **argv) {
         print_lists(argv[2], argv[3]);
     else if (argc == 4 && strcmp(argv[1], "book") == 0)
         write_book(argv[2], argv[3]);
-    else
+    else if (argc == 5 && strcmp(argv[1], "looked") == 0) {
+        prepare(argv[2], argv[3], argv[4]);
+        print_looked(&shape, links, &measure.ticket);
+    } else
         fail("usage: driver count CODE MEASURE SHAPE NODES TIMES | time MEASURE SHAPE NODES | "
-             "sizes SHAPE NODES | lists SHAPE NODES | book SHAPE NODES");
+             "sizes SHAPE NODES | lists SHAPE NODES | book SHAPE NODES | looked MEASURE SHAPE "
+             "NODES");
     return 0;
 }

@@ -97,15 +97,18 @@ def sizes(shape, nodes=MOST_NODES):
 
 def without_kind(measure):
     """Returns the measure's name: a range's without the kind of its readings, a book's without its
-    lists, and that of questions without the book and the way.
+    lists, and that of questions without the book and the way. A listing has it without its links.
     """
     name = measure.split("-")[0]
-    return name if name in ("range", "book", "ask") else measure
+    if name in ("range", "book", "ask"):
+        return name
+    return measure.removeprefix("linked-")
 
 
 def unit_of(measure):
-    return {"check": "node", "range": "node", "sheet": "node", "book": "node", "links": "node",
-            "number": "mark", "ask": "question"}.get(without_kind(measure), "pair")
+    return {"check": "node", "check-one": "node", "range": "node", "sheet": "node", "book": "node",
+            "links": "node", "links-check": "node", "number": "mark",
+            "ask": "question"}.get(without_kind(measure), "pair")
 
 
 def units(measure, shape, nodes=MOST_NODES):
@@ -114,9 +117,13 @@ def units(measure, shape, nodes=MOST_NODES):
         return sizes(shape, min(int(nodes), PRINTED_NODES))["inside"]
     measure, size = without_kind(measure), sizes(shape, nodes)
     both = size["zones"] + size["samples"]
-    counts = {"check": both, "range": both, "sheet": both, "book": both, "links": size["zones"],
-              "number": size["marks"], "ask": QUESTIONS}
-    return counts[measure] if measure in counts else size[measure.split("-")[0]]
+    counts = {"check": both, "check-one": size["zones"], "range": both, "sheet": both, "book": both,
+              "links": size["zones"], "links-check": size["zones"], "number": size["marks"],
+              "ask": QUESTIONS}
+    if measure in counts:
+        return counts[measure]
+    pairs = size[measure.split("-")[0]]
+    return pairs // 4 if measure.endswith("-late") else pairs
 
 
 def main(code, measure, shape, nodes=MOST_NODES):

@@ -1,4 +1,5 @@
 #include "measures.h"
+#include "linking.h"
 #include <stdio.h>
 #include <stdlib.h>
 #include <string.h>
@@ -24,10 +25,18 @@ static int prepare_listing(struct measure *measure, const char *name) {
     if (sscanf(name, "%15[^-]-%15[^-]-%15s", relation, order, room) != 3)
         return 0;
     measure->kind = LISTING;
+    measure->late = strcmp(room, "late") == 0;
     measure->ticket =
         BELFRY_TICKET(strcmp(relation, "inside") != 0, strcmp(order, "descendant") != 0);
-    measure->room = strcmp(room, "all") == 0 ? MOST_PAIRS : strtoul(room, NULL, 10);
+    measure->room =
+        measure->late || strcmp(room, "all") == 0 ? MOST_PAIRS : strtoul(room, NULL, 10);
     return 0 < measure->room && measure->room <= MOST_PAIRS;
+}
+
+static int prepare_linked(struct measure *measure, const char *name) {
+    int found = prepare_listing(measure, name);
+    measure->kind = LINKED;
+    return found;
 }
 
 static int prepare_range(struct measure *measure, const char *name) {
@@ -73,11 +82,10 @@ static int prepare_book(struct measure *measure, const char *name) {
 
 /* Prepares what a measure's name says, without the shape. */
 static int prepare_named(struct measure *measure, const char *name) {
-    static const char *const names[] = {[CHECK] = "check",
-                                        [SHEET] = "sheet",
-                                        [LINKS] = "links",
-                                        [NUMBER] = "number",
-                                        [BOOK] = "book"};
+    static const char *const names[] = {
+        [CHECK] = "check", [CHECK_ONE] = "check-one",     [SHEET] = "sheet",
+        [LINKS] = "links", [LINKS_CHECK] = "links-check", [NUMBER] = "number",
+        [BOOK] = "book"};
     measure->lists = FEW_LISTS;
     for (enum kind kind = CHECK; kind <= BOOK; kind++)
         if (names[kind] && strcmp(names[kind], name) == 0) {
@@ -88,7 +96,22 @@ static int prepare_named(struct measure *measure, const char *name) {
         return prepare_book(measure, name);
     if (strncmp(name, "ask-", 4) == 0)
         return prepare_ask(measure, name);
+    if (strncmp(name, "linked-", 7) == 0)
+        return prepare_linked(measure, name + 7);
     return prepare_range(measure, name) || prepare_listing(measure, name);
+}
+
+/* Makes the first page of a listing, with room for some pairs. */
+static belfry_page first_page(const struct measure *measure, size_t room) {
+    return codes[0].list(shape.zone, BELFRY_NODE_WORDS * shape.zones, shape.sample,
+                         BELFRY_NODE_WORDS * shape.samples, measure->ticket, out,
+                         BELFRY_PAIR_WORDS * room);
+}
+
+/* Places the ticket after three quarters of the pairs. */
+static void place_late(struct measure *measure) {
+    size_t pairs = first_page(measure, MOST_PAIRS).count;
+    measure->ticket = first_page(measure, pairs - pairs / 4).ticket;
 }
 
 int prepare_measure(struct measure *measure, const char *name, const char *shape_name,
@@ -107,6 +130,9 @@ int prepare_measure(struct measure *measure, const char *name, const char *shape
         struct asking asking = asking_of(measure);
         build_questions(&asking);
     }
+    build_links();
+    if (measure->late)
+        place_late(measure);
     return 1;
 }
 
@@ -190,6 +216,10 @@ size_t run_measure(const struct measure *measure, const struct code *code) {
         return check_book(code);
     case ASK:
         return ask_dozen(measure, code);
+    case CHECK_ONE:
+    case LINKS_CHECK:
+    case LINKED:
+        return run_linked(measure, code, out);
     default:
         return list_all(measure, code);
     }

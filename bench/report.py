@@ -5,19 +5,21 @@ import os
 import platform
 import subprocess
 import sys
-import textwrap
 from functools import lru_cache, partial
 from pathlib import Path
 
+import farms
 import join
 from figures import (ALL_SHAPES, CODES, EMULATOR, MADE, MOST_LEVELS, MOST_NODES, PRINTED_NODES,
                      QUESTIONS, SHAPES, counted, emulated, instructions, printing_nothing, run,
                      sizes, unit_of, units)
+from tables import item, progress, say, table
 
 CASES = 100_000
-WIDTH = 100
 ORDERS = ("descendant", "ancestor")
 LISTINGS = ("inside-descendant", "inside-ancestor", "directly-descendant", "directly-ancestor")
+LINKED = tuple(f"linked-{listing}" for listing in LISTINGS)
+LINKED_CALLS = tuple(f"list_linked, {order} order" for order in ORDERS)
 PAGE_ROOMS = (256, MOST_NODES)
 GROWTH = (64, 1024, MOST_NODES)
 # How many lists the books have that are asked questions, and how these are asked.
@@ -35,13 +37,17 @@ SMALL_DOCUMENTS = "documents"
 LARGE_DOCUMENTS = tuple(shape for shape in ALL_SHAPES if shape != SMALL_DOCUMENTS)
 
 # The bars: the most that the archive may take beside a twin, for a node or mark and of the stack.
-# No call may take more stack than any twin of it, with two exceptions. One is the sheet, whose walk
-# is a recursion. The other is questions, for which all codes keep two lists in words.
+# No call may take more stack than any twin of it, with three exceptions. One is the sheet, whose
+# walk is a recursion. Another is questions, for which all codes keep two lists in words. The third
+# is a listing with links.
 MOST_RATIOS = {"clang-three": 0.85, "gcc-three": 0.85, "clang-fused": 0.95, "gcc-fused": 1.1}
 MOST_SHARP, SHARP_LISTING, SHARP_SHAPES = 0.4, "directly-ancestor", ("nests", "between")
 MOST_CHECK, MOST_SMALL_CHECK = 42.0, 47.0
 MOST_LINKS, MOST_NUMBER, MOST_BOOK, MOST_STACK = 68.0, 29.1, 37.5, 1.0
 MOST_ASKED, MOST_BEYOND, MOST_ASK_STACK = 0.85, 18.8, 1.01
+MOST_LINKS_CHECK, MOST_LINKED_STACK = 60.0, 1.03
+# Where only the last field holds samples, a listing with links passes over nearly all zones.
+MOST_JUMPED, JUMPED_FARM = 0.75, ("fields", 8, "last")
 
 SHAPE_WORDS = {
     "flat": "zones side by side, a sample in each",
@@ -56,27 +62,6 @@ SHAPE_WORDS = {
     "side": "33 nests of 62 zones; in each zone a small zone with a sample comes before the next "
             "zone, and 62 samples end the innermost",
 }
-
-
-def progress(what):
-    print(what, file=sys.stderr, flush=True)
-
-
-def say(text):
-    """Prints a paragraph."""
-    print("\n" + textwrap.fill(text, WIDTH, break_on_hyphens=False))
-
-
-def item(text):
-    """Prints an item of a list."""
-    print(textwrap.fill(text, WIDTH, initial_indent="- ", subsequent_indent="  ",
-                        break_on_hyphens=False))
-
-
-def table(head, rows):
-    print("\n| " + " | ".join(head) + " |\n|" + "---|" * len(head))
-    for row in rows:
-        print("| " + " | ".join(map(str, row)) + " |")
 
 
 def said_by(*command):
@@ -197,7 +182,9 @@ def print_codes():
     say("Every call checks what it is given. The twins differ in how they check two lists, list "
         "pairs and link nodes; they find ranges, write sheets, number marks and check books in one "
         "way. A sheet is written without recursion by the twins. Questions are answered by a check "
-        "of the book, and by a copy and a listing of two lists for each.")
+        "of the book, and by a copy and a listing of two lists for each. The twins check links "
+        "that are lent in one pass, three and fused by a stack of open nodes and best by the way "
+        "up. They jump as the archive does.")
     print()
     item("archive: the proved library")
     item("three: ordinary C that checks two lists in three passes, over each list and then over "
@@ -284,6 +271,33 @@ def bar_on_questions(title, figure_of, places, most):
             verdict(taken <= most))
 
 
+def beyond_list(code, shape):
+    """Returns what a check of links takes for a node beyond the check of the list alone."""
+    beyond = instructions(code, "links-check", shape) - instructions(code, "check-one", shape)
+    return beyond / units("links-check", shape)
+
+
+def bar_on_links():
+    taken, shape = max((beyond_list("archive", shape), shape) for shape in ALL_SHAPES)
+    return ("checks of links, beyond the list's, instructions a node", f"{taken:.1f}", shape,
+            MOST_LINKS_CHECK, verdict(taken <= MOST_LINKS_CHECK))
+
+
+def jumped(order):
+    """Returns what a listing with links takes without the check of the links, to the plain one."""
+    shape = farms.shape_of(JUMPED_FARM)
+    plain, linked = farms.both(JUMPED_FARM, f"inside-{order}-all")
+    checked = instructions("archive", "links-check", shape)
+    return (linked - checked + instructions("archive", "check-one", shape)) / plain
+
+
+def bar_on_jumps():
+    taken, order = max((jumped(order), order) for order in farms.ORDERS)
+    return ("listings with links without their check, to plain ones, on fields with 8 samples in "
+            "the last", f"{taken:.2f}", f"{order} order", MOST_JUMPED,
+            verdict(taken <= MOST_JUMPED))
+
+
 def print_simple_bars():
     rows = [bar_on_worst(f"checks of two lists, except on {SMALL_DOCUMENTS}, instructions a node",
                          "check", MOST_CHECK, LARGE_DOCUMENTS),
@@ -293,14 +307,18 @@ def print_simple_bars():
             bar_on_worst("numbering, instructions a mark", "number", MOST_NUMBER,
                          LARGE_DOCUMENTS),
             bar_on_worst("checking a book, instructions a node", "book", MOST_BOOK),
+            bar_on_links(),
+            bar_on_jumps(),
             bar_on_questions(f"{QUESTIONS} questions in one call, to single calls", to_single, 3,
                              MOST_ASKED),
             bar_on_questions("a question beyond its listing, instructions a node", beyond_page, 1,
                              MOST_BEYOND),
-            bar_on_stack("stack, to the least of the twins', except of sheets and questions",
-                         stacks().keys() - {"sheet", "ask"}, MOST_STACK),
+            bar_on_stack("stack, to the least of the twins', except of sheets, questions and links "
+                         "lent", stacks().keys() - {"sheet", "ask", *LINKED_CALLS}, MOST_STACK),
             bar_on_stack("stack of questions, to the least of the twins'", ("ask",),
-                         MOST_ASK_STACK)]
+                         MOST_ASK_STACK),
+            bar_on_stack("stack of a listing with links, to the least of the twins'", LINKED_CALLS,
+                         MOST_LINKED_STACK)]
     table(("bar", "archive", "worst at", "at most", ""), rows)
     return [row[-1] for row in rows]
 
@@ -383,8 +401,9 @@ def print_ratios():
 # The figures.
 
 def title_of(listing):
-    relation, order = listing.split("-")
-    return f"{'Inside' if relation == 'inside' else 'Directly inside'}, {order} order"
+    relation, order = listing.removeprefix("linked-").split("-")
+    lent = " with links" if listing in LINKED else ""
+    return f"{'Inside' if relation == 'inside' else 'Directly inside'}, {order} order{lent}"
 
 
 def print_whole_calls():
@@ -458,6 +477,40 @@ def print_others():
     measured("Links", "links", "a node")
     measured("Numbering", "number", "a mark", LARGE_DOCUMENTS)
     measured("Checking a book", "book", "a node")
+
+
+def to_plain(listing, shape):
+    """Returns the archive's listing with links to the plain one, in instructions."""
+    return (instructions("archive", f"linked-{listing}-all", shape)
+            / instructions("archive", f"{listing}-all", shape))
+
+
+def print_linked():
+    print("\n## Listings with links")
+    say("The caller lends the links of the zones. The call checks both lists and the links, and "
+        "passes over each zone without samples together with everything inside it. The links were "
+        "made before, and that isn't measured.")
+    measured("Checks of links", "links-check", "a node")
+    progress("checks of links beyond the list's")
+    print("\n### Checks of links beyond the list's")
+    say("The instructions of a check of links for a zone, beyond the check of the zones alone.")
+    table(("shape", *CODES),
+          [(shape, *(f"{beyond_list(code, shape):.1f}" for code in CODES)) for shape in ALL_SHAPES])
+    for listing in LINKED:
+        measured(title_of(listing), f"{listing}-all", "a pair")
+    print("\n### With links to plain")
+    say("The archive's whole call with links to its plain one, in instructions. On most of these "
+        "shapes every zone holds a sample, so there is nothing to pass over. In ancestor order the "
+        "plain call also guesses where a zone's samples end. The call with links doesn't, which "
+        "counts where zones are deep.")
+    table(("shape", *LISTINGS), [(shape, *(f"{to_plain(listing, shape):.3f}"
+                                           for listing in LISTINGS)) for shape in ALL_SHAPES])
+    print("\n### The archive's whole call with links to the twins'")
+    say("The least and the greatest ratio of instructions over all listings, four on each shape.")
+    rows = [bounds_row(code, partial(ratio, code), LINKED) for code in TWINS]
+    table(("archive to", f"first {len(SHAPES)} shapes, least", "most",
+           f"other {len(OTHER_SHAPES)} shapes, least", "most"), rows)
+    farms.print_farms()
 
 
 def asked_row(lists, shape):
@@ -635,6 +688,7 @@ def main():
     print_pages()
     print_others()
     print_questions()
+    print_linked()
     print_printing()
     print_growth()
     print_stack()

@@ -1,4 +1,5 @@
 #include "shapes.h"
+#include <stdio.h>
 #include <string.h>
 
 enum {
@@ -6,6 +7,12 @@ enum {
     DEEPEST_RANDOM = 20,
     FIELD_ZONES = 64,
     NODE_BYTES = BELFRY_NODE_WORDS * BELFRY_NUMBER_BYTES
+};
+
+/* Which zones of a farm have a sample of their own: a number of them, from a first one on, as far
+   apart as said. */
+struct owners {
+    size_t count, first, apart;
 };
 
 /* A shape that is being built: how many nodes each list may have, the document and the next
@@ -16,6 +23,7 @@ struct building {
     uint32_t document, position;
     size_t depth;
     uint32_t *ends[BELFRY_MOST_LEVELS];
+    struct owners owners;
 };
 
 static void put_mark(struct building *b, uint32_t mark) {
@@ -257,6 +265,114 @@ static void build_deepest(struct building *b) {
     }
 }
 
+/* Opens a zone of a farm. If it is to have a sample of its own, that comes first in it. */
+static void open_farm_zone(struct building *b) {
+    struct owners o = b->owners;
+    size_t index = b->shape->zones;
+    open_zone(b);
+    if (index >= o.first && (index - o.first) % o.apart == 0 &&
+        (index - o.first) / o.apart < o.count)
+        put_samples(b, 1);
+}
+
+static void put_farm_zone(struct building *b) {
+    open_farm_zone(b);
+    close_element(b);
+}
+
+/* Builds a zone that holds zones side by side, `zones` in all. */
+static void put_farm_field(struct building *b, size_t zones) {
+    open_farm_zone(b);
+    for (size_t i = 1; i < zones; i++)
+        put_farm_zone(b);
+    close_element(b);
+}
+
+static void put_farm_document(struct building *b, size_t zones) {
+    b->document++;
+    b->position = 1;
+    put_farm_field(b, zones);
+}
+
+static void put_farm_nest(struct building *b, size_t zones) {
+    for (size_t i = 0; i < zones; i++)
+        open_farm_zone(b);
+    for (size_t i = 0; i < zones; i++)
+        close_element(b);
+}
+
+/* Builds a nest in each zone of which a small zone comes first. */
+static void put_farm_side(struct building *b, size_t zones) {
+    for (size_t i = 0; i < zones / 2; i++) {
+        open_farm_zone(b);
+        put_farm_zone(b);
+    }
+    for (size_t i = 0; i < zones / 2; i++)
+        close_element(b);
+}
+
+static void put_farm_flat(struct building *b, size_t zones) {
+    for (size_t i = 0; i < zones; i++)
+        put_farm_zone(b);
+}
+
+/* Builds a nest in each zone of which a field comes first. The innermost one ends with as many
+   zones side by side. */
+static void put_farm_barren(struct building *b, size_t zones) {
+    size_t deep = zones / (1 + FIELD_ZONES);
+    for (size_t i = 0; i < deep; i++) {
+        open_farm_zone(b);
+        put_farm_field(b, FIELD_ZONES);
+    }
+    put_farm_flat(b, FIELD_ZONES);
+    for (size_t i = 0; i < deep; i++)
+        close_element(b);
+}
+
+/* How the zones of a farm may lie, and how many of them make a group. */
+static const struct {
+    const char *name;
+    size_t zones;
+    void (*put_group)(struct building *b, size_t zones);
+} farms[] = {
+    {"flat", 1, put_farm_flat},
+    {"fields", FIELD_ZONES, put_farm_field},
+    {"documents", FIELD_ZONES, put_farm_document},
+    {"nests", BELFRY_MOST_LEVELS - 1, put_farm_nest},
+    {"side", 2 * (BELFRY_MOST_LEVELS - 2), put_farm_side},
+    {"barren", (BELFRY_MOST_LEVELS - 3) * (1 + FIELD_ZONES) + FIELD_ZONES, put_farm_barren},
+};
+
+/* Returns which of a farm's zones have a sample of their own, by the place's name. There are none
+   where there is no such place. Those that are spread are the last of equal stretches. Of a farm
+   with fewer zones than that, none has a sample, or all do. */
+static struct owners owners_at(const char *place, size_t count, size_t zones) {
+    size_t stretch = zones / count;
+    if (strcmp(place, "first") == 0)
+        return (struct owners){count, 0, 1};
+    if (strcmp(place, "last") == 0)
+        return (struct owners){count, zones - count, 1};
+    return (struct owners){strcmp(place, "spread") == 0 ? count : 0, stretch - 1, stretch};
+}
+
+/* Builds a farm of whole groups by its name. It answers 0 where there is no such farm. */
+static int build_farm(struct building *b, const char *name) {
+    char zones[16], place[16];
+    size_t count;
+    if (sscanf(name, "farm-%15[^-]-%zu-%15s", zones, &count, place) != 3)
+        return 0;
+    for (size_t i = 0; i < sizeof farms / sizeof farms[0]; i++) {
+        size_t groups = b->most / farms[i].zones, all = groups * farms[i].zones;
+        if (strcmp(farms[i].name, zones) != 0 || count == 0)
+            continue;
+        b->owners = owners_at(place, count, all);
+        for (; groups > 0; groups--)
+            farms[i].put_group(b, farms[i].zones);
+        return b->owners.count > 0;
+    }
+    return 0;
+}
+
 const char *const shape_names[SHAPES] = {
     "flat",        "nests",     "between", "random", "eight-zones",
     "few-samples", "documents", "twice",   "fields", "side",
@@ -281,7 +397,7 @@ static int build(struct building *b, const char *name) {
     else if (strcmp(name, "deepest") == 0)
         build_deepest(b);
     else
-        return 0;
+        return build_farm(b, name);
     return 1;
 }
 

@@ -22,7 +22,11 @@ extern const char *const shape_names[SHAPES];
    no such shape. The lists need no root, so the outermost zones have level 1. Three names are
    beside the ten. For ranges and sheets, holds-all is one zone with all samples in it, and
    holds-none is one zone with all samples after it. For the stack, deepest is a nest of as many
-   zones as there are levels, with a sample before and a sample after each inner zone. */
+   zones as there are levels, with a sample before and a sample after each inner zone.
+   Farms are beside them too: farm-ZONES-COUNT-PLACE has that many zones with a sample of their own,
+   the first of the list, the last, or spread over it. ZONES says how the zones lie: flat, in fields
+   of 64, in documents of 64 or in nests. It is side for nests with a small zone first in each zone,
+   and barren for one nest with a field first in each zone and small zones in the innermost. */
 int build_shape(struct shape *shape, const char *name, size_t nodes);
 
 /* Builds the same within a root, so that the marks are those of one document. There are at most

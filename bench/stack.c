@@ -12,7 +12,7 @@
 enum {
     AREA_BYTES = 1 << 18,
     OUT_WORDS = 1 << 21,
-    CALLS = 16,
+    CALLS = 19,
     PAINTS = 2,
     WORD_BYTES = 8,
     BOOK_LISTS = 2,
@@ -21,13 +21,15 @@ enum {
     QUESTION_KINDS = 1 + 2 * LISTINGS
 };
 
-/* What the calls are given: a shape's lists, readings and hundredths, a document's marks and table,
-   the entry of the zones for a book to be written, and a book of both lists with its questions. */
+/* What the calls are given: a shape's lists, links, readings and hundredths, a document's marks and
+   table, the entry of the zones for a book to be written, and a book of both lists with its
+   questions. */
 static struct shape lists, document;
 static size_t zone_words, sample_words, table_words, book_bytes;
 static belfry_question questions[QUESTION_KINDS];
 static uint32_t table[BELFRY_ROW_WORDS * BELFRY_MOST_NODES], entry[2],
     book[BELFRY_BOOK_BYTES(BOOK_LISTS, BOOK_NODES) / BELFRY_NUMBER_BYTES],
+    links[BELFRY_LINK_WORDS * BELFRY_MOST_NODES],
     readings[BELFRY_READING_WORDS * BELFRY_MOST_NODES], hundredths[BELFRY_MOST_NODES],
     out[OUT_WORDS];
 
@@ -64,6 +66,22 @@ static void call_list_ancestor(const struct code *code) {
     call_list(code, 1, 1);
 }
 
+static void call_linked(const struct code *code, uint32_t relation, uint32_t order) {
+    belfry_ticket ticket = BELFRY_TICKET(relation, order);
+    code->list_linked(lists.zone, zone_words, lists.sample, sample_words, links,
+                      BELFRY_LINK_WORDS * lists.zones, ticket, out, OUT_WORDS);
+}
+
+static void call_linked_descendant(const struct code *code) {
+    call_linked(code, 0, 0);
+    call_linked(code, 1, 0);
+}
+
+static void call_linked_ancestor(const struct code *code) {
+    call_linked(code, 0, 1);
+    call_linked(code, 1, 1);
+}
+
 static void call_zone_range(const struct code *code) {
     code->zone_range(lists.zone, zone_words, lists.sample, sample_words, readings,
                      BELFRY_READING_WORDS * lists.samples, 0);
@@ -92,6 +110,10 @@ static void call_pick(const struct code *code) {
 
 static void call_links(const struct code *code) {
     code->links(lists.zone, zone_words, out, OUT_WORDS);
+}
+
+static void call_links_check(const struct code *code) {
+    code->links_check(lists.zone, zone_words, links, BELFRY_LINK_WORDS * lists.zones);
 }
 
 static void call_book_check(const struct code *code) {
@@ -130,12 +152,15 @@ static const struct {
     {"faulty", call_faulty, 0},
     {"list, descendant order", call_list_descendant, 1},
     {"list, ancestor order", call_list_ancestor, 1},
+    {"list_linked, descendant order", call_linked_descendant, 1},
+    {"list_linked, ancestor order", call_linked_ancestor, 1},
     {"zone_range", call_zone_range, 1},
     {"sheet", call_sheet, 1},
     {"number", call_number, 1},
     {"unnumber", call_unnumber, 0},
     {"pick", call_pick, 0},
     {"links", call_links, 1},
+    {"links_check", call_links_check, 1},
     {"book_check", call_book_check, 1},
     {"book_body", call_book_body, 1},
     {"book_write", call_book_write, 0},
@@ -203,6 +228,7 @@ static void prepare(const char *shape_name) {
     build_hundredths(hundredths, lists.samples);
     zone_words = BELFRY_NODE_WORDS * lists.zones;
     sample_words = BELFRY_NODE_WORDS * lists.samples;
+    codes[0].links(lists.zone, zone_words, links, BELFRY_LINK_WORDS * BELFRY_MOST_NODES);
     size_t room = BELFRY_ROW_WORDS * BELFRY_MOST_NODES;
     belfry_result rows = codes[0].number(1, document.mark, document.marks, table, room);
     table_words = BELFRY_ROW_WORDS * rows.count;

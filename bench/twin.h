@@ -185,6 +185,16 @@ static int sweep_ancestors(struct lists l, const belfry_ticket *ticket, struct w
 static void link_nodes(const struct node *nodes, size_t count,
                        uint32_t (*links)[BELFRY_LINK_WORDS]);
 
+/* Tells whether links are those of a list that was taken. */
+static int are_links(const struct node *nodes, size_t count, const belfry_link *links);
+
+/* Writes what the sweeps write, and tells whether all found room. A zone that holds no descendant
+   is passed together with everything inside it, by links that were found right. */
+static int jump_descendants(struct lists l, const belfry_link *links, const belfry_ticket *ticket,
+                            struct writing *w);
+static int jump_ancestors(struct lists l, const belfry_link *links, const belfry_ticket *ticket,
+                          struct writing *w);
+
 /* What is the same in all forms: the calls. */
 
 belfry_verdict TWIN(check)(const uint32_t *list, size_t words) {
@@ -219,6 +229,56 @@ belfry_page TWIN(list)(const uint32_t *ancestors, size_t ancestor_words,
     if (w.out > pairs)
         ticket = ticket_after(ticket, w.out - 1);
     return (belfry_page){verdict_of(BELFRY_TAKEN), done, w.out - pairs, ticket};
+}
+
+/* Tells whether words are the links of a list that was taken. */
+static int are_link_words(const uint32_t *list, size_t words, const uint32_t *links,
+                          size_t link_words) {
+    size_t count = words / BELFRY_NODE_WORDS;
+    return link_words == BELFRY_LINK_WORDS * count &&
+           are_links((const struct node *)list, count, (const belfry_link *)links);
+}
+
+belfry_verdict TWIN(links_check)(const uint32_t *list, size_t words, const uint32_t *links,
+                                 size_t link_words) {
+    belfry_verdict v = check_one(list, words);
+    if (v.answer == BELFRY_TAKEN && !are_link_words(list, words, links, link_words))
+        return verdict_of(BELFRY_LINKS);
+    return v;
+}
+
+/* Returns the node after a zone and everything inside it, by links that were found right. That is
+   the next sibling of the zone, or of the nearest around it that has one. It is NULL after the last
+   of a document. */
+static inline const struct node *named_after(const struct node *zones, const belfry_link *links,
+                                             const struct node *zone) {
+    uint32_t i = zone - zones;
+    while (links[i].next_sibling == BELFRY_NONE) {
+        i = links[i].parent;
+        if (i == BELFRY_NONE)
+            return NULL;
+    }
+    return zones + links[i].next_sibling;
+}
+
+belfry_page TWIN(list_linked)(const uint32_t *ancestors, size_t ancestor_words,
+                              const uint32_t *descendants, size_t descendant_words,
+                              const uint32_t *links, size_t link_words, belfry_ticket ticket,
+                              uint32_t *out, size_t out_words) {
+    belfry_verdict v = check_both(ancestors, ancestor_words, descendants, descendant_words);
+    if (v.answer == BELFRY_TAKEN && !are_link_words(ancestors, ancestor_words, links, link_words))
+        v = verdict_of(BELFRY_LINKS);
+    if (v.answer != BELFRY_TAKEN)
+        return (belfry_page){v, 0, 0, ticket};
+    struct lists lists = lists_of(ancestors, ancestor_words, descendants, descendant_words);
+    const belfry_link *link = (const belfry_link *)links;
+    struct pair *pairs = (struct pair *)out;
+    struct writing w = {pairs, pairs + out_words / BELFRY_PAIR_WORDS};
+    int done = ticket.order ? jump_ancestors(lists, link, &ticket, &w)
+                            : jump_descendants(lists, link, &ticket, &w);
+    if (w.out > pairs)
+        ticket = ticket_after(ticket, w.out - 1);
+    return (belfry_page){v, done, w.out - pairs, ticket};
 }
 
 /* The lab's reading of a sample. */
