@@ -26,7 +26,7 @@ use Rattle.contents.specs.declared.entry.Entry.{Entry}
 use Rattle.contents.specs.declared.step.ContentsPlace.{ContentsPlace}
 use Rattle.contents.specs.declared.step.Step.{Step}
 use Rattle.contents.specs.declared.step.Step.the-variants.{Reached, Refused}
-use Rattle.contents.specs.Contents.{MOST-LISTS, entry, entries, entryNumbers, listsIn, entriesIn, entryCount, entryAt, contentsOf, contentsEnd, ascendb, laidb, brokenb, contentsFault}
+use Rattle.contents.specs.Contents.{MOST-LISTS, entry, entries, entryNumbers, listsIn, entriesIn, entryCount, entryAt, contentsOf, contentsEnd, ascendb, laidb, brokenb, contentsFaultUpTo, contentsFault}
 use Rattle.contents.specs.Passing.{startOf, passesb, afterEntry, stepOf, stepAnswer}
 use Rattle.contents.specs.Private.Walk.{keepsb, Kept}
 
@@ -166,10 +166,10 @@ one-broken false true z = refl
 one-broken false false z = refl
 
 -- The scope's rules are those that the walk keeps to.
-keeps-rules : (lists : ℕ) (es : List Entry) (size : ℕ) → lists ≤ MOST-LISTS → brokenb lists es size ≡ not (keepsb (startOf lists) es size)
+keeps-rules : (most lists : ℕ) (es : List Entry) (size : ℕ) → lists ≤ most → brokenb most lists es size ≡ not (keepsb (startOf lists) es size)
 unfolding brokenb startOf
-keeps-rules lists es size h =
-    rw (le-ltb MOST-LISTS lists h, rules-from (startOf lists) es size, ascend-all 0 es)
+keeps-rules most lists es size h =
+    rw (le-ltb most lists h, rules-from (startOf lists) es size, ascend-all 0 es)
     (one-broken (any (λ e. ltb MOST-NODES (e .count)) es) (ascendb es) (laidb (contentsEnd lists) es size))
 
 -- What the walk has still to find out at a place decides the whole: the lists left keep the rules
@@ -205,10 +205,10 @@ unfolding keepsb
 kept-end start all q l = λ size. ap (λ b. cond b TAKEN CONTENTS) (sym (l size))
 
 -- The last step's answer is CONTENTS exactly where a rule is broken.
-pub walk-answers : (lists : ℕ) (es : List Entry) (size : ℕ) → lists ≤ MOST-LISTS → (r : Step) → Kept (startOf lists) es r
-    → stepAnswer r size ≡ cond (brokenb lists es size) CONTENTS TAKEN
-walk-answers lists es size few r k =
-    sym (k size) ∙ sym (turned (keepsb (startOf lists) es size)) ∙ ap (λ b. cond b CONTENTS TAKEN) (sym (keeps-rules lists es size few))
+pub walk-answers : (most lists : ℕ) (es : List Entry) (size : ℕ) → lists ≤ most → (r : Step) → Kept (startOf lists) es r
+    → stepAnswer r size ≡ cond (brokenb most lists es size) CONTENTS TAKEN
+walk-answers most lists es size few r k =
+    sym (k size) ∙ sym (turned (keepsb (startOf lists) es size)) ∙ ap (λ b. cond b CONTENTS TAKEN) (sym (keeps-rules most lists es size few))
   where
     turned : (b : Bool) → cond (not b) CONTENTS TAKEN ≡ cond b TAKEN CONTENTS
     turned true = refl
@@ -244,29 +244,42 @@ laid-within at (e ∷ es) size t =
     (omega (arith, laid-before (at + NODE-BYTES * e .count) es size (p .1)), laid-within (at + NODE-BYTES * e .count) es size (p .1))
 
 -- A book too short for its contents breaks a rule, and so does one with too many lists.
-pub short-broken : (lists : ℕ) (es : List Entry) (size : ℕ) → size < contentsEnd lists → brokenb lists es size ≡ true
+pub short-broken : (most lists : ℕ) (es : List Entry) (size : ℕ) → size < contentsEnd lists → brokenb most lists es size ≡ true
 unfolding brokenb
-short-broken lists es size h =
-    or-right (ltb MOST-LISTS lists)
+short-broken most lists es size h =
+    or-right (ltb most lists)
     (or-right (any (λ e. ltb MOST-NODES (e .count)) es)
     (or-right (not (ascendb es)) (rw (laid-beyond (contentsEnd lists) es size h))))
 
-pub many-broken : (lists : ℕ) (es : List Entry) (size : ℕ) → MOST-LISTS < lists → brokenb lists es size ≡ true
+pub many-broken : (most lists : ℕ) (es : List Entry) (size : ℕ) → most < lists → brokenb most lists es size ≡ true
 unfolding brokenb
-many-broken lists es size h = or-left _ (lt-ltb MOST-LISTS lists h)
+many-broken most lists es size h = or-left _ (lt-ltb most lists h)
+
+-- Under two limits that the lists are within, the same is broken.
+pub broken-alike : (fewer more lists : ℕ) (es : List Entry) (size : ℕ) → lists ≤ fewer → lists ≤ more
+    → brokenb fewer lists es size ≡ brokenb more lists es size
+broken-alike fewer more lists es size h k = keeps-rules fewer lists es size h ∙ sym (keeps-rules more lists es size k)
 
 -- What the check answers for a book.
 module _ (book : List ℕ) where
-  pub fault-broken : brokenb (listsIn book) (contentsOf book) (length book) ≡ true → contentsFault book ≡ CONTENTS
-  unfolding contentsFault
-  fault-broken h = rw h
+  pub fault-broken : (most : ℕ) → brokenb most (listsIn book) (contentsOf book) (length book) ≡ true → contentsFaultUpTo most book ≡ CONTENTS
+  unfolding contentsFaultUpTo
+  fault-broken most h = rw h
+
+  -- It is CONTENTS under a limit that the book exceeds, and the same under two that it is within.
+  pub fault-many : (most : ℕ) → most < listsIn book → contentsFaultUpTo most book ≡ CONTENTS
+  fault-many most h = fault-broken most (many-broken most (listsIn book) (contentsOf book) (length book) h)
+
+  pub fault-alike : (fewer more : ℕ) → listsIn book ≤ fewer → listsIn book ≤ more → contentsFaultUpTo fewer book ≡ contentsFaultUpTo more book
+  unfolding contentsFaultUpTo
+  fault-alike fewer more h k = rw (broken-alike fewer more (listsIn book) (contentsOf book) (length book) h k)
 
   -- What follows for a book whose contents keep the rules.
   module _ (good : contentsFault book ≡ TAKEN) where
-    rules : brokenb (listsIn book) (contentsOf book) (length book) ≡ false
+    rules : brokenb MOST-LISTS (listsIn book) (contentsOf book) (length book) ≡ false
     rules =
-        elim (either (brokenb (listsIn book) (contentsOf book) (length book))) [
-          | inl h ↦ (let e = sym good ∙ fault-broken h in absurd (omega arith))
+        elim (either (brokenb MOST-LISTS (listsIn book) (contentsOf book) (length book))) [
+          | inl h ↦ (let e = sym good ∙ fault-broken MOST-LISTS h in absurd (omega arith))
           | inr h ↦ h
         ]
 

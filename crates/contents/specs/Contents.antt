@@ -12,7 +12,11 @@ use Rattle.contents.specs.declared.entry.Entry.{Entry}
 
 -- The most lists that a book may have.
 abbrev pub MOST-LISTS : ℕ
-MOST-LISTS = 16
+MOST-LISTS = 64
+
+-- The most lists in a book for programs that aren't renewed yet. No contract cites it.
+abbrev pub EARLIER-LISTS : ℕ
+EARLIER-LISTS = 16
 
 -- An entry of the contents: a list's tag, where its body starts in the book, and how many nodes it
 -- has.
@@ -70,16 +74,22 @@ unfoldable pub laidb : ℕ → List Entry → ℕ → Bool
 laidb at [] size = eqb at size
 laidb at (e ∷ es) size = eqb (e .offset) at && laidb (at + NODE-BYTES * e .count) es size
 
--- A book of `size` bytes, with these entries for its `lists` lists, breaks a rule. It has more
--- lists than 16, a count above 4,096, or tags that don't ascend. Or its bodies don't lie right
--- after the contents and one another, up to the end. So a book that is cut short breaks a rule too.
-unfoldable pub brokenb : ℕ → List Entry → ℕ → Bool
-brokenb lists es size =
-    ltb MOST-LISTS lists
+-- Whether a book breaks a rule where a book may have up to `most` lists. It has `size` bytes, and
+-- these entries for its `lists` lists. It breaks one if it has more lists than `most`, a count
+-- above 4,096, or tags that don't ascend. It also does if its bodies don't lie right after the
+-- contents and one another, up to the end, so also if it is cut short.
+unfoldable pub brokenb : ℕ → ℕ → List Entry → ℕ → Bool
+brokenb most lists es size =
+    ltb most lists
     || (any (λ e. ltb MOST-NODES (e .count)) es
     || (not (ascendb es)
     || not (laidb (contentsEnd lists) es size)))
 
--- The answer for a book's contents: CONTENTS where they break a rule, otherwise TAKEN.
-unfoldable pub contentsFault : List ℕ → ℕ
-contentsFault book = cond (brokenb (listsIn book) (contentsOf book) (length book)) CONTENTS TAKEN
+-- The answer for a book's contents where a book may have up to `most` lists: CONTENTS if they break
+-- a rule, otherwise TAKEN.
+unfoldable pub contentsFaultUpTo : ℕ → List ℕ → ℕ
+contentsFaultUpTo most book = cond (brokenb most (listsIn book) (contentsOf book) (length book)) CONTENTS TAKEN
+
+-- The library's own answer.
+abbrev pub contentsFault : List ℕ → ℕ
+contentsFault book = contentsFaultUpTo MOST-LISTS book

@@ -5,7 +5,7 @@ ghost use mathlib.Core.Path.{_≡_};
 ghost use Rattle.contents.specs.Contents.{entryCount, entryAt, contentsEnd};
 
 // The most lists that a book may have.
-pub const MOST_LISTS: u32 = 16;
+pub const MOST_LISTS: u32 = 64;
 
 // How many numbers an entry takes in a book.
 pub const ENTRY_NUMBERS: usize = 3;

@@ -13,7 +13,7 @@ use lib.ListN.{length, take}
 use Rattle.answers.specs.Answer.{CONTENTS}
 use Rattle.numbers.specs.Little.{numberAt}
 use Rattle.contents.specs.declared.step.Step.{Step}
-use Rattle.contents.specs.Contents.{MOST-LISTS, listsIn, entriesIn, contentsOf, contentsEnd, contentsFault}
+use Rattle.contents.specs.Contents.{MOST-LISTS, listsIn, entriesIn, contentsOf, contentsEnd, contentsFaultUpTo, contentsFault}
 use Rattle.contents.specs.Passing.{startOf, stepAnswer}
 use Rattle.contents.specs.Private.Walk.{Kept}
 use Rattle.contents.proofs.ContentLaws.{walk-answers, short-broken, many-broken, fault-broken}
@@ -23,17 +23,17 @@ use Rattle.contents.proofs.check.contents_fault.Tie as tie
 module _ (book : List ℕ) (lists : ℕ) (n : lists ≡ numberAt book 0) where
   too-many : MOST-LISTS < lists → _≡_ {A = ℕ} CONTENTS (contentsFault book)
   unfolding listsIn
-  too-many h = sym (fault-broken book (many-broken (numberAt book 0) (contentsOf book) (length book) (omega arith)))
+  too-many h = sym (fault-broken book MOST-LISTS (many-broken MOST-LISTS (numberAt book 0) (contentsOf book) (length book) (omega arith)))
 
   too-short : (end : ℕ) → end ≡ contentsEnd lists → length book < end → _≡_ {A = ℕ} CONTENTS (contentsFault book)
   unfolding listsIn
   too-short end e h =
-      sym (fault-broken book (short-broken (numberAt book 0) (contentsOf book) (length book) (omega (arith, e, ap contentsEnd n))))
+      sym (fault-broken book MOST-LISTS (short-broken MOST-LISTS (numberAt book 0) (contentsOf book) (length book) (omega (arith, e, ap contentsEnd n))))
 
   walked : lists ≤ MOST-LISTS → (r : Step) → Kept (startOf lists) (take lists (entriesIn book)) r
       → (answer : ℕ) → answer ≡ stepAnswer r (length book) → answer ≡ contentsFault book
-  unfolding contentsFault listsIn contentsOf
-  walked few r k answer e = e ∙ rw (← n) (walk-answers lists (take lists (entriesIn book)) (length book) few r k)
+  unfolding contentsFaultUpTo listsIn contentsOf
+  walked few r k answer e = e ∙ rw (← n) (walk-answers MOST-LISTS lists (take lists (entriesIn book)) (length book) few r k)
 
 number-at-requires : tie.Need-number-at-requires
 number-at-requires c κs = search needs
