@@ -13,12 +13,12 @@ use borrow.Author.Tests.{eqb-true, eqb-false}
 use Rattle.nodes.specs.declared.node.Node.{Node}
 use Rattle.answers.specs.Answer.{TAKEN, RAGGED, LONG, LEVEL, DEPTH, CONTENTS}
 use Rattle.laws.proofs.Tests.{either, chosen}
-use Rattle.contents.specs.Contents.{listsIn, contentsOf, brokenb, contentsFault}
+use Rattle.contents.specs.Contents.{MOST-LISTS, listsIn, contentsOf, brokenb, contentsFaultUpTo, contentsFault}
 use Rattle.answers.specs.declared.verdict.Verdict.{Verdict}
 use Rattle.lists.specs.Check.{checkFrom, checkNodes}
 use Rattle.lists.specs.Fault.{levelb, spanb, orderb, crossb, depthb, fault}
 use Rattle.answers.specs.Verdict.{refusedb}
-use Rattle.books.specs.Book.{nodesOf, checkBodies, checkParts, bookVerdict}
+use Rattle.books.specs.Book.{nodesOf, checkBodies, checkParts, bookVerdictUpTo, bookVerdict}
 
 -- TAKEN, or an answer that a node draws.
 abbrev pub ByNode : ℕ → Type 0
@@ -57,9 +57,9 @@ pub fault-draws : (broken : Bool) → ByBook (cond broken CONTENTS TAKEN)
 fault-draws broken = chosen ByBook broken (inr refl) (inl (inl refl))
 
 pub book-draws : (book : List ℕ) → ByBook (bookVerdict book .answer)
-unfolding bookVerdict contentsFault
+unfolding bookVerdictUpTo contentsFaultUpTo
 book-draws book =
-    parts-draw (contentsFault book) (map (nodesOf book) (contentsOf book)) (fault-draws (brokenb (listsIn book) (contentsOf book) (length book)))
+    parts-draw (contentsFault book) (map (nodesOf book) (contentsOf book)) (fault-draws (brokenb MOST-LISTS (listsIn book) (contentsOf book) (length book)))
 
 -- None of these lies between TAKEN and LEVEL, where RAGGED and LONG lie.
 pub from-level : (a : ℕ) → ByBook a → 1 ≤ a → LEVEL ≤ a

@@ -27,7 +27,7 @@ use Rattle.lists.specs.Check.{checkNodes, checkBytes}
 use Rattle.answers.specs.Verdict.{refusedb, inList, taken}
 use Rattle.answers.proofs.VerdictLaws.{refuses, accepts}
 use Rattle.lists.proofs.InBytes.{whole-bytes}
-use Rattle.books.specs.Book.{bodyOf, nodesOf, checkBodies, checkParts, bookVerdict, checkBook}
+use Rattle.books.specs.Book.{bodyOf, nodesOf, checkBodies, checkParts, bookVerdictUpTo, bookVerdict, checkBookUpTo, checkBook}
 
 -- The bodies left decide the whole, and the next body's verdict v is known: where it is taken, the
 -- later bodies decide; where it isn't, it decides itself.
@@ -84,13 +84,13 @@ parts-taken fault bodies t =
 -- The verdict and the number of lists that an opened book carries.
 module _ (book : List ℕ) where
   pub book-taken : bookVerdict book .answer ≡ TAKEN → bookVerdict book ≡ taken
-  unfolding bookVerdict
+  unfolding bookVerdictUpTo
   book-taken t = parts-taken (contentsFault book) (map (nodesOf book) (contentsOf book)) t
 
   pub opened-verdict : checkBook book .verdict ≡ bookVerdict book
-  unfolding checkBook
+  unfolding checkBookUpTo
   opened-verdict = refl
 
   pub opened-lists : bookVerdict book .answer ≡ TAKEN → checkBook book .lists ≡ listsIn book
-  unfolding checkBook
+  unfolding checkBookUpTo
   opened-lists h = rw (accepts (bookVerdict book) h)

@@ -21,31 +21,31 @@ use Rattle.answers.specs.declared.verdict.Verdict.{Verdict}
 use Rattle.answers.specs.Verdict.{refusedb, ANCESTORS, verdict, taken}
 use Rattle.answers.proofs.VerdictLaws.{refuses, accepts}
 use Rattle.laws.proofs.First.{first-there}
-use Rattle.books.specs.Book.{bodyOf, nodesOf, bookVerdict}
-use Rattle.books.specs.Find.{tagAt, found, verdictAt, foundAt, foundTag, hasTag, tagEntry, tagBody}
+use Rattle.books.specs.Book.{bodyOf, nodesOf, bookVerdictUpTo, bookVerdict}
+use Rattle.books.specs.Find.{tagAt, found, verdictAtUpTo, verdictAt, foundAtUpTo, foundAt, foundTagUpTo, foundTag, hasTag, tagEntry, tagBody}
 use Rattle.books.proofs.Answers.{parts-faultless}
 use Rattle.books.proofs.BookLaws.{book-taken}
 
 module _ (book : List ℕ) (position : ℕ) where
   nowhere : (v : Verdict) → verdictAt book position ≡ v → refusedb v ≡ true → foundAt book position ≡ found v 0 0
-  unfolding foundAt
+  unfolding foundAtUpTo
   nowhere v q h = rw (q, h)
 
   there : (v : Verdict) → verdictAt book position ≡ v → refusedb v ≡ false
       → foundAt book position ≡ found v (entryAt book position .offset) (NODE-BYTES * entryAt book position .count)
-  unfolding foundAt
+  unfolding foundAtUpTo
   there v q h = rw (q, h)
 
   refused-at : (bookVerdict book .answer ≡ TAKEN → ⊥) → verdictAt book position ≡ bookVerdict book
-  unfolding verdictAt
+  unfolding verdictAtUpTo
   refused-at h = rw (refuses (bookVerdict book) h)
 
   absent-at : bookVerdict book .answer ≡ TAKEN → listsIn book ≤ position → verdictAt book position ≡ verdict ABSENT ANCESTORS 0
-  unfolding verdictAt
+  unfolding verdictAtUpTo
   absent-at t h = rw (accepts (bookVerdict book) t, le-ltb position (listsIn book) h)
 
   taken-at : bookVerdict book .answer ≡ TAKEN → position < listsIn book → verdictAt book position ≡ taken
-  unfolding verdictAt
+  unfolding verdictAtUpTo
   taken-at t h = rw (accepts (bookVerdict book) t, lt-ltb position (listsIn book) h)
 
   pub book-refused : (bookVerdict book .answer ≡ TAKEN → ⊥) → foundAt book position ≡ found (bookVerdict book) 0 0
@@ -60,7 +60,7 @@ module _ (book : List ℕ) (position : ℕ) where
 
 -- The contents of a book that is taken keep the rules.
 pub book-faultless : (book : List ℕ) → bookVerdict book .answer ≡ TAKEN → contentsFault book ≡ TAKEN
-unfolding bookVerdict
+unfolding bookVerdictUpTo
 book-faultless book t = parts-faultless (contentsFault book) (map (nodesOf book) (contentsOf book)) t
 
 -- Where tags strictly ascend, a list's tag is below all later ones, so each list is the first of
@@ -101,7 +101,7 @@ module _ (book : List ℕ) (t : bookVerdict book .answer ≡ TAKEN) (position : 
       ∙ first-of-tag (contentsOf book) (tags-ascend book good) position (omega arith)
 
   pub tag-found : foundTag book (entryAt book position .tag) ≡ foundAt book position
-  unfolding foundTag
+  unfolding foundTagUpTo
   tag-found = ap (foundAt book) own-tag
 
   pub tag-there : hasTag book (listsIn book) (entryAt book position .tag) ≡ true

@@ -25,7 +25,7 @@ use Rattle.lists.specs.Check.{checkNodes, checkWords}
 use Rattle.lists.proofs.Pairing.{list-passes}
 use Rattle.lists.proofs.Refused.{list-refused-iff}
 use Rattle.lists.proofs.Taken.{whole-words, words-check}
-use Rattle.books.specs.Book.{bodyOf, listAt, nodesOf, checkBodies, checkParts, bookVerdict}
+use Rattle.books.specs.Book.{bodyOf, listAt, nodesOf, checkBodies, checkParts, bookVerdictUpTo, bookVerdict}
 use Rattle.books.specs.Refusal.{HasFaultyList}
 use Rattle.books.proofs.BookLaws.{length-body}
 use Rattle.books.proofs.FindLaws.{book-faultless}
@@ -47,7 +47,7 @@ bodies-iff book list (e ∷ es) =
 module _ (book : List ℕ) (rules : contentsFault book ≡ TAKEN) where
   -- The book is its bodies' verdict, where its contents keep the rules.
   by-bodies : bookVerdict book ≡ checkBodies 0 (map (nodesOf book) (contentsOf book))
-  unfolding bookVerdict checkParts
+  unfolding bookVerdictUpTo checkParts
   by-bodies = rw (eq-eqb (contentsFault book) TAKEN rules)
 
   module _ (position : ℕ) (there : position < listsIn book) where

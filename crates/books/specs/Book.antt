@@ -10,7 +10,7 @@ use Rattle.nodes.specs.Words.{nodes}
 use Rattle.numbers.specs.Little.{NODE-BYTES, numbers}
 use Rattle.numbers.specs.Part.{partOf, placeIn}
 use Rattle.contents.specs.declared.entry.Entry.{Entry}
-use Rattle.contents.specs.Contents.{listsIn, contentsOf, contentsFault, entryAt}
+use Rattle.contents.specs.Contents.{MOST-LISTS, listsIn, contentsOf, contentsFaultUpTo, entryAt}
 use Rattle.answers.specs.declared.verdict.Verdict.{Verdict}
 use Rattle.lists.specs.Check.{checkNodes}
 use Rattle.answers.specs.Verdict.{refusedb, inList, ANCESTORS, verdict, taken}
@@ -42,14 +42,23 @@ checkBodies list (ns ∷ later) = cond (refusedb (checkNodes ns)) (inList list (
 unfoldable pub checkParts : ℕ → List (List Node) → Verdict
 checkParts fault bodies = cond (eqb fault TAKEN) (checkBodies 0 bodies) (verdict fault ANCESTORS 0)
 
--- The verdict on a book: first the contents, then the bodies in their order.
-unfoldable pub bookVerdict : List ℕ → Verdict
-bookVerdict book = checkParts (contentsFault book) (map (nodesOf book) (contentsOf book))
+-- The verdict on a book where a book may have up to `most` lists: first the contents, then the
+-- bodies in their order.
+unfoldable pub bookVerdictUpTo : ℕ → List ℕ → Verdict
+bookVerdictUpTo most book = checkParts (contentsFaultUpTo most book) (map (nodesOf book) (contentsOf book))
+
+-- The library's own verdict.
+abbrev pub bookVerdict : List ℕ → Verdict
+bookVerdict book = bookVerdictUpTo MOST-LISTS book
 
 -- What opening a book answers: the verdict, and the number of its lists, 0 when it is refused.
 abbrev pub opened : Verdict → ℕ → Opened
 opened v lists = record { verdict = v; lists = lists }
 
--- What opening these bytes answers.
-unfoldable pub checkBook : List ℕ → Opened
-checkBook book = opened (bookVerdict book) (cond (refusedb (bookVerdict book)) 0 (listsIn book))
+-- What opening these bytes answers where a book may have up to `most` lists.
+unfoldable pub checkBookUpTo : ℕ → List ℕ → Opened
+checkBookUpTo most book = opened (bookVerdictUpTo most book) (cond (refusedb (bookVerdictUpTo most book)) 0 (listsIn book))
+
+-- What the library answers.
+abbrev pub checkBook : List ℕ → Opened
+checkBook book = checkBookUpTo MOST-LISTS book

@@ -8,11 +8,11 @@ use Rattle.answers.specs.Answer.{ABSENT}
 use Rattle.laws.specs.Choose.{any, firstAt}
 use Rattle.numbers.specs.Little.{NODE-BYTES}
 use Rattle.contents.specs.declared.entry.Entry.{Entry}
-use Rattle.contents.specs.Contents.{entry, listsIn, entriesIn, contentsOf, entryAt}
+use Rattle.contents.specs.Contents.{MOST-LISTS, entry, listsIn, entriesIn, contentsOf, entryAt}
 use Rattle.answers.specs.declared.verdict.Verdict.{Verdict}
 use Rattle.answers.specs.Verdict.{refusedb, ANCESTORS, verdict, taken}
 use Rattle.books.specs.declared.find.Found.{Found}
-use Rattle.books.specs.Book.{bodyOf, bodyPlace, bookVerdict}
+use Rattle.books.specs.Book.{bodyOf, bodyPlace, bookVerdictUpTo}
 
 -- The index of a tag's list among the entries, or the number of entries where no list has the tag.
 unfoldable pub tagAt : ℕ → List Entry → ℕ
@@ -23,23 +23,35 @@ tagAt tag es = firstAt (λ e. eqb (e .tag) tag) es
 abbrev pub found : Verdict → ℕ → ℕ → Found
 found v from bytes = record { verdict = v; from = from; bytes = bytes }
 
--- The verdict on looking for the list at a position: the book's own refusal, then ABSENT where the
--- book has fewer lists than wanted.
-unfoldable pub verdictAt : List ℕ → ℕ → Verdict
-verdictAt book position =
-    cond (refusedb (bookVerdict book)) (bookVerdict book)
-    (cond (ltb position (listsIn book)) taken (verdict ABSENT ANCESTORS 0))
+-- Looking for a list where a book may have up to `most` lists.
+module _ (most : ℕ) (book : List ℕ) where
+  -- The verdict on looking for the list at a position: the book's own refusal, then ABSENT where
+  -- the book has fewer lists than wanted.
+  unfoldable pub verdictAtUpTo : ℕ → Verdict
+  verdictAtUpTo position =
+      cond (refusedb (bookVerdictUpTo most book)) (bookVerdictUpTo most book)
+      (cond (ltb position (listsIn book)) taken (verdict ABSENT ANCESTORS 0))
 
--- That verdict, and where the list's body lies; nowhere on refusal.
-unfoldable pub foundAt : List ℕ → ℕ → Found
-foundAt book position =
-    let v = verdictAt book position in
-    let e = entryAt book position in
-    cond (refusedb v) (found v 0 0) (found v (e .offset) (NODE-BYTES * e .count))
+  -- That verdict, and where the list's body lies; nowhere on refusal.
+  unfoldable pub foundAtUpTo : ℕ → Found
+  foundAtUpTo position =
+      let v = verdictAtUpTo position in
+      let e = entryAt book position in
+      cond (refusedb v) (found v 0 0) (found v (e .offset) (NODE-BYTES * e .count))
 
--- The same for the list of a tag.
-unfoldable pub foundTag : List ℕ → ℕ → Found
-foundTag book tag = foundAt book (tagAt tag (contentsOf book))
+  -- The same for the list of a tag.
+  unfoldable pub foundTagUpTo : ℕ → Found
+  foundTagUpTo tag = foundAtUpTo (tagAt tag (contentsOf book))
+
+-- The library's own verdict, and what it finds at a position and under a tag.
+abbrev pub verdictAt : List ℕ → ℕ → Verdict
+verdictAt book position = verdictAtUpTo MOST-LISTS book position
+
+abbrev pub foundAt : List ℕ → ℕ → Found
+foundAt book position = foundAtUpTo MOST-LISTS book position
+
+abbrev pub foundTag : List ℕ → ℕ → Found
+foundTag book tag = foundTagUpTo MOST-LISTS book tag
 
 -- Whether one of the `lists` lists of a book that was opened before has the tag.
 unfoldable pub hasTag : List ℕ → ℕ → ℕ → Bool

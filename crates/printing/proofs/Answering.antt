@@ -18,18 +18,18 @@ use Rattle.answers.specs.Verdict.{ANCESTORS, verdict, taken}
 use Rattle.answers.proofs.VerdictLaws.{refuses, accepts}
 use Rattle.books.specs.declared.book.Opened.{Opened}
 use Rattle.books.specs.Book.{bookVerdict, checkBook, listAt}
-use Rattle.books.specs.Find.{verdictAt}
+use Rattle.books.specs.Find.{verdictAtUpTo}
 use Rattle.books.proofs.FindLaws.{tag-there}
 use Rattle.books.proofs.BookLaws.{opened-verdict, opened-lists}
 use Rattle.joins.specs.declared.copy.Lengths.{Lengths}
 use Rattle.joins.specs.Join.{tagWords, thereb, lengthsOf, firstAfter, secondAfter}
 use Rattle.joins.proofs.Joined.{own-words, copies-fit, copies-taken}
-use Rattle.printing.specs.Print.{MOST-BYTES, printedAnswer}
+use Rattle.printing.specs.Print.{MOST-BYTES, printedAnswerUpTo, printedAnswer}
 
 module _ (book : List ℕ) where
   -- The answers of the program, in their order.
   pub too-long : MOST-BYTES < length book → LONG ≡ printedAnswer book
-  unfolding printedAnswer
+  unfolding printedAnswerUpTo
   too-long h = rw (lt-ltb MOST-BYTES (length book) h) refl
 
   module _ (short : length book ≤ MOST-BYTES) (o : Opened) (e : o ≡ checkBook book) where
@@ -37,7 +37,7 @@ module _ (book : List ℕ) where
     own = ap (λ p. p .verdict .answer) e ∙ ap (λ v. v .answer) (opened-verdict book)
 
     pub refused-book : (o .verdict .answer ≡ TAKEN → ⊥) → o .verdict .answer ≡ printedAnswer book
-    unfolding printedAnswer verdictAt
+    unfolding printedAnswerUpTo verdictAtUpTo
     refused-book h =
         let r = refuses (bookVerdict book) (λ t. h (own ∙ t)) in
         rw (le-ltb MOST-BYTES (length book) short, r, r) own
@@ -50,7 +50,7 @@ module _ (book : List ℕ) where
       its-lists = ap (λ p. p .lists) e ∙ opened-lists book book-good
 
       pub one-list : o .lists < 2 → _≡_ {A = ℕ} ABSENT (printedAnswer book)
-      unfolding printedAnswer verdictAt
+      unfolding printedAnswerUpTo verdictAtUpTo
       one-list h =
           let l = its-lists in
           rw (
@@ -61,7 +61,7 @@ module _ (book : List ℕ) where
           ) refl
 
       pub joined : 1 < o .lists → (answer : ℕ) → answer ≡ checkTwo (listAt book 0) (listAt book 1) .answer → answer ≡ printedAnswer book
-      unfolding printedAnswer verdictAt
+      unfolding printedAnswerUpTo verdictAtUpTo
       joined h answer q =
           let l = its-lists in
           rw (le-ltb MOST-BYTES (length book) short, accepts (bookVerdict book) book-good, lt-ltb 1 (listsIn book) (omega arith), accepts taken refl) q

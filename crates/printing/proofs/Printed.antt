@@ -27,7 +27,7 @@ use Rattle.pairs.specs.Calls.{Call, SameLists, answer, ticketThrough, shownThro
 use Rattle.pairs.proofs.Unaltered.{whole-through}
 use Rattle.books.specs.Find.{verdictAt}
 use Rattle.lines.specs.Line.{pairLine, totalLine}
-use Rattle.printing.specs.Print.{MOST-BYTES, printedAnswer, listingIn, printed}
+use Rattle.printing.specs.Print.{MOST-BYTES, printedAnswerUpTo, printedAnswer, listingIn, printedUpTo, printed}
 use Rattle.books.specs.Book.{listAt}
 
 -- The ticket that the program starts with.
@@ -37,7 +37,7 @@ first = freshTicket (asked Inside Descendant)
 module _ (book : List ℕ) (good : printedAnswer book ≡ TAKEN) where
   -- If the program's answer is TAKEN, the two lists are accepted together.
   lists-taken : checkTwo (listAt book 0) (listAt book 1) .answer ≡ TAKEN
-  unfolding printedAnswer refusedb
+  unfolding printedAnswerUpTo refusedb
   lists-taken =
       elim (either (ltb MOST-BYTES (length book))) [
         | inl h ↦ let e : LONG ≡ TAKEN = rw h at good in absurd (omega arith)
@@ -55,7 +55,7 @@ module _ (book : List ℕ) (good : printedAnswer book ≡ TAKEN) where
 
     -- What they hand out, line by line, and its number are what is printed.
     pub pages-printed : wordsIn pairLine shown ++ totalLine (length shown) ≡ printed book
-    unfolding printed listingIn
+    unfolding printedUpTo listingIn
     pages-printed =
         let a = ap (λ xs. checkTwo xs (c .descendants) .answer) one ∙ ap (λ ys. checkTwo (listAt book 0) ys .answer) two ∙ lists-taken in
         let whole : shown ≡ listingIn book =

@@ -27,7 +27,7 @@ use Rattle.books.specs.Book.{bookVerdict}
 use Rattle.joins.specs.Join.{thereb}
 use Rattle.questions.specs.declared.ask.Pages.{Pages}
 use Rattle.questions.specs.declared.question.Question.{Question}
-use Rattle.questions.specs.Ask.{listUnder, refusedPage, refusedPages, noPage, padded, withPages, askOf, askOutput}
+use Rattle.questions.specs.Ask.{listUnder, refusedPage, refusedPages, noPage, padded, withPages, askOfUpTo, askOf, askOutputUpTo, askOutput}
 use Rattle.questions.specs.Demanded.{questionWords, verdictOn, countIn, singlePage, singlePages, pairsInTurn}
 use Rattle.questions.specs.Question.{QUESTION-WORDS, MOST-QUESTIONS, question, ticketWords, questionsIn, questionCount, questionAt, checkQuestions}
 use Rattle.questions.proofs.Padding.{length-padded, padded-there, padded-beyond, begins-padded, count-none, all-zeros, count-padded}
@@ -45,7 +45,7 @@ module _ (book words out : List ℕ) where
 
   -- Its answer is that on its words, so it says what they are.
   answer-checked : answered .answer ≡ checkQuestions words
-  unfolding askOf
+  unfolding askOfUpTo
   answer-checked =
       elim (either (eqb (checkQuestions words) TAKEN)) [ inl h ↦ rw h (sym (eqb-true (checkQuestions words) TAKEN h)) | inr h ↦ rw h refl ]
 
@@ -64,11 +64,11 @@ module _ (book words out : List ℕ) where
     checks = eq-eqb (checkQuestions words) TAKEN (sym answer-checked ∙ accepted)
 
     taken-call : answered ≡ withPages TAKEN (length asked) (singlePages book out 0 asked)
-    unfolding askOf
+    unfolding askOfUpTo
     taken-call = rw checks (ap (λ ps. withPages TAKEN (length asked) ps) (pages-single book out 0 asked))
 
     pub taken-output : askOutput book words out ≡ written (wordsIn pairWords (pairsInTurn book out 0 asked)) out
-    unfolding askOutput
+    unfolding askOutputUpTo
     taken-output = rw checks (output-in-turn book out 0 asked)
 
     few-asked : length asked ≤ MOST-QUESTIONS
@@ -127,11 +127,11 @@ module _ (book words out : List ℕ) where
     refusals = refusedPages (verdict (checkQuestions words) ANCESTORS 0) asked
 
     refused-call : answered ≡ withPages (checkQuestions words) 0 refusals
-    unfolding askOf
+    unfolding askOfUpTo
     refused-call = rw fails refl
 
     pub refused-output : askOutput book words out ≡ out
-    unfolding askOutput
+    unfolding askOutputUpTo
     refused-output = rw fails refl
 
     pub refused-asked : answered .questions ≡ 0

@@ -30,29 +30,29 @@ use Rattle.joins.proofs.Joined.{lists-copied, copies-fit, copies-taken, none-co
 use Rattle.questions.specs.declared.ask.Pages.{Pages}
 use Rattle.questions.specs.declared.question.Question.{Question}
 use Rattle.questions.specs.Question.{MOST-QUESTIONS, questionCount, questionsIn, checkQuestions}
-use Rattle.questions.specs.Ask.{listUnder, refusedPage, findLists, pageTo, outputTo, wordsTaken, pagesTo, outputAfterAll, refusedPages, padded, askOf, askOutput}
+use Rattle.questions.specs.Ask.{listUnder, refusedPage, findListsUpTo, findLists, pageToUpTo, pageTo, outputToUpTo, outputTo, wordsTakenUpTo, pagesToUpTo, pagesTo, outputAfterAllUpTo, outputAfterAll, refusedPages, padded, askOfUpTo, askOf, askOutputUpTo, askOutput}
 use Rattle.questions.proofs.QuestionLaws.{length-questions, few-questions}
 
 -- A question whose lists aren't found is refused, and leaves the output as it was.
 module _ (book : List ℕ) (q : Question) (v : Verdict) (e : findLists book (q .ancestors) (q .descendants) ≡ v) (bad : v .answer ≡ TAKEN → ⊥)
     (out : List ℕ) where
   unfound-page : pageTo book q out ≡ refusedPage v (q .ticket)
-  unfolding pageTo
+  unfolding pageToUpTo
   unfound-page = rw (e, refuses v bad) refl
 
   unfound-output : outputTo book q out ≡ out
-  unfolding outputTo
+  unfolding outputToUpTo
   unfound-output = rw (e, refuses v bad) refl
 
 -- If the book itself is refused, so is each question, with the book's verdict.
 module _ (book : List ℕ) (bad : bookVerdict book .answer ≡ TAKEN → ⊥) where
   finds-none : (q : Question) → findLists book (q .ancestors) (q .descendants) ≡ bookVerdict book
-  unfolding findLists
+  unfolding findListsUpTo
   finds-none q = rw (refuses (bookVerdict book) bad) refl
 
   all-refused : (qs : List Question) (out : List ℕ)
       → (pagesTo book qs out ≡ refusedPages (bookVerdict book) qs) × (outputAfterAll book qs out ≡ out)
-  unfolding pagesTo outputAfterAll refusedPages wordsTaken
+  unfolding pagesToUpTo outputAfterAllUpTo refusedPages wordsTakenUpTo
   all-refused [] out = (refl, refl)
   all-refused (q ∷ qs) out =
       rw (unfound-page book q (bookVerdict book) (finds-none q) bad out, unfound-output book q (bookVerdict book) (finds-none q) bad out)
@@ -77,7 +77,7 @@ module _ (book : List ℕ) (lists : ℕ) (q : Question) (first second : List ℕ
 
   -- The copying finds the lists exactly when the question does, with the same verdict.
   copy-finds : findLists book (q .ancestors) (q .descendants) ≡ l .verdict
-  unfolding findLists
+  unfolding findListsUpTo
   copy-finds =
       elim (either there) [
         | inl h ↦ rw (accepts (bookVerdict book) (ok .0), h, copied h) refl
@@ -104,7 +104,7 @@ module _ (book : List ℕ) (lists : ℕ) (q : Question) (first second : List ℕ
         → (out last : List ℕ) (p : PageWords) → p ≡ shownPage (q .ticket) (pageOf (take n f) (take m s) (ticketOf (q .ticket)) out)
         → last ≡ outputAfter (take n f) (take m s) (ticketOf (q .ticket)) out
         → record { answer : p ≡ pageTo book q out; output : last ≡ outputTo book q out }
-    unfolding pageTo outputTo
+    unfolding pageToUpTo outputToUpTo
     question-answered f s x y n m u v out last p a o =
         let w = copies-taken book (ok .0) (q .ancestors) (q .descendants) both first second (ok .2) (ok .3) lists (ok .1) l e f s x y n m u v in
         rw (copy-finds, accepts (l .verdict) yes)
@@ -122,7 +122,7 @@ module _ (book words out : List ℕ) where
     pub call-refused : (answer ≡ TAKEN → ⊥) → (v : Verdict) → v ≡ verdict answer ANCESTORS 0
         → (ps : List PageWords) → ps ≡ padded (refusedPages v (questionsIn words))
         → Answered (record { answer = answer; questions = 0; pages = ps }) out
-    unfolding askOf askOutput
+    unfolding askOfUpTo askOutputUpTo
     call-refused bad v f ps g =
         rw (← e, ne-eqb answer TAKEN bad)
         (record {
@@ -134,7 +134,7 @@ module _ (book words out : List ℕ) where
       pub call-answered : (count : ℕ) → count ≡ questionCount words → (ps : List PageWords) (last : List ℕ)
           → ps ≡ padded (pagesTo book (questionsIn words) out) → last ≡ outputAfterAll book (questionsIn words) out
           → Answered (record { answer = TAKEN; questions = count; pages = ps }) last
-      unfolding askOf askOutput
+      unfolding askOfUpTo askOutputUpTo
       call-answered count n ps last g o =
           rw (← e, eq-eqb answer TAKEN good)
           (record {

@@ -27,23 +27,23 @@ use Rattle.books.proofs.Refused.{list-taken}
 use Rattle.joins.specs.Join.{thereb}
 use Rattle.joins.proofs.Joined.{under-tag}
 use Rattle.questions.specs.declared.question.Question.{Question}
-use Rattle.questions.specs.Ask.{listUnder, refusedPage, findLists}
+use Rattle.questions.specs.Ask.{listUnder, refusedPage, findListsUpTo, findLists}
 use Rattle.questions.specs.Demanded.{verdictOn, singlePage, singlePairs}
 
 -- A question with two tags, by what comes first.
 module _ (book : List ℕ) (ancestors descendants : ℕ) where
   of-book : (bookVerdict book .answer ≡ TAKEN → ⊥) → verdictOn book ancestors descendants ≡ bookVerdict book
-  unfolding verdictOn findLists
+  unfolding verdictOn findListsUpTo
   of-book h = let r = refuses (bookVerdict book) h in rw (r, r) refl
 
   of-tags : bookVerdict book .answer ≡ TAKEN → thereb book (listsIn book) ancestors descendants ≡ false
       → verdictOn book ancestors descendants ≡ verdict ABSENT ANCESTORS 0
-  unfolding verdictOn findLists
+  unfolding verdictOn findListsUpTo
   of-tags t n = rw (accepts (bookVerdict book) t, n, refuses (verdict ABSENT ANCESTORS 0) (λ e. omega arith)) refl
 
   module _ (t : bookVerdict book .answer ≡ TAKEN) (both : thereb book (listsIn book) ancestors descendants ≡ true) where
     of-lists : verdictOn book ancestors descendants ≡ checkTwo (listUnder book ancestors) (listUnder book descendants)
-    unfolding verdictOn findLists
+    unfolding verdictOn findListsUpTo
     of-lists = rw (accepts (bookVerdict book) t, both, accepts taken refl) refl
 
     -- A list that lies in an accepted book is accepted.
@@ -79,7 +79,7 @@ module _ (book : List ℕ) (ancestors descendants : ℕ) where
 
   -- It then finds its lists.
   pub lists-found : verdictOn book ancestors descendants .answer ≡ TAKEN → refusedb (findLists book ancestors descendants) ≡ false
-  unfolding findLists
+  unfolding findListsUpTo
   lists-found h = let a = accepted-question h in rw (accepts (bookVerdict book) (a .0), a .1) (accepts taken refl)
 
   -- It is refused exactly when the book is, a tag isn't there, or two nodes, one of each list, are

@@ -23,7 +23,7 @@ use Rattle.ticket_words.specs.declared.page.PageWords.{PageWords}
 use Rattle.ticket_words.specs.Page.{shownPage}
 use Rattle.ticket_words.specs.Words.{ticketOf}
 use Rattle.questions.specs.declared.question.Question.{Question}
-use Rattle.questions.specs.Ask.{listUnder, findLists, pageTo, outputTo, wordsTaken, pagesTo, outputAfterAll}
+use Rattle.questions.specs.Ask.{listUnder, findLists, pageToUpTo, pageTo, outputToUpTo, outputTo, wordsTakenUpTo, wordsTaken, pagesToUpTo, pagesTo, outputAfterAllUpTo, outputAfterAll}
 use Rattle.questions.specs.Demanded.{countIn, singlePage, singlePairs, singlePages, pairsInTurn}
 
 -- One question, lent what is left of the output after `at` pairs.
@@ -39,7 +39,7 @@ module _ (book out : List ℕ) (at : ℕ) (q : Question) where
 
   -- Its page is that of a single call.
   page-single : pageTo book q left ≡ single
-  unfolding pageTo singlePage
+  unfolding pageToUpTo singlePage
   page-single = refl
 
   -- It counts the pairs that it hands out,
@@ -49,12 +49,12 @@ module _ (book out : List ℕ) (at : ℕ) (q : Question) where
 
   -- takes the words of these pairs,
   taken-single : wordsTaken book q left ≡ length (wordsIn pairWords given)
-  unfolding wordsTaken
+  unfolding wordsTakenUpTo
   taken-single = ap (λ p. PAIR-WORDS * p .count) page-single ∙ ap (λ k. PAIR-WORDS * k) count-single ∙ sym (words-length given)
 
   -- and writes them.
   output-single : outputTo book q left ≡ written (wordsIn pairWords given) left
-  unfolding outputTo singlePairs outputAfter written wordsIn flatMap
+  unfolding outputToUpTo singlePairs outputAfter written wordsIn flatMap
   output-single = elim (either (refusedb (findLists book (q .ancestors) (q .descendants)))) [ inl h ↦ rw h refl | inr h ↦ rw h refl ]
 
   -- It has room for them,
@@ -91,7 +91,7 @@ module _ (book out : List ℕ) (at : ℕ) (q : Question) where
 module _ (book out : List ℕ) where
   -- The pages are those of single calls.
   pub pages-single : (at : ℕ) (qs : List Question) → pagesTo book qs (drop (PAIR-WORDS * at) out) ≡ singlePages book out at qs
-  unfolding pagesTo singlePages
+  unfolding pagesToUpTo singlePages
   pages-single at [] = refl
   pages-single at (q ∷ qs) =
       (λ i. page-single book out at q i ∷ pagesTo book qs (rest-single book out at q i))
@@ -100,7 +100,7 @@ module _ (book out : List ℕ) where
   -- The output begins with the pairs that these calls hand out, and keeps what is after them.
   pub output-in-turn : (at : ℕ) (qs : List Question)
       → outputAfterAll book qs (drop (PAIR-WORDS * at) out) ≡ written (wordsIn pairWords (pairsInTurn book out at qs)) (drop (PAIR-WORDS * at) out)
-  unfolding outputAfterAll pairsInTurn written wordsIn flatMap
+  unfolding outputAfterAllUpTo pairsInTurn written wordsIn flatMap
   output-in-turn at [] = refl
   output-in-turn at (q ∷ qs) =
       let next = at + singlePage book out at q .count in

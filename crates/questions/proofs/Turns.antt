@@ -20,7 +20,7 @@ use Rattle.ticket_words.specs.declared.page.PageWords.{PageWords}
 use Rattle.ticket_words.specs.Page.{shownPage}
 use Rattle.ticket_words.specs.Words.{ticketOf}
 use Rattle.questions.specs.declared.question.Question.{Question}
-use Rattle.questions.specs.Ask.{listUnder, findLists, pageTo, outputTo, wordsTaken, pagesTo, outputAfterAll, padded}
+use Rattle.questions.specs.Ask.{listUnder, findLists, pageToUpTo, pageTo, outputToUpTo, outputTo, wordsTakenUpTo, wordsTaken, pagesToUpTo, pagesTo, outputAfterAllUpTo, outputAfterAll, padded}
 use Rattle.questions.specs.Question.{MOST-QUESTIONS, questionCount, questionsIn, questionAt}
 use Rattle.questions.proofs.Padding.{padded-next, padded-all}
 use Rattle.questions.proofs.QuestionLaws.{questions-from, questions-end}
@@ -32,7 +32,7 @@ module _ (book : List ℕ) (q : Question) (out : List ℕ) where
 
   -- A question takes no more words than the output has,
   pub words-fit : wordsTaken book q out ≤ length out
-  unfolding wordsTaken pageTo shownPage
+  unfolding wordsTakenUpTo pageToUpTo shownPage
   words-fit =
       elim (either (refusedb (findLists book (q .ancestors) (q .descendants)))) [
         | inl h ↦ rw h (omega arith)
@@ -41,7 +41,7 @@ module _ (book : List ℕ) (q : Question) (out : List ℕ) where
 
   -- and leaves it as long as it was.
   as-long : length (outputTo book q out) ≡ length out
-  unfolding outputTo
+  unfolding outputToUpTo
   as-long =
       elim (either (refusedb (findLists book (q .ancestors) (q .descendants)))) [
         | inl h ↦ rw h refl
@@ -101,11 +101,11 @@ module _ (book words out₀ : List ℕ) where
       beyond = ap (λ k. drop (k + n) (take from out ++ after)) (sym front) ∙ drop-append-add (take from out) after n
 
       own-page : pageTo book q rest ∷ pagesTo book (drop (index + 1) qs) (drop n after) ≡ drop index whole
-      unfolding pagesTo
+      unfolding pagesToUpTo
       own-page = ap (λ l. pagesTo book l rest) (sym next) ∙ t .pages-left
 
       own-output : take from out ++ (take n after ++ outputAfterAll book (drop (index + 1) qs) (drop n after)) ≡ outputAfterAll book qs out₀
-      unfolding outputAfterAll
+      unfolding outputAfterAllUpTo
       own-output = ap (λ l. take from out ++ outputAfterAll book l rest) (sym next) ∙ t .output-left
 
       size : length (take from out ++ after) ≡ length out
@@ -130,18 +130,18 @@ module _ (book words out₀ : List ℕ) where
 
         -- The next question begins within the output,
         pub turn-fits : from + PAIR-WORDS * p .count ≤ length out₀
-        unfolding wordsTaken
+        unfolding wordsTakenUpTo
         turn-fits = rw own (omega (arith, fits))
 
         -- and it is its turn.
         pub next-turn : (ys : List ℕ) → ys ≡ outputTo book q (midOf from (length out - from) out)
             → Turn (putMid from (length out - from) out ys) (set pages index p) (from + PAIR-WORDS * p .count) (index + 1)
-        unfolding wordsTaken
+        unfolding wordsTakenUpTo
         next-turn ys f = rw (rest-back ys, own, f ∙ ap (outputTo book q) rest-lent) turned
 
     -- After the last question all pages are there, and the output is as defined.
     pub last-turn : questionCount words ≤ index → record { answer : pages ≡ padded whole; output : out ≡ outputAfterAll book qs out₀ }
-    unfolding pagesTo outputAfterAll
+    unfolding pagesToUpTo outputAfterAllUpTo
     last-turn h =
         let none = questions-end words index h in
         record {

@@ -18,32 +18,34 @@ use Rattle.numbers.specs.Little.{numbers, numberAt}
 use Rattle.numbers.specs.Part.{partOf}
 use Rattle.contents.specs.Contents.{entry, listsIn, entriesIn, contentsOf, entryAt}
 use Rattle.contents.proofs.ContentLaws.{few-entries}
-use Rattle.books.specs.Book.{bodyOf, bookVerdict}
-use Rattle.books.specs.Find.{tagAt, foundAt, foundTag, tagEntry, tagBody}
+use Rattle.books.specs.Book.{bodyOf, bookVerdictUpTo, bookVerdict}
+use Rattle.books.specs.Find.{tagAt, foundAt, foundTagUpTo, foundTag, tagEntry, tagBody}
 use Rattle.answers.proofs.VerdictLaws.{refuses, accepts}
 use Rattle.books.proofs.FindLaws.{list-absent, list-found, tag-body-at}
-use Rattle.readers.specs.Reader.{keptOf, keptLists, keptBody}
+use Rattle.books.proofs.Limits.{verdict-alike}
+use Rattle.readers.specs.Reader.{keptOfUpTo, keptOf, keptListsUpTo, keptLists, keptBodyUpTo, keptBody}
 
-module _ (book : List ℕ) (bad : bookVerdict book .answer ≡ TAKEN → ⊥) where
-  pub kept-nothing : keptOf book ≡ []
-  unfolding keptOf
-  kept-nothing = rw (refuses (bookVerdict book) bad)
+-- Of a book that is refused under a limit nothing is kept.
+module _ (most : ℕ) (book : List ℕ) (bad : bookVerdictUpTo most book .answer ≡ TAKEN → ⊥) where
+  pub kept-nothing : keptOfUpTo most book ≡ []
+  unfolding keptOfUpTo
+  kept-nothing = rw (refuses (bookVerdictUpTo most book) bad)
 
-  pub no-lists : keptLists book ≡ 0
-  unfolding keptLists listsIn numberAt numbers
+  pub no-lists : keptListsUpTo most book ≡ 0
+  unfolding keptListsUpTo listsIn numberAt numbers
   no-lists = ap listsIn kept-nothing
 
-  pub no-body : (tag : ℕ) → keptBody book tag ≡ []
-  unfolding keptBody tagBody tagEntry bodyOf partOf tagAt firstAt
+  pub no-body : (tag : ℕ) → keptBodyUpTo most book tag ≡ []
+  unfolding keptBodyUpTo tagBody tagEntry bodyOf partOf tagAt firstAt
   no-body tag = rw (kept-nothing, no-lists) refl
 
 module _ (book : List ℕ) (ok : bookVerdict book .answer ≡ TAKEN) where
   pub kept-whole : keptOf book ≡ book
-  unfolding keptOf
+  unfolding keptOfUpTo
   kept-whole = rw (accepts (bookVerdict book) ok)
 
   pub all-lists : keptLists book ≡ listsIn book
-  unfolding keptLists
+  unfolding keptListsUpTo
   all-lists = ap listsIn kept-whole
 
   -- The body at a position among the book's own entries is the part that the search by position
@@ -67,14 +69,28 @@ module _ (book : List ℕ) (ok : bookVerdict book .answer ≡ TAKEN) where
     answered = elim (either (ltb position (listsIn book))) [ inl h ↦ there (ltb-true _ _ h) | inr h ↦ past (ltb-false _ _ h) ]
 
   pub body-found : (tag : ℕ) → keptBody book tag ≡ partOf book (foundTag book tag .from) (foundTag book tag .bytes)
-  unfolding keptBody keptLists tagBody tagEntry foundTag contentsOf
+  unfolding keptBodyUpTo keptListsUpTo tagBody tagEntry foundTagUpTo contentsOf
   body-found tag = rw kept-whole (answered (tagAt tag (contentsOf book)))
 
   -- A tag's body is the one in the whole book, with all its lists.
   pub kept-tag : (tag : ℕ) → keptBody book tag ≡ tagBody book (listsIn book) tag
-  unfolding keptBody
+  unfolding keptBodyUpTo
   kept-tag tag = rw (kept-whole, all-lists) refl
 
   -- So each list's body comes back under its own tag.
   pub body-at : (position : ℕ) → position < listsIn book → keptBody book (entryAt book position .tag) ≡ bodyOf book (entryAt book position)
   body-at position h = kept-tag (entryAt book position .tag) ∙ tag-body-at book ok position h
+
+-- Under two limits that the book is within, the same is kept.
+module _ (fewer more : ℕ) (book : List ℕ) (h : listsIn book ≤ fewer) (k : listsIn book ≤ more) where
+  pub kept-alike : keptOfUpTo fewer book ≡ keptOfUpTo more book
+  unfolding keptOfUpTo
+  kept-alike = rw (verdict-alike fewer more book h k)
+
+  pub lists-alike : keptListsUpTo fewer book ≡ keptListsUpTo more book
+  unfolding keptListsUpTo
+  lists-alike = ap listsIn kept-alike
+
+  pub body-alike : (tag : ℕ) → keptBodyUpTo fewer book tag ≡ keptBodyUpTo more book tag
+  unfolding keptBodyUpTo
+  body-alike tag = rw (kept-alike, lists-alike) refl

@@ -28,7 +28,7 @@ use Rattle.lists.proofs.Pairing.{list-passes, joint-passes, two-taken-iff}
 use Rattle.lists.proofs.Taken.{goes-on, words-check, words-taken-iff}
 use Rattle.contents.specs.declared.entry.Entry.{Entry}
 use Rattle.contents.specs.Contents.{contentsOf, contentsFault}
-use Rattle.books.specs.Book.{nodesOf, checkBodies, checkParts, bookVerdict}
+use Rattle.books.specs.Book.{nodesOf, checkBodies, checkParts, bookVerdictUpTo, bookVerdict}
 use Rattle.tickets.specs.Listing.{listing}
 use Rattle.tickets.specs.Ticket.{Asked}
 use Rattle.forest.specs.Links.{linksOf}
@@ -219,7 +219,7 @@ module _ (book : List ℕ) where
 
     -- What the stricter rule takes as a book, the library takes.
     pub strict-book-taken : bookVerdict book .answer ≡ TAKEN
-    unfolding bookVerdict checkParts
+    unfolding bookVerdictUpTo checkParts
     strict-book-taken =
         goes-on (contentsFault book) 0 (checkBodies 0 (map (nodesOf book) (contentsOf book))) .1
         (book-read .0, bodies-taken 0 (contentsOf book) (book-read .1))

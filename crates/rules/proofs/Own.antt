@@ -17,7 +17,7 @@ use Rattle.lists.specs.Check.{checkFrom, checkNodes, wordFault, checkWords}
 use Rattle.lists.specs.Fault.{crossb, depthb, fault}
 use Rattle.lists.specs.Two.{nestedb, agreeb, oddsb, jointb, checkTwo}
 use Rattle.contents.specs.Contents.{contentsOf}
-use Rattle.books.specs.Book.{nodesOf, checkBodies, checkParts, bookVerdict}
+use Rattle.books.specs.Book.{nodesOf, checkBodies, checkParts, bookVerdictUpTo, bookVerdict}
 use Rattle.tickets.specs.declared.ticket.Relation.{Relation}
 use Rattle.tickets.specs.declared.ticket.Relation.the-variants.{Inside, Directly}
 use Rattle.tickets.specs.Listing.{Pair, relatedb, leaders, followers, everyPair, listing}
@@ -55,7 +55,7 @@ own-bodies list [] = refl
 own-bodies list (ns ∷ later) = rw (own-nodes ns, own-bodies (suc list) later) refl
 
 pub own-book : (book : List ℕ) → bookVerdictBy insideb book ≡ bookVerdict book
-unfolding bookVerdictBy bookVerdict checkParts
+unfolding bookVerdictBy bookVerdictUpTo checkParts
 own-book book = rw (own-bodies 0 (map (nodesOf book) (contentsOf book))) refl
 
 own-related : (relation : Relation) (p : Pair) → relatedBy insideb relation p ≡ relatedb relation p

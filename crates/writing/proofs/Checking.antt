@@ -14,24 +14,24 @@ use borrow.Author.Tests.{eqb-true, eq-eqb, ne-eqb}
 use Rattle.answers.specs.Answer.{TAKEN, RAGGED, LONG}
 use Rattle.nodes.specs.Words.{NODE-WORDS, nodes}
 use Rattle.laws.proofs.Tests.{either}
-use Rattle.contents.specs.Contents.{brokenb}
+use Rattle.contents.specs.Contents.{MOST-LISTS, brokenb}
 use Rattle.lists.specs.Check.{raggedb}
 use Rattle.answers.specs.declared.verdict.Verdict.{Verdict}
 use Rattle.answers.specs.Verdict.{ANCESTORS, verdict, taken}
 use Rattle.books.specs.Book.{checkParts}
 use Rattle.books.proofs.Answers.{parts-draw, parts-faultless, fault-draws, from-level}
 use Rattle.books.proofs.BookLaws.{parts-taken}
-use Rattle.writing.specs.Wanted.{WANTED-WORDS, wanted, raggedEntries, contentsFor, bodiesFor, sizeFor, wantedFault}
-use Rattle.writing.specs.WriteCall.{checkWanted}
+use Rattle.writing.specs.Wanted.{WANTED-WORDS, wanted, raggedEntries, contentsFor, bodiesFor, sizeFor, wantedFaultUpTo, wantedFault}
+use Rattle.writing.specs.WriteCall.{checkWantedUpTo, checkWanted}
 
 module _ (entries list : List ℕ) where
   -- Words that don't make whole entries, or whole nodes.
   pub entries-ragged : (length entries % WANTED-WORDS ≡ 0 → ⊥) → verdict RAGGED ANCESTORS 0 ≡ checkWanted entries list
-  unfolding checkWanted raggedEntries
+  unfolding checkWantedUpTo raggedEntries
   entries-ragged h = rw (ne-eqb (length entries % WANTED-WORDS) 0 h)
 
   pub nodes-ragged : length entries % WANTED-WORDS ≡ 0 → (length list % NODE-WORDS ≡ 0 → ⊥) → verdict RAGGED ANCESTORS 0 ≡ checkWanted entries list
-  unfolding checkWanted raggedEntries raggedb
+  unfolding checkWantedUpTo raggedEntries raggedb
   nodes-ragged e h = rw (eq-eqb (length entries % WANTED-WORDS) 0 e, ne-eqb (length list % NODE-WORDS) 0 h)
 
   -- The verdict on whole entries and nodes.
@@ -39,14 +39,14 @@ module _ (entries list : List ℕ) where
   parts = checkParts (wantedFault (wanted entries) (nodes list)) (bodiesFor (wanted entries) (nodes list))
 
   pub whole-checked : length entries % WANTED-WORDS ≡ 0 → length list % NODE-WORDS ≡ 0 → parts ≡ checkWanted entries list
-  unfolding checkWanted raggedEntries raggedb
+  unfolding checkWantedUpTo raggedEntries raggedb
   whole-checked e l = rw (eq-eqb (length entries % WANTED-WORDS) 0 e, eq-eqb (length list % NODE-WORDS) 0 l)
 
   -- LONG is never given: a list that is too long breaks a rule of the contents.
   pub wanted-never-long : checkWanted entries list .answer ≡ LONG → ⊥
-  unfolding checkWanted wantedFault
+  unfolding checkWantedUpTo wantedFaultUpTo
   wanted-never-long h =
-      let fault = fault-draws (brokenb (length (wanted entries)) (contentsFor (wanted entries)) (sizeFor (wanted entries) (nodes list))) in
+      let fault = fault-draws (brokenb MOST-LISTS (length (wanted entries)) (contentsFor (wanted entries)) (sizeFor (wanted entries) (nodes list))) in
       let l = from-level (parts .answer) (parts-draw (wantedFault (wanted entries) (nodes list)) (bodiesFor (wanted entries) (nodes list)) fault) in
       elim (either (raggedEntries entries || raggedb list)) [
         | inl r ↦ (let e = rw r at h in omega arith)
@@ -56,7 +56,7 @@ module _ (entries list : List ℕ) where
   -- What is taken is whole, has no fault in its contents, and names no list.
   module _ (t : checkWanted entries list .answer ≡ TAKEN) where
     pub taken-whole : (length entries % WANTED-WORDS ≡ 0) × (length list % NODE-WORDS ≡ 0)
-    unfolding checkWanted raggedEntries raggedb
+    unfolding checkWantedUpTo raggedEntries raggedb
     taken-whole =
         elim (either (eqb (length entries % WANTED-WORDS) 0)) [
           | inl e ↦ elim (either (eqb (length list % NODE-WORDS) 0)) [

@@ -12,7 +12,7 @@ use Rattle.answers.specs.Output.{written, answerOf, outputOf}
 use Rattle.answers.proofs.OutputLaws.{answer-fault, answer-room, answer-taken, if-taken, if-refused}
 use Rattle.answers.specs.declared.verdict.Verdict.{Verdict}
 use Rattle.answers.specs.Verdict.{ANCESTORS, verdict, taken}
-use Rattle.writing.specs.WriteCall.{checkWanted, bytesFor, writtenOf, writtenOutput}
+use Rattle.writing.specs.WriteCall.{checkWanted, bytesFor, writtenOfUpTo, writtenOf, writtenOutputUpTo, writtenOutput}
 use Rattle.writing.proofs.Checking.{taken-all}
 
 -- A call that writes a book.
@@ -28,7 +28,7 @@ module _ (entries list out : List ℕ) where
   refused : (answer : ℕ) → (answer ≡ TAKEN → ⊥)
       → answerOf (checkWanted entries list .answer) (bytesFor entries list) out ≡ answer
       → Refuses entries list out (verdict answer (checkWanted entries list .list) (checkWanted entries list .index))
-  unfolding writtenOf writtenOutput outputOf
+  unfolding writtenOfUpTo writtenOutputUpTo outputOf
   refused answer h a =
       let v = checkWanted entries list in
       let b = bytesFor entries list in
@@ -48,7 +48,7 @@ module _ (entries list out : List ℕ) where
         (refused ROOM (λ z. omega arith) (answer-room (checkWanted entries list .answer) (bytesFor entries list) out t room))
 
     pub write-taken : length (bytesFor entries list) ≤ length out → WritesBook entries list out (bytesFor entries list)
-    unfolding writtenOf writtenOutput outputOf
+    unfolding writtenOfUpTo writtenOutputUpTo outputOf
     write-taken room =
         let v = checkWanted entries list in
         let b = bytesFor entries list in

@@ -17,12 +17,12 @@ use Rattle.answers.specs.Output.{wordsIn}
 use Rattle.nodes.proofs.WordLaws.{nodes-of-words, length-words}
 use Rattle.numbers.specs.Little.{numbers, numberAt}
 use Rattle.numbers.proofs.LittleLaws.{numbers-of-bytes, length-bytes}
-use Rattle.contents.specs.Contents.{entries, entryNumbers, listsIn, entriesIn, contentsOf, contentsEnd, brokenb, contentsFault}
+use Rattle.contents.specs.Contents.{MOST-LISTS, entries, entryNumbers, listsIn, entriesIn, contentsOf, contentsEnd, brokenb, contentsFaultUpTo, contentsFault}
 use Rattle.contents.proofs.ContentLaws.{entries-of}
-use Rattle.books.specs.Book.{nodesOf, checkParts, bookVerdict}
+use Rattle.books.specs.Book.{nodesOf, checkParts, bookVerdictUpTo, bookVerdict}
 use Rattle.writing.specs.declared.wanted.Wanted.{Wanted}
 use Rattle.writing.specs.Back.{wantedIn, bodiesIn}
-use Rattle.writing.specs.Wanted.{contentsFor, bodiesFor, sizeFor, wantedFault, bookNumbers, bookBytes}
+use Rattle.writing.specs.Wanted.{contentsFor, bodiesFor, sizeFor, wantedFaultUpTo, wantedFault, bookNumbers, bookBytes}
 use Rattle.writing.proofs.BodyOffsets.{wants, wants-laid, length-laid, length-contents, beyond, bodies-laid, nodes-laid}
 use Rattle.writing.proofs.Rules.{Rules, Small}
 
@@ -39,8 +39,8 @@ module _ (book : List ℕ) (ws : List Wanted) (ns : List Node) (r : Reads book w
   same-wanted = ap wants (r .contents) ∙ wants-laid (contentsEnd (length ws)) ws
 
   pub same-fault : contentsFault book ≡ wantedFault ws ns
-  unfolding contentsFault wantedFault
-  same-fault = λ k. cond (brokenb (r .lists k) (r .contents k) (r .size k)) CONTENTS TAKEN
+  unfolding contentsFaultUpTo wantedFaultUpTo
+  same-fault = λ k. cond (brokenb MOST-LISTS (r .lists k) (r .contents k) (r .size k)) CONTENTS TAKEN
 
   module _ (k : Rules (length ws) (contentsFor ws) (sizeFor ws ns)) where
     pub same-bodies : bodiesIn book ≡ bodiesFor ws ns
@@ -59,7 +59,7 @@ module _ (book : List ℕ) (ws : List Wanted) (ns : List Node) (r : Reads book w
         ∙ r .nodes-beyond
 
     pub same-check : bookVerdict book ≡ checkParts (wantedFault ws ns) (bodiesFor ws ns)
-    unfolding bookVerdict bodiesIn
+    unfolding bookVerdictUpTo bodiesIn
     same-check = λ t. checkParts (same-fault t) (same-bodies t)
 
 -- A written book has as many bytes as its lists and nodes take.

@@ -14,7 +14,7 @@ use Rattle.answers.specs.Output.{wordsIn}
 use Rattle.nodes.proofs.WordLaws.{nodes-of-words, length-words, words-of-nodes}
 use Rattle.contents.specs.Contents.{listsIn, contentsOf, contentsEnd, contentsFault}
 use Rattle.answers.specs.Verdict.{taken}
-use Rattle.books.specs.Book.{nodesOf, checkParts, bookVerdict}
+use Rattle.books.specs.Book.{nodesOf, checkParts, bookVerdictUpTo, bookVerdict}
 use Rattle.books.proofs.Answers.{parts-faultless}
 use Rattle.writing.specs.Back.{wantedIn, bodiesIn, entriesFrom, nodesFrom}
 use Rattle.writing.specs.Wanted.{WANTED-WORDS, wanted, wantedWords, contentsFor, bodiesFor, sizeFor, wantedFault, bookNumbers, bookBytes}
@@ -74,7 +74,7 @@ module _ (entries list : List ℕ) (t : checkWanted entries list .answer ≡ TAK
 -- What is read as a book is written back.
 module _ (book : List ℕ) (t : bookVerdict book .answer ≡ TAKEN) where
   faultless : contentsFault book ≡ TAKEN
-  unfolding bookVerdict
+  unfolding bookVerdictUpTo
   faultless = parts-faultless (contentsFault book) (map (nodesOf book) (contentsOf book)) t
 
   reads-book : Reads book (wantedIn book) (beyond (listsIn book) book)
@@ -93,6 +93,9 @@ module _ (book : List ℕ) (t : bookVerdict book .answer ≡ TAKEN) where
   entries-read : wanted (entriesFrom book) ≡ wantedIn book
   unfolding entriesFrom
   entries-read = wanted-of-words (wantedIn book)
+
+  pub lists-read : length (wanted (entriesFrom book)) ≡ listsIn book
+  lists-read = ap length entries-read ∙ sym (reads-book .lists)
 
   whole-entries : length (entriesFrom book) % WANTED-WORDS ≡ 0
   unfolding entriesFrom

@@ -19,10 +19,10 @@ use Rattle.laws.proofs.Choices.{all-map, any-none}
 use Rattle.laws.proofs.Tests.{or-none, not-none}
 use Rattle.numbers.specs.Little.{NODE-BYTES}
 use Rattle.contents.specs.declared.entry.Entry.{Entry}
-use Rattle.contents.specs.Contents.{MOST-LISTS, entryNumbers, listsIn, contentsOf, contentsEnd, ascendb, laidb, brokenb, contentsFault}
+use Rattle.contents.specs.Contents.{MOST-LISTS, entryNumbers, listsIn, contentsOf, contentsEnd, ascendb, laidb, brokenb, contentsFaultUpTo, contentsFault}
 use Rattle.lists.proofs.Faults.{skip}
 use Rattle.writing.specs.declared.wanted.Wanted.{Wanted}
-use Rattle.writing.specs.Wanted.{WANTED-WORDS, wanted, laidOut, contentsFor, sizeFor, wantedFault}
+use Rattle.writing.specs.Wanted.{WANTED-WORDS, wanted, laidOut, contentsFor, sizeFor, wantedFaultUpTo, wantedFault}
 use Rattle.writing.proofs.WantedLaws.{length-wanted}
 
 -- The rules that bound the numbers of a book.
@@ -31,7 +31,7 @@ pub record Rules (lists : ℕ) (es : List Entry) (size : ℕ) : Type 0 where
   pub short : All (λ e. e .count ≤ MOST-NODES) es
   pub laid : laidb (contentsEnd lists) es size ≡ true
 
-rules : (lists : ℕ) (es : List Entry) (size : ℕ) → brokenb lists es size ≡ false → Rules lists es size
+rules : (lists : ℕ) (es : List Entry) (size : ℕ) → brokenb MOST-LISTS lists es size ≡ false → Rules lists es size
 unfolding brokenb
 rules lists es size h =
     let p = or-none (ltb MOST-LISTS lists) h in
@@ -49,11 +49,11 @@ unbroken broken h = skip broken 14 TAKEN .0 h .0
 
 -- The rules of a book that is read, and of one that is to be written.
 pub rules-read : (book : List ℕ) → contentsFault book ≡ TAKEN → Rules (listsIn book) (contentsOf book) (length book)
-unfolding contentsFault
+unfolding contentsFaultUpTo
 rules-read book good = rules (listsIn book) (contentsOf book) (length book) (unbroken _ good)
 
 pub rules-written : (ws : List Wanted) (ns : List Node) → wantedFault ws ns ≡ TAKEN → Rules (length ws) (contentsFor ws) (sizeFor ws ns)
-unfolding wantedFault
+unfolding wantedFaultUpTo
 rules-written ws ns good = rules (length ws) (contentsFor ws) (sizeFor ws ns) (unbroken _ good)
 
 -- So there are few lists, and their counts, which are those of the contents, are small.

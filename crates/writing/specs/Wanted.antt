@@ -11,7 +11,7 @@ use Rattle.nodes.specs.Words.{wordsOf}
 use Rattle.answers.specs.Output.{wordsIn}
 use Rattle.numbers.specs.Little.{NODE-BYTES, bytesOf}
 use Rattle.contents.specs.declared.entry.Entry.{Entry}
-use Rattle.contents.specs.Contents.{entry, entryNumbers, contentsEnd, brokenb}
+use Rattle.contents.specs.Contents.{MOST-LISTS, entry, entryNumbers, contentsEnd, brokenb}
 use Rattle.writing.specs.declared.wanted.Wanted.{Wanted}
 
 -- A list that is wanted in the book: its tag and its node count.
@@ -55,10 +55,14 @@ bodiesFor (w ∷ ws) ns = take (w .count) ns ∷ bodiesFor ws (drop (w .count) n
 unfoldable pub sizeFor : List Wanted → List Node → ℕ
 sizeFor ws ns = contentsEnd (length ws) + NODE-BYTES * length ns
 
--- CONTENTS: the book's contents would break a rule. If the counts don't add up to the nodes, the
--- last body wouldn't end where the book does.
-unfoldable pub wantedFault : List Wanted → List Node → ℕ
-wantedFault ws ns = cond (brokenb (length ws) (contentsFor ws) (sizeFor ws ns)) CONTENTS TAKEN
+-- CONTENTS where a book may have up to `most` lists: the contents of this one would break a rule.
+-- If the counts don't add up to the nodes, the last body wouldn't end where the book does.
+unfoldable pub wantedFaultUpTo : ℕ → List Wanted → List Node → ℕ
+wantedFaultUpTo most ws ns = cond (brokenb most (length ws) (contentsFor ws) (sizeFor ws ns)) CONTENTS TAKEN
+
+-- The library's own answer.
+abbrev pub wantedFault : List Wanted → List Node → ℕ
+wantedFault ws ns = wantedFaultUpTo MOST-LISTS ws ns
 
 -- The numbers of the book: how many lists, the contents, and the nodes.
 unfoldable pub bookNumbers : List Wanted → List Node → List ℕ

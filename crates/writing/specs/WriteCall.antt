@@ -10,29 +10,28 @@ use Rattle.answers.specs.Output.{answerOf, ifTaken, outputOf}
 use Rattle.answers.specs.declared.verdict.Verdict.{Verdict}
 use Rattle.lists.specs.Check.{raggedb}
 use Rattle.answers.specs.Verdict.{ANCESTORS, verdict}
+use Rattle.contents.specs.Contents.{MOST-LISTS}
 use Rattle.books.specs.Book.{checkParts}
 use Rattle.answers.specs.declared.verdict.Counted.{Counted}
-use Rattle.writing.specs.Wanted.{wanted, raggedEntries, bodiesFor, wantedFault, bookBytes}
+use Rattle.writing.specs.Wanted.{wanted, raggedEntries, bodiesFor, wantedFaultUpTo, bookBytes}
 
--- A book to be written from entries and nodes, given as words.
-module _ (entries list : List ℕ) where
-  -- The verdict of the checks before ROOM: whole entries, whole nodes, CONTENTS, and the bodies in
-  -- order.
-  unfoldable pub checkWanted : Verdict
-  checkWanted =
-      cond (raggedEntries entries || raggedb list) (verdict RAGGED ANCESTORS 0)
-      (checkParts (wantedFault (wanted entries) (nodes list)) (bodiesFor (wanted entries) (nodes list)))
+-- The bytes of the book that entries and nodes make, given as words.
+unfoldable pub bytesFor : List ℕ → List ℕ → List ℕ
+bytesFor entries list = bookBytes (wanted entries) (nodes list)
 
-  -- The bytes of the book.
-  unfoldable pub bytesFor : List ℕ
-  bytesFor = bookBytes (wanted entries) (nodes list)
+-- The verdict of the checks before ROOM where a book may have up to `most` lists: whole entries,
+-- whole nodes, CONTENTS, and the bodies in order.
+unfoldable pub checkWantedUpTo : ℕ → List ℕ → List ℕ → Verdict
+checkWantedUpTo most entries list =
+    cond (raggedEntries entries || raggedb list) (verdict RAGGED ANCESTORS 0)
+    (checkParts (wantedFaultUpTo most (wanted entries) (nodes list)) (bodiesFor (wanted entries) (nodes list)))
 
--- A call with these entries, these nodes and an output.
-module _ (entries list out : List ℕ) where
+-- A call with these entries, these nodes and an output, where a book may have up to `most` lists.
+module _ (most : ℕ) (entries list out : List ℕ) where
   -- The call's answer, and how many bytes it wrote, none on refusal.
-  unfoldable pub writtenOf : Counted
-  writtenOf =
-      let v = checkWanted entries list in
+  unfoldable pub writtenOfUpTo : Counted
+  writtenOfUpTo =
+      let v = checkWantedUpTo most entries list in
       let book = bytesFor entries list in
       record {
         verdict = verdict (answerOf (v .answer) book out) (v .list) (v .index);
@@ -40,5 +39,15 @@ module _ (entries list out : List ℕ) where
       }
 
   -- The output on return: it begins with the book; on refusal it is as it was.
-  unfoldable pub writtenOutput : List ℕ
-  writtenOutput = outputOf (checkWanted entries list .answer) (bytesFor entries list) out
+  unfoldable pub writtenOutputUpTo : List ℕ
+  writtenOutputUpTo = outputOf (checkWantedUpTo most entries list .answer) (bytesFor entries list) out
+
+-- The library's own verdict, answer and output.
+abbrev pub checkWanted : List ℕ → List ℕ → Verdict
+checkWanted entries list = checkWantedUpTo MOST-LISTS entries list
+
+abbrev pub writtenOf : List ℕ → List ℕ → List ℕ → Counted
+writtenOf entries list out = writtenOfUpTo MOST-LISTS entries list out
+
+abbrev pub writtenOutput : List ℕ → List ℕ → List ℕ → List ℕ
+writtenOutput entries list out = writtenOutputUpTo MOST-LISTS entries list out

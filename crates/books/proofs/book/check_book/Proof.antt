@@ -12,17 +12,17 @@ use Rattle.numbers.specs.Little.{numberAt}
 use Rattle.contents.specs.Contents.{listsIn}
 use Rattle.answers.specs.declared.verdict.Verdict.{Verdict}
 use Rattle.answers.proofs.VerdictLaws.{refuses, accepts}
-use Rattle.books.specs.Book.{bookVerdict, opened, checkBook}
+use Rattle.books.specs.Book.{bookVerdict, opened, checkBookUpTo, checkBook}
 use Rattle.books.proofs.book.check_book.Statement.{statement}
 use Rattle.books.proofs.book.check_book.Tie as tie
 
 module _ (book : List ℕ) (v : Verdict) (q : v ≡ bookVerdict book) where
   refused : (v .answer ≡ TAKEN → ⊥) → opened v 0 ≡ checkBook book
-  unfolding checkBook
+  unfolding checkBookUpTo
   refused h = rw (← q, refuses v h)
 
   taken-with : v .answer ≡ TAKEN → (lists : ℕ) → lists ≡ numberAt book 0 → opened v lists ≡ checkBook book
-  unfolding checkBook listsIn
+  unfolding checkBookUpTo listsIn
   taken-with h lists n = rw (← q, accepts v h) (ap (opened v) n)
 
 verdict-on-requires : tie.Need-verdict-on-requires

@@ -12,17 +12,17 @@ use Rattle.answers.specs.Answer.{TAKEN}
 use Rattle.contents.specs.Contents.{contentsOf, contentsFault}
 use Rattle.answers.specs.declared.verdict.Verdict.{Verdict}
 use Rattle.answers.specs.Verdict.{ANCESTORS, verdict}
-use Rattle.books.specs.Book.{nodesOf, checkBodies, checkParts, bookVerdict}
+use Rattle.books.specs.Book.{nodesOf, checkBodies, checkParts, bookVerdictUpTo, bookVerdict}
 use Rattle.books.proofs.book.verdict_on.Statement.{statement}
 use Rattle.books.proofs.book.verdict_on.Tie as tie
 
 module _ (book : List ℕ) (fault : ℕ) (q : fault ≡ contentsFault book) (r : Verdict) where
   broken : (fault ≡ TAKEN → ⊥) → r ≡ verdict fault ANCESTORS 0 → r ≡ bookVerdict book
-  unfolding bookVerdict checkParts
+  unfolding bookVerdictUpTo checkParts
   broken h s = rw (← q, ne-eqb fault TAKEN h) s
 
   kept : fault ≡ TAKEN → r ≡ checkBodies 0 (map (nodesOf book) (contentsOf book)) → r ≡ bookVerdict book
-  unfolding bookVerdict checkParts
+  unfolding bookVerdictUpTo checkParts
   kept h s = rw (← q, eq-eqb fault TAKEN h) s
 
 contents-fault-requires : tie.Need-contents-fault-requires

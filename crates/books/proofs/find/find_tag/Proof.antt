@@ -17,14 +17,14 @@ use Rattle.contents.specs.Contents.{entriesIn, contentsOf}
 use Rattle.books.specs.declared.book.Opened.{Opened}
 use Rattle.books.specs.declared.find.Found.{Found}
 use Rattle.books.specs.Book.{bookVerdict, checkBook}
-use Rattle.books.specs.Find.{tagAt, foundAt, foundTag}
+use Rattle.books.specs.Find.{tagAt, foundAt, foundTagUpTo, foundTag}
 use Rattle.books.proofs.BookLaws.{opened-lists}
 use Rattle.books.proofs.FindLaws.{book-refused}
 use Rattle.books.proofs.find.find_tag.Statement.{statement}
 use Rattle.books.proofs.find.find_tag.Tie as tie
 
 sought : (book : List ℕ) (tag : ℕ) → foundAt book (tagAt tag (take (checkBook book .lists) (entriesIn book))) ≡ foundTag book tag
-unfolding foundTag contentsOf
+unfolding foundTagUpTo contentsOf
 sought book tag =
     elim (either (eqb (bookVerdict book .answer) TAKEN)) [
       | inl h ↦ rw (opened-lists book (eqb-true (bookVerdict book .answer) TAKEN h))

@@ -9,8 +9,9 @@ use mathlib.Core.List.{List, []}
 use Prim.Native.Nat.{ℕ}
 use native.Mathlib.Omega.{arith}
 use Rattle.answers.specs.Answer.{TAKEN}
+use Rattle.contents.specs.Contents.{MOST-LISTS}
 use Rattle.books.specs.declared.book.Opened.{Opened}
-use Rattle.books.specs.Book.{bookVerdict, checkBook}
+use Rattle.books.specs.Book.{bookVerdict, checkBookUpTo, checkBook}
 use Rattle.readers.specs.Reader.{keptOf}
 use Rattle.readers.proofs.Kept.{kept-nothing, kept-whole}
 use Rattle.readers.proofs.opening.kept_part.Statement.{statement}
@@ -19,11 +20,11 @@ use Rattle.readers.proofs.opening.kept_part.Tie as tie
 module _ (book : List ℕ) (o : Opened) (e : o ≡ checkBook book) where
   -- The verdict is the book's own.
   own : o .verdict .answer ≡ bookVerdict book .answer
-  unfolding checkBook
+  unfolding checkBookUpTo
   own = ap (λ p. p .verdict .answer) e
 
   refused : (o .verdict .answer ≡ TAKEN → ⊥) → [] ≡ keptOf book
-  refused h = sym (kept-nothing book (λ t. h (own ∙ t)))
+  refused h = sym (kept-nothing MOST-LISTS book (λ t. h (own ∙ t)))
 
   accepted : o .verdict .answer ≡ TAKEN → book ≡ keptOf book
   accepted h = sym (kept-whole book (sym own ∙ h))

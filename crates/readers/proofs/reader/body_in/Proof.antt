@@ -41,7 +41,7 @@ use denote.Triple.Walked.{says, Stays, stay-none, stay-none-slice, walkOf, goes-
 use denote.Exit.{yes}
 use denote.Triple.Clauses.{ensured, lasts}
 use Rattle.books.specs.Find.{tagBody, tagPlace}
-use Rattle.readers.specs.Reader.{keptOf, keptLists, keptBody, keptPlace}
+use Rattle.readers.specs.Reader.{keptOf, keptLists, keptBodyUpTo, keptBody, keptPlaceUpTo, keptPlace}
 use Rattle.readers.specs.declared.reader.Reader.{Reader}
 use Rattle.readers.proofs.reader.Reader as T
 use Rattle.readers.proofs.reader.Reader.Laws as T′
@@ -65,11 +65,11 @@ stayed = (stay-none-slice (0 ∷ []) tt (plain (λ _. u8)) yes, (stay-none (λ _
 -- The tag's body in the part that is kept is `keptBody`, and lies where that lies.
 module _ (part bytes : List ℕ) (lists tag : ℕ) (p : part ≡ keptOf bytes) (l : lists ≡ keptLists bytes) where
   body-kept : tagBody part lists tag ≡ keptBody bytes tag
-  unfolding keptBody
+  unfolding keptBodyUpTo
   body-kept = rw (p, l) refl
 
   place-kept : (at start : ℕ × ℕ) → at ≡ start → tagPlace at part lists tag ≡ keptPlace start bytes tag
-  unfolding keptPlace
+  unfolding keptPlaceUpTo
   place-kept at start e = rw (p, l, e) refl
 
 module _ {M : Type 1} (𝓤 : URA M) (H : Heap 𝓤) (A : Atoms 𝓤) (mem : Memory → SProp 𝓤) (run : Routine → Fun 𝓤) where

@@ -41,7 +41,7 @@ use denote.Triple.Walked.{says, Stays, stay-none-slice, walkOf, goes-none-slice,
 use denote.Exit.{yes}
 use denote.Triple.Clauses.{ensured, lasts}
 use Rattle.contents.specs.Contents.{listsIn}
-use Rattle.readers.specs.Reader.{keptOf, keptLists}
+use Rattle.readers.specs.Reader.{keptOf, keptListsUpTo, keptLists}
 use Rattle.readers.specs.declared.reader.Reader.{Reader}
 use Rattle.readers.proofs.ReaderType.{B, D, L}
 use Rattle.readers.proofs.opening.kept_part as keeping
@@ -66,7 +66,7 @@ stayed = (stay-none-slice (0 ∷ []) tt (plain (λ _. u8)) yes, tt)
 
 -- The number of lists in the part that is kept is `keptLists`.
 lists-kept : (part bytes : List ℕ) (n : ℕ) → part ≡ keptOf bytes → n ≡ listsIn part → n ≡ keptLists bytes
-unfolding keptLists
+unfolding keptListsUpTo
 lists-kept part bytes n p e = e ∙ ap listsIn p
 
 module _ {M : Type 1} (𝓤 : URA M) (H : Heap 𝓤) (A : Atoms 𝓤) (mem : Memory → SProp 𝓤) (run : Routine → Fun 𝓤) where

@@ -18,7 +18,7 @@ use Rattle.contents.specs.Contents.{MOST-LISTS, contentsEnd}
 use Rattle.contents.specs.Passing.{startOf, stepAnswer}
 use Rattle.contents.specs.Private.Walk.{Kept}
 use Rattle.contents.proofs.ContentLaws.{walk-answers, many-broken}
-use Rattle.writing.specs.Wanted.{WANTED-WORDS, wanted, contentsFor, sizeFor, wantedFault}
+use Rattle.writing.specs.Wanted.{WANTED-WORDS, wanted, contentsFor, sizeFor, wantedFaultUpTo, wantedFault}
 use Rattle.writing.proofs.WantedLaws.{length-wanted}
 use Rattle.writing.proofs.check.wanted_fault.Statement.{statement}
 use Rattle.writing.proofs.check.wanted_fault.Tie as tie
@@ -28,10 +28,10 @@ module _ (entries list : List ℕ) (lists : ℕ) (n : lists ≡ length entries /
   same-lists = n ∙ sym (length-wanted entries)
 
   too-many : MOST-LISTS < lists → _≡_ {A = ℕ} CONTENTS (wantedFault (wanted entries) (nodes list))
-  unfolding wantedFault
+  unfolding wantedFaultUpTo
   too-many h =
       let e = same-lists in
-      rw (many-broken (length (wanted entries)) (contentsFor (wanted entries)) (sizeFor (wanted entries) (nodes list)) (omega arith))
+      rw (many-broken MOST-LISTS (length (wanted entries)) (contentsFor (wanted entries)) (sizeFor (wanted entries) (nodes list)) (omega arith))
 
   -- The size that the book will have.
   sized : length list % NODE-WORDS ≡ 0 → (end : ℕ) → end ≡ contentsEnd lists → end + 4 * length list ≡ sizeFor (wanted entries) (nodes list)
@@ -44,10 +44,10 @@ module _ (entries list : List ℕ) (lists : ℕ) (n : lists ≡ length entries /
   module _ (few : lists ≤ MOST-LISTS) (r : Step) (k : Kept (startOf (length entries / WANTED-WORDS)) (contentsFor (wanted entries)) r) where
     answers : (size : ℕ) → size ≡ sizeFor (wanted entries) (nodes list) → (answer : ℕ) → answer ≡ stepAnswer r size
         → answer ≡ wantedFault (wanted entries) (nodes list)
-    unfolding wantedFault
+    unfolding wantedFaultUpTo
     answers size q answer e =
         let l = same-lists in
-        e ∙ rw q (walk-answers (length (wanted entries)) (contentsFor (wanted entries)) _ (omega arith) r (rw (← length-wanted entries) at k))
+        e ∙ rw q (walk-answers MOST-LISTS (length (wanted entries)) (contentsFor (wanted entries)) _ (omega arith) r (rw (← length-wanted entries) at k))
 
 wanted-count-requires : tie.Need-wanted-count-requires
 wanted-count-requires c κs = search needs
