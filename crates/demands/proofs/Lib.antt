@@ -4,7 +4,8 @@
 -- into pieces. `Readings` states the demands on lab readings, `Sheets` those on zone sheets,
 -- `Questions` those on several questions in one call, and `Linked` those on links that are lent.
 -- `Sizes` is about trees numbered by order and size, and `Rules` about lists made for the stricter
--- rule of what is inside. `Promised` has what else is promised.
+-- rule of what is inside. `Limits` compares books under two limits of lists. `Promised` has what
+-- else is promised.
 pub mod Demands
 pub mod Outputs
 pub mod Marks
@@ -16,4 +17,5 @@ pub mod Questions
 pub mod Linked
 pub mod Sizes
 pub mod Rules
+pub mod Limits
 pub mod Promised

@@ -34,7 +34,7 @@ use Rattle.forest.proofs.LinkLaws.{links-length}
 use Rattle.tickets.specs.PairWords.{PAIR-WORDS}
 use Rattle.sheets.specs.Sheet.{SUBTOTAL-WORDS, sheetIn, checkSheet, sheetOf, sheetOutput}
 use Rattle.sheets.proofs.Answered.{sheet-length}
-use Rattle.writing.specs.WriteCall.{checkWanted, bytesFor, writtenOf, writtenOutput}
+use Rattle.writing.specs.WriteCall.{checkWanted, bytesFor, writtenOfUpTo, writtenOf, writtenOutputUpTo, writtenOutput}
 use Rattle.joins.specs.declared.copy.Lengths.{Lengths}
 use Rattle.joins.specs.Join.{tagWords, thereb, fitb, copyAnswer, lengthsOf, firstAfter, secondAfter}
 use Rattle.questions.specs.declared.ask.Pages.{Pages}
@@ -158,13 +158,13 @@ module _ (entries list out : List ℕ) where
 
   -- a refusal counts no byte and alters none,
   pub refused-book-alters-nothing : AltersNothing (writing .verdict .answer) (writing .count) out (writtenOutput entries list out)
-  unfolding writtenOf writtenOutput
+  unfolding writtenOfUpTo writtenOutputUpTo
   refused-book-alters-nothing =
       refused-alters-nothing (checkWanted entries list .answer) (bytesFor entries list) out (length (bytesFor entries list))
 
   -- and no byte after those that it counts is altered.
   pub book-keeps-beyond : KeepsBeyond (writing .count) out (writtenOutput entries list out)
-  unfolding writtenOf writtenOutput
+  unfolding writtenOfUpTo writtenOutputUpTo
   book-keeps-beyond =
       let fault = checkWanted entries list .answer in
       let bytes = bytesFor entries list in
