@@ -36,16 +36,16 @@ use Rattle.sheets.specs.Hundredths.{missingb, faultyWordb}
 use Rattle.sheets.specs.Sheet.{labSamples, insideZone, sumOf, subtotalOver, subtotalWords, sheetSubtotals, sheetIn, matchedb, checkSheet, sheetOf, sheetOutput}
 use Rattle.numbers.specs.Little.{little, bytesOf, numbers, numberAt}
 use Rattle.numbers.specs.Part.{partOf}
-use Rattle.contents.specs.Contents.{entries, entryNumbers, listsIn, entriesIn, entryAt, contentsOf, contentsEnd, ascendb, laidb, brokenb, contentsFault}
-use Rattle.books.specs.Book.{bodyOf, nodesOf, checkBodies, checkParts, bookVerdict}
+use Rattle.contents.specs.Contents.{entries, entryNumbers, listsIn, entriesIn, entryAt, contentsOf, contentsEnd, ascendb, laidb, brokenb, contentsFaultUpTo}
+use Rattle.books.specs.Book.{bodyOf, nodesOf, checkBodies, checkParts, bookVerdictUpTo, checkBookUpTo}
 use Rattle.books.specs.Find.{tagAt, hasTag, tagEntry, tagBody}
-use Rattle.writing.specs.Wanted.{wanted, laidOut, contentsFor, bookNumbers, bookBytes}
-use Rattle.writing.specs.WriteCall.{bytesFor}
+use Rattle.writing.specs.Wanted.{wanted, raggedEntries, laidOut, contentsFor, bodiesFor, sizeFor, wantedFaultUpTo, bookNumbers, bookBytes}
+use Rattle.writing.specs.WriteCall.{bytesFor, checkWantedUpTo, writtenOfUpTo, writtenOutputUpTo}
 use Rattle.joins.specs.Join.{tagWords, thereb}
 use Rattle.ticket_words.specs.Page.{shownPage}
 use Rattle.ticket_words.specs.Words.{relationOf, orderOf, placeOf, ticketOf, ticketBack}
 use Rattle.questions.specs.Question.{questionsIn, checkQuestions}
-use Rattle.questions.specs.Ask.{findLists, pageTo, outputTo, wordsTaken, pagesTo, outputAfterAll, refusedPages, padded, askOf, askOutput}
+use Rattle.questions.specs.Ask.{findListsUpTo, pageToUpTo, outputToUpTo, wordsTakenUpTo, pagesToUpTo, outputAfterAllUpTo, refusedPages, padded, askOfUpTo, askOutputUpTo}
 use Rattle.laws.proofs.Equal.{equal-read}
 use Rattle.laws.proofs.Tests.{and-read}
 use Rattle.figures.specs.Figures.{Figure, figures, heldb}
@@ -69,9 +69,10 @@ unfolding figures equalb heldb checkWords wordFault raggedb longb nodes checkNod
     labels listOf treeWords ofInt ofBits toBits div lt nodeAt firstAt withinb decode sampled pairedb inZone present unbeaten lowOf highOf rangeOf zoneRange
     missingb faultyWordb labSamples insideZone sumOf subtotalOver subtotalWords sheetSubtotals sheetIn matchedb checkSheet sheetOf sheetOutput
     little bytesOf numbers numberAt partOf entries entryNumbers listsIn entriesIn entryAt contentsOf contentsEnd ascendb laidb brokenb
-    contentsFault bodyOf nodesOf checkBodies checkParts bookVerdict tagAt hasTag tagEntry tagBody wanted laidOut contentsFor bookNumbers bookBytes
-    bytesFor tagWords thereb shownPage relationOf orderOf placeOf ticketOf ticketBack questionsIn checkQuestions findLists pageTo outputTo wordsTaken
-    pagesTo outputAfterAll refusedPages padded askOf askOutput
+    contentsFaultUpTo bodyOf nodesOf checkBodies checkParts bookVerdictUpTo checkBookUpTo tagAt hasTag tagEntry tagBody wanted raggedEntries laidOut contentsFor
+    bodiesFor sizeFor wantedFaultUpTo bookNumbers bookBytes checkWantedUpTo writtenOfUpTo writtenOutputUpTo
+    bytesFor tagWords thereb shownPage relationOf orderOf placeOf ticketOf ticketBack questionsIn checkQuestions findListsUpTo pageToUpTo outputToUpTo wordsTakenUpTo
+    pagesToUpTo outputAfterAllUpTo refusedPages padded askOfUpTo askOutputUpTo
 computed = refl
 
 -- Each row's numbers are those that docs/SCOPE.md states.

@@ -1,6 +1,6 @@
 -- docs/SCOPE.md, "Figures to hold against it": the cases marked [P] and some of our own, as rows of
 -- one table. Each row has its number above it.
-use Prim.Native.Nat.{ℕ, zero, suc, _+_, _*_}
+use Prim.Native.Nat.{ℕ, zero, suc, _+_, _*_, _/_, _%_}
 use mathlib.Core.Bool.{Bool, true, cond, _&&_}
 use mathlib.Core.List.{List, [], _∷_, _++_, map, flatMap}
 use lib.Ieee.{binary32, toBits}
@@ -42,7 +42,9 @@ use Rattle.linked.specs.Following.{Lent, LentCall, answerLent, outputLent, show
 use Rattle.linked.specs.Following.Lent.{nothing, words as lent}
 use Rattle.sheets.specs.Hundredths.{NO-HUNDREDTHS}
 use Rattle.sheets.specs.Sheet.{SUBTOTAL-WORDS, sheetOf, sheetOutput}
-use Rattle.writing.specs.WriteCall.{bytesFor}
+use Rattle.contents.specs.Contents.{MOST-LISTS, EARLIER-LISTS}
+use Rattle.books.specs.Book.{checkBookUpTo}
+use Rattle.writing.specs.WriteCall.{bytesFor, writtenOfUpTo, writtenOutputUpTo}
 use Rattle.ticket_words.specs.declared.page.PageWords.{PageWords}
 use Rattle.questions.specs.Ask.{askOf, askOutput}
 
@@ -340,6 +342,45 @@ downFrom (suc n) = (suc n, suc n, suc n) ∷ downFrom n
 -- The bytes of a book of lists, each given with its tag.
 abbrev pub bookOf : List (ℕ × Nodes) → List ℕ
 bookOf lists = bytesFor (flatMap (λ l. l .0 ∷ length (l .1) ∷ []) lists) (flatMap (λ l. words (l .1)) lists)
+
+-- Empty lists, `count` of them, under tags that go on after `tag`.
+abbrev pub emptyAfter : ℕ → ℕ → List (ℕ × Nodes)
+emptyAfter tag zero = []
+emptyAfter tag (suc count) = (suc tag, []) ∷ emptyAfter (suc tag) count
+
+-- The bytes that stand for such lists in a book's contents. For each there are the tag, the book's
+-- `size` as the place of its body, and no nodes. Tags are below 256, and the size below 65,536.
+abbrev pub emptyEntries : ℕ → ℕ → ℕ → List ℕ
+emptyEntries size tag zero = []
+emptyEntries size tag (suc count) =
+    suc tag ∷ 0 ∷ 0 ∷ 0 ∷ (size % 256) ∷ (size / 256) ∷ 0 ∷ 0 ∷ 0 ∷ 0 ∷ 0 ∷ 0 ∷ emptyEntries size (suc tag) count
+
+-- What is found of `count` empty lists where a book may have up to `most`. Opening their book,
+-- which is made without a check, gives a verdict and a number of lists. Writing it gives a verdict,
+-- a number of bytes, and the output, which has room for one byte more.
+abbrev pub emptyLists : ℕ → ℕ → List ℕ
+emptyLists most count =
+    let entries = flatMap (λ l. l .0 ∷ 0 ∷ []) (emptyAfter 0 count) in
+    let book = bookOf (emptyAfter 0 count) in
+    let out : List ℕ = replicate (length book + 1) UNTOUCHED in
+    let o = checkBookUpTo most book in
+    let w = writtenOfUpTo most entries [] out in
+    verdictNumbers (o .verdict) ++ (o .lists ∷ verdictNumbers (w .verdict) ++ (w .count ∷ writtenOutputUpTo most entries [] out))
+
+-- A figure of empty lists that are read and written, with their book's number of bytes,
+abbrev pub manyTaken : ℕ → ℕ → ℕ → Figure
+manyTaken most count size = record {
+  found = emptyLists most count;
+  stated =
+      TAKEN ∷ ANCESTORS ∷ 0 ∷ count ∷ TAKEN ∷ ANCESTORS ∷ 0 ∷ size ∷ count ∷ 0 ∷ 0 ∷ 0 ∷ emptyEntries size 0 count ++ (UNTOUCHED ∷ []);
+}
+
+-- and of empty lists that are refused in both.
+abbrev pub manyRefused : ℕ → ℕ → ℕ → Figure
+manyRefused most count size = record {
+  found = emptyLists most count;
+  stated = CONTENTS ∷ ANCESTORS ∷ 0 ∷ 0 ∷ CONTENTS ∷ ANCESTORS ∷ 0 ∷ 0 ∷ replicate (size + 1) UNTOUCHED;
+}
 
 -- The scope's book: Z and S under their tags, and under 4 a list that is JOINT with Z.
 abbrev pub B : List ℕ
@@ -780,6 +821,24 @@ figures =
     ∷ jumps Inside Descendant (lentCall 1 (words Z) (words ((8, 9, 3) ∷ (4, 6, 4) ∷ [])) (lent []) ∷ []) (untouched ORDER 1)
     -- 160: empty lists with empty links.
     ∷ jumps Inside Ancestor (lentCall 0 [] [] (lent []) ∷ []) (done [])
+    -- 161: 16 empty lists are read and written.
+    ∷ manyTaken MOST-LISTS 16 196
+    -- 162: so are 17,
+    ∷ manyTaken MOST-LISTS 17 208
+    -- 163: and 64.
+    ∷ manyTaken MOST-LISTS 64 772
+    -- 164: 65 are CONTENTS in both.
+    ∷ manyRefused MOST-LISTS 65 784
+    -- 165: under the limit of earlier programs, 16 are read and written.
+    ∷ manyTaken EARLIER-LISTS 16 196
+    -- 166: under that limit 17 are CONTENTS in both,
+    ∷ manyRefused EARLIER-LISTS 17 208
+    -- 167: so are 64,
+    ∷ manyRefused EARLIER-LISTS 64 772
+    -- 168: and 65.
+    ∷ manyRefused EARLIER-LISTS 65 784
+    -- 169: Z and S as the first and the last of 64 lists.
+    ∷ batch (bookOf ((1, Z) ∷ emptyAfter 1 62 ++ ((64, S) ∷ []))) (asks 1 64 ∷ []) 8 TAKEN 1 (pageUpTo 1 3 8 2 ∷ []) ((2, 4) ∷ (3, 4) ∷ (2, 8) ∷ [])
     ∷ []
 
 -- Every row has found what is stated.

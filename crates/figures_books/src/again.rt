@@ -6,6 +6,7 @@ use crate::say::say_verdict;
 use answers::answer::TAKEN;
 use answers::verdict::Counted;
 use check::same;
+use contents::entry::MOST_LISTS;
 use contents::entry::contents_end;
 use contents::entry::entry_at;
 use contents::entry::entry_count;
@@ -14,11 +15,12 @@ use numbers::little::number_at;
 use numbers::part::copy_numbers;
 use numbers::part::part_of;
 use writing::write::write_book;
-ghost use Prim.Native.Nat.{_*_, _≤_};
+ghost use Prim.Native.Nat.{_*_, _+_, _≤_};
 ghost use lib.ListN.{length};
+ghost use Rattle.contents.specs.Contents.{MOST-LISTS};
 
 // The most entries that are taken over: one more than a book may have.
-const MOST_ENTRIES: usize = 17;
+const MOST_ENTRIES: usize = MOST_LISTS as usize + 1;
 
 // The number of words of nodes that there is room for.
 const MOST_WORDS: usize = 16400;
@@ -45,7 +47,7 @@ fn lesser(a: usize, b: usize) -> usize
 // Returns the number of entries of `book` that are taken over: as many as it says it has, as there
 // are, and as there is room for.
 fn taken_over(book: &[u8]) -> usize
-    ensures { λ r. ⌜ r ≤ 17 ⌝ }
+    ensures { λ r. ⌜ r ≤ MOST-LISTS + 1 ⌝ }
 {
     let said = lesser(number_at(book, 0) as usize, MOST_ENTRIES);
     lesser(entry_count(book), said)
