@@ -60,7 +60,7 @@ extern "C" {
 
 /* The version of the library that this header belongs to. It rises when something here changes:
  * belfry_version returns that of the archive, and the two have to be equal. */
-#define BELFRY_VERSION 5
+#define BELFRY_VERSION 6
 
 /* A call of words takes no null, and an answer that nobody looks at may be a refusal. A compiler
  * that has these attributes warns of a null and of a dropped answer. */
@@ -79,8 +79,9 @@ extern "C" {
 #define BELFRY_MOST_LEVELS 64
 /* The most nodes of a list that contain one node, since levels rise on the way in. */
 #define BELFRY_MOST_CONTAINING (BELFRY_MOST_LEVELS - 1)
-/* The most lists of a book. */
-#define BELFRY_MOST_LISTS 16
+/* The most lists of a book. A library of version 5 or earlier takes 16, and answers CONTENTS to a
+ * book with more. */
+#define BELFRY_MOST_LISTS 64
 /* The most questions of one call. */
 #define BELFRY_MOST_QUESTIONS 32
 /* The most bytes of a book that the printing program takes. The calls below have no such limit. */
@@ -562,8 +563,8 @@ BELFRY_NONNULL
 belfry_body belfry_book_body(const uint8_t *book, size_t bytes, uint32_t tag);
 
 /* Writes a book. It reads the entries, a tag and a number of nodes for each list, and the nodes of
- * all lists one after the other. It writes the book, which takes BELFRY_BOOK_BYTES. Tags must
- * ascend, and the numbers must add up to the nodes.
+ * all lists one after the other. It writes the book, which takes BELFRY_BOOK_BYTES. There are at
+ * most BELFRY_MOST_LISTS lists, their tags must ascend, and the numbers must add up to the nodes.
  * Answers: RAGGED, CONTENTS, then LEVEL to DEPTH for the first list at fault, with its place and
  * the node's index in that list, then ROOM.
  * Takes at most 800 bytes of stack. */

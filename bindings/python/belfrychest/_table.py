@@ -1,12 +1,12 @@
 """The version, the limits of the C header, and the answers. Written by bin/tables."""
 from enum import IntEnum
 
-__version__ = "5"
+__version__ = "6"
 
 MOST_NODES = 4096
 MOST_LEVELS = 64
 MOST_CONTAINING = 63
-MOST_LISTS = 16
+MOST_LISTS = 64
 MOST_QUESTIONS = 32
 PRINTED_BYTES = 61440
 PAGE_PAIRS = 4096
@@ -127,7 +127,7 @@ HINTS = {
     ),
     Answer.CONTENTS: (
         "Write the book again: it is no book, or cut off, or damaged. In writing, let each tag be "
-        "above the one before it, and the counts add up to the nodes. There are at most 16 lists "
+        "above the one before it, and the counts add up to the nodes. There are at most 64 lists "
         "of at most 4,096 nodes."
     ),
     Answer.ABSENT: (

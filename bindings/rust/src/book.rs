@@ -40,8 +40,9 @@ pub fn book_bytes(lists: usize, nodes: usize) -> usize {
     NUMBER_BYTES * (1 + CONTENTS_NUMBERS * lists + NODE_WORDS * nodes)
 }
 
-/// Returns the book of the lists that the entries name and whose nodes are given one after the
-/// other. Refused with CONTENTS, then LEVEL to DEPTH as [`book_check`] is.
+/// Returns the book of the lists that the entries name, at most
+/// [`MOST_LISTS`](crate::MOST_LISTS), and whose nodes are given one after the other. Refused with
+/// CONTENTS, then LEVEL to DEPTH as [`book_check`] is.
 pub fn book_write(entries: &[Entry], nodes: &[Node]) -> Result<Vec<u8>, Refusal> {
     let mut out = vec![0; book_bytes(entries.len(), nodes.len())];
     let count = book_write_into(entries, nodes, &mut out)?;

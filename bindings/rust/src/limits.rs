@@ -7,8 +7,9 @@ pub const MOST_NODES: usize = 4096;
 pub const MOST_LEVELS: usize = 64;
 /// The most nodes of a list that contain one node, since levels rise on the way in.
 pub const MOST_CONTAINING: usize = MOST_LEVELS - 1;
-/// The most lists of a book.
-pub const MOST_LISTS: usize = 16;
+/// The most lists of a book. A library of version 5 or earlier takes 16, and answers CONTENTS to a
+/// book with more.
+pub const MOST_LISTS: usize = 64;
 /// The most questions of one call.
 pub const MOST_QUESTIONS: usize = 32;
 /// The most bytes of a book that the printing program takes. The calls have no such limit.

@@ -1,7 +1,7 @@
 //! The version, the answers and their hints. Written by bin/tables.
 
 /// The version of the library that this crate is made for.
-pub const VERSION: u32 = 5;
+pub const VERSION: u32 = 6;
 
 /// What a call can answer, by the numbers of docs/SCOPE.md, Answer numbers.
 #[derive(Clone, Copy, Debug, PartialEq, Eq, Hash)]
@@ -114,7 +114,7 @@ pub(crate) const ROWS: &[(Answer, &str)] = &[
     (
         Answer::Contents,
         "Write the book again: it is no book, or cut off, or damaged. In writing, let each tag be \
-        above the one before it, and the counts add up to the nodes. There are at most 16 lists \
+        above the one before it, and the counts add up to the nodes. There are at most 64 lists \
         of at most 4,096 nodes.",
     ),
     (

@@ -3,4 +3,4 @@
 use Prim.Native.Nat.{ℕ}
 
 abbrev pub VERSION : ℕ
-VERSION = 5
+VERSION = 6
