@@ -374,11 +374,13 @@ static void ask_refused(size_t words, uint32_t answer, size_t pages) {
     expect_output(out, sizeof out, out, 0);
 }
 
+/* All pairs of the zones and the samples. */
+static const uint32_t all_pairs[] = {5, 2, 10, 2, 5, 4, 6,  4, 5, 3, 7, 3,
+                                     5, 4, 6,  4, 5, 2, 10, 2, 5, 8, 9, 3};
+
 /* Asks as many questions as a call takes, each with the room that is left: the first one takes
  * all. */
 static void ask_most(void) {
-    const uint32_t pairs[] = {5, 2, 10, 2, 5, 4, 6,  4, 5, 3, 7, 3,
-                              5, 4, 6,  4, 5, 2, 10, 2, 5, 8, 9, 3};
     uint32_t questions[BELFRY_MOST_QUESTIONS * BELFRY_QUESTION_WORDS], out[MOST];
     uint8_t book[BELFRY_BOOK_BYTES(2, 4)];
     write_book(book, sizeof book);
@@ -392,7 +394,84 @@ static void ask_most(void) {
         const belfry_page other = {{BELFRY_TAKEN, 0, 0}, 0, 0, asked[0].ticket};
         expect_asked("a page of 32", found.pages[i], i == 0 ? first : other);
     }
-    expect_output(out, sizeof out, pairs, sizeof pairs);
+    expect_output(out, sizeof out, all_pairs, sizeof all_pairs);
+}
+
+/* The bytes of a book of as many lists as it may have, with the zones in the first and the samples
+ * in the last. */
+enum { MANY = BELFRY_MOST_LISTS, MANY_BYTES = BELFRY_BOOK_BYTES(MANY, 4) };
+
+/* Writes the entries of such a book of `lists` lists. Their tags are 1, 2, 3 and so on. */
+static void write_many_entries(uint32_t *many, size_t lists) {
+    for (uint32_t i = 0; i < lists; i++) {
+        many[2 * i] = i + 1;
+        many[2 * i + 1] = i == 0 || i + 1 == lists ? 2 : 0;
+    }
+}
+
+/* Writes that book into as much room as it needs, into a byte less, and with a list more. */
+static void write_many(uint8_t *book) {
+    uint32_t many[2 * (MANY + 1)];
+    uint8_t untouched[MANY_BYTES + 12];
+    write_many_entries(many, MANY);
+    belfry_result written = belfry_book_write(many, 2 * MANY, nodes, 16, book, MANY_BYTES);
+    expect_verdict("belfry_book_write, 64 lists", written.verdict, BELFRY_TAKEN, 0, 0);
+    expect("count", written.count, 836);
+
+    memset(untouched, PAINT, sizeof untouched);
+    written = belfry_book_write(many, 2 * MANY, nodes, 16, untouched, MANY_BYTES - 1);
+    expect_verdict("belfry_book_write, a byte less", written.verdict, BELFRY_ROOM, 0, 0);
+    write_many_entries(many, MANY + 1);
+    written = belfry_book_write(many, 2 * (MANY + 1), nodes, 16, untouched, sizeof untouched);
+    expect_verdict("belfry_book_write, 65 lists", written.verdict, BELFRY_CONTENTS, 0, 0);
+    expect("count", written.count, 0);
+    expect_output(untouched, sizeof untouched, untouched, 0);
+}
+
+/* Reads the book: its contents number by number, its first and its last list, and the book with a
+ * list more in its first number. */
+static void read_many(uint8_t *book) {
+    expect("the number of lists", number_at(book, 0), 64);
+    for (uint32_t i = 0; i < MANY; i++) {
+        expect("a tag", number_at(book, 1 + 3 * i), i + 1);
+        expect("an offset", number_at(book, 2 + 3 * i), i == 0 ? 772 : 804);
+        expect("a count", number_at(book, 3 + 3 * i), i == 0 || i == 63 ? 2 : 0);
+    }
+    expect("the lists", belfry_book_check(book, MANY_BYTES).lists, 64);
+    expect("the first list", belfry_book_body(book, MANY_BYTES, 1).from, 772);
+    expect("the last list", belfry_book_body(book, MANY_BYTES, 64).from, 804);
+    expect("the last list's bytes", belfry_book_body(book, MANY_BYTES, 64).bytes, 32);
+    expect("no list", belfry_book_body(book, MANY_BYTES, 65).verdict.answer, BELFRY_ABSENT);
+    book[0] = MANY + 1;
+    belfry_book refused = belfry_book_check(book, MANY_BYTES);
+    expect_verdict("belfry_book_check, 65 lists", refused.verdict, BELFRY_CONTENTS, 0, 0);
+    expect("lists", refused.lists, 0);
+    book[0] = MANY;
+}
+
+/* Asks the book about its first and its last list, and about one that it hasn't. */
+static void ask_many(const uint8_t *book) {
+    const belfry_question about[] = {{1, 64, {BELFRY_INSIDE, 0, BELFRY_FRESH, 0, 0, 0}},
+                                     {64, 1, {BELFRY_INSIDE, 0, BELFRY_FRESH, 0, 0, 0}},
+                                     {1, 65, {BELFRY_INSIDE, 0, BELFRY_FRESH, 0, 0, 0}}};
+    const belfry_page wanted[] = {{{BELFRY_TAKEN, 0, 0}, 1, 3, {0, 0, BELFRY_PLACED, 5, 8, 2}},
+                                  {{BELFRY_TAKEN, 0, 0}, 1, 0, about[1].ticket},
+                                  {{BELFRY_ABSENT, 0, 0}, 0, 0, about[2].ticket}};
+    uint32_t questions[3 * BELFRY_QUESTION_WORDS], out[MOST];
+    write_questions(about, 3, questions);
+    memset(out, PAINT, sizeof out);
+    const belfry_pages found = belfry_ask(book, MANY_BYTES, questions, 24, out, MOST);
+    expect_whole("belfry_ask, 64 lists", &found, BELFRY_TAKEN, 3, 3);
+    for (size_t i = 0; i < 3; i++)
+        expect_asked("a page of belfry_ask, 64 lists", found.pages[i], wanted[i]);
+    expect_output(out, sizeof out, all_pairs, sizeof all_pairs);
+}
+
+static void call_many_lists(void) {
+    uint8_t book[MANY_BYTES];
+    write_many(book);
+    read_many(book);
+    ask_many(book);
 }
 
 static void call_refused_asks(void) {
@@ -441,6 +520,7 @@ int main(void) {
     call_ask();
     ask_faulty_book();
     ask_most();
+    call_many_lists();
     call_refused_asks();
     call_name();
     return differing;

@@ -50,8 +50,21 @@ def with_node(position, node):
     return book((2, Z), (3, samples))
 
 
-def with_more_lists(count):
-    return book((2, Z), (3, S), *[(4 + k, ONE) for k in range(count)])
+def with_lists(count):
+    """Returns the figure's book with more lists after its two, so that there are `count`."""
+    return book((2, Z), (3, S), *[(2 + k, ONE) for k in range(2, count)])
+
+
+def shared_out(lists, nodes, end=b""):
+    """Returns a book of this many lists, with tags from 1 on, and the bytes after its end. The
+    nodes are shared out among them: zones side by side in the first list, samples in the others.
+    Those of the second list lie in every tenth zone.
+    """
+    def of_list(k):
+        count = nodes // lists + (k < nodes % lists)
+        starts = range(k + 1, k + 1 + 30 * count, 30)
+        return siblings(count, 2) if k == 0 else [(5, start, start, 2) for start in starts]
+    return book(*[(k + 1, of_list(k)) for k in range(lists)], end=end)
 
 
 def of_full_size(end=b""):
@@ -68,8 +81,14 @@ CASES = {
     "two-lists-empty": book((2, []), (3, [])),
     "first-list-empty": book((2, []), (3, S)),
     "second-list-empty": book((2, Z), (3, [])),
-    "sixteen-lists": with_more_lists(14),
-    "seventeen-lists": with_more_lists(15),
+    "lists-16-empty": shared_out(16, 0),
+    "lists-17-empty": shared_out(17, 0),
+    "lists-64-empty": shared_out(64, 0),
+    "lists-65-empty": shared_out(65, 0),
+    "lists-16": with_lists(16),
+    "lists-17": with_lists(17),
+    "lists-64": with_lists(64),
+    "lists-65": with_lists(65),
     "least-and-greatest-tag": book((0, Z), (GREATEST, S)),
     "tags-equal": book((2, Z), (2, S)),
     "tags-falling": book((3, Z), (2, S)),
@@ -88,6 +107,12 @@ CASES = {
     "count-4097": book((2, siblings(4097, 0))),
     "bytes-61440": of_full_size(),
     "bytes-61441": of_full_size(end=b"\0"),
+    "lists-64-nodes-3791": shared_out(64, 3791),
+    "lists-64-twelve-bytes-after": shared_out(64, 3791, end=bytes(12)),
+    "lists-64-thirteen-bytes-after": shared_out(64, 3791, end=bytes(13)),
+    "lists-64-nodes-3792": shared_out(64, 3792),
+    "lists-61-nodes-3794": shared_out(61, 3794),
+    "lists-61-byte-after": shared_out(61, 3794, end=b"\0"),
     "level-0": with_node(1, (5, 8, 9, 0)),
     "level-65": with_node(0, (5, 4, 6, 65)),
     "span": with_node(1, (5, 8, 7, 3)),

@@ -115,7 +115,7 @@ def naive_row_fault(entries):
 def naive_byte(book):
     """Returns the byte at which a book's contents are wrong."""
     lists = int.from_bytes(book[:4], "little")
-    if len(book) < 4 or lists > 16:
+    if len(book) < 4 or lists > model.MOST_LISTS:
         return len(book) if len(book) < 4 else 0
     whole = range(min(lists, (len(book) - 4) // 12))
     entries = [struct.unpack_from("<3I", book, 4 + 12 * k) for k in whole]
@@ -221,11 +221,14 @@ class Places(unittest.TestCase):
                 text = look_into((FIGURES / "data" / name).read_bytes()).fault.text
                 places[name.partition(".")[0]] = int(text.split(":")[0].split()[1])
         self.assertEqual(places, {
-            "empty-input": 0, "seventeen-lists": 0, "tags-equal": 16, "tags-falling": 16,
+            "empty-input": 0, "lists-65-empty": 0, "lists-65": 0, "tags-equal": 16,
+            "tags-falling": 16,
             "first-offset-one-more": 8, "second-offset-one-less": 20,
             "second-offset-at-contents-end": 20, "count-one-more": 92, "count-greatest": 24,
             "big-endian": 0, "byte-after": 92, "node-after": 92, "last-byte-missing": 91,
             "contents-cut": 27, "three-bytes": 3, "count-4097": 12, "bytes-61441": 61440,
+            "lists-64-twelve-bytes-after": 61428, "lists-64-thirteen-bytes-after": 61428,
+            "lists-61-byte-after": 61440,
         })
 
     def test_contents_with_one_byte_changed(self):
@@ -294,6 +297,28 @@ class Show(unittest.TestCase):
             "list 0: tag 2, 2 nodes from byte 29", "list 1: tag 3, 2 nodes from byte 60",
             "refused 15 CONTENTS, byte 8: the offset of list 0 is 29, not 28",
             HINTS[Answer.CONTENTS]])
+
+    def test_as_many_lists_as_a_book_may_have(self):
+        lines = [f"list {k}: tag {k + 1}, 0 nodes from byte 772" for k in range(64)]
+        result = run("show", FIGURES / "data" / "lists-64-empty.book")
+        self.assertEqual((result.status, result.err), (0, ""))
+        self.assertEqual(result.out.splitlines()[1:], [*lines, "0 TAKEN"])
+
+    def test_a_list_too_many(self):
+        result = run("show", FIGURES / "data" / "lists-65-empty.book")
+        self.assertEqual(result.status, Answer.CONTENTS)
+        lines = [f"list {k}: tag {k + 1}, 0 nodes from byte 784" for k in range(64)]
+        self.assertEqual(result.out.splitlines()[1:], [
+            *lines, "refused 15 CONTENTS, byte 0: the number of lists is 65, above 64",
+            HINTS[Answer.CONTENTS]])
+
+    def test_a_fault_in_the_last_of_many_lists(self):
+        lists = [(tag, figure_books.Z) for tag in range(63)]
+        book = model.book(*lists, (63, in_document((2, 10, 2), (3, 11, 3))))
+        result = run("show", "-", data=book)
+        self.assertEqual(result.status, Answer.CROSS)
+        self.assertIn("refused 6 CROSS, list 63 (tag 63) index 1 at byte 2804, "
+                      "with list 63 (tag 63) index 0 at byte 2788\n", result.out)
 
     def test_a_book_with_one_list(self):
         result = run("show", FIGURES / "data" / "one-list.book")
@@ -634,12 +659,21 @@ class Csv(WithFiles):
 
     def test_more_than_a_book_holds(self):
         header = "tag,document,start,end,level\n"
-        tags = header + "".join(f"{tag},,,,\n" for tag in range(17, 0, -1))
+        tags = header + "".join(f"{tag},,,,\n" for tag in range(65, 0, -1))
         err = self.fails(Answer.CONTENTS, "pack", "-", self.path("no"), data=tags.encode())
-        self.assertIn(":2: refused 15 CONTENTS, with tag 17 there are 17 lists. ", err)
+        self.assertIn(":2: refused 15 CONTENTS, with tag 65 there are 65 lists. ", err)
         rows = header + "2,,,,\n" + "".join(f"3,5,{i},{i},1\n" for i in range(4097))
         err = self.fails(Answer.CONTENTS, "pack", "-", self.path("no"), data=rows.encode())
         self.assertIn(":4099: refused 15 CONTENTS, tag 3 has 4097 nodes. ", err)
+
+    def test_as_many_lists_as_a_book_may_have(self):
+        rows = "".join(f"{tag},,,,\n" for tag in range(63)) + "63,5,2,10,2\n63,5,3,7,3\n"
+        text = "tag,document,start,end,level\n" + rows
+        book = self.path("many.book")
+        self.assertEqual(run("pack", "-", book, data=text.encode()), (0, "", ""))
+        lists = [(tag, []) for tag in range(63)]
+        self.assertEqual(book.read_bytes(), model.book(*lists, (63, figure_books.Z)))
+        self.assertEqual(run("unpack", book, "-"), (0, text, ""))
 
     def test_a_refused_book_is_unpacked_and_repaired(self):
         book = model.book((1, []), (2, figure_books.Z), (3, in_document((4, 6, 4), (6, 9, 5))))

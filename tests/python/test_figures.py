@@ -177,6 +177,30 @@ class Figures(unittest.TestCase):
         self.assertEqual((zones.tolist(), samples.tolist()), (Z.tolist(), S.tolist()))
         self.assertEqual(starts(belfry.pairs(zones, samples)), [(2, 4), (3, 4), (2, 8)])
 
+    def test_books_with_many_lists(self):
+        for count, size in ((16, 196), (17, 208), (64, 772)):
+            book = belfry.book_write(words((1 + k, 0) for k in range(count)), array("I"))
+            self.assertEqual((len(book), belfry.book_check(book)), (size, count))
+            self.assertEqual(book, figure_books.shared_out(count, 0))
+        with self.assertRaisesRegex(Refused, "CONTENTS"):
+            belfry.book_write(words((1 + k, 0) for k in range(65)), array("I"))
+        with self.assertRaisesRegex(Refused, "CONTENTS"):
+            belfry.book_check(figure_books.shared_out(65, 0))
+
+    def test_the_largest_book(self):
+        nodes = words(figure_books.siblings(4096, 0))
+        book = belfry.write_book({tag: nodes for tag in range(64)})
+        self.assertEqual((len(book), belfry.book_check(book)), (4195076, 64))
+        self.assertEqual(book[772:], 64 * nodes.tobytes())
+        lists = belfry.book_lists(book)
+        self.assertEqual(list(lists), list(range(64)))
+        self.assertEqual({part.tobytes() for part in lists.values()}, {nodes.tobytes()})
+        self.assertEqual(belfry.write_book(lists), book)
+        short = bytearray(4195075 * b"\xa5")
+        with self.assertRaisesRegex(Refused, "ROOM"):
+            belfry.book_write_into(words((tag, 4096) for tag in range(64)), 64 * nodes, short)
+        self.assertEqual(short, 4195075 * b"\xa5")
+
     def test_questions_share_the_room_and_a_refused_one_takes_none(self):
         placed = ticket(0, 1, 1, 5, 2, 8)
         questions = [Question(2, 3), Question(2, 4, placed), Question(2, 3, ticket(1, 1))]

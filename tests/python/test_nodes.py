@@ -2,7 +2,7 @@
 import unittest
 from array import array
 
-from support import BOOK, S, TABLE, Z, words
+from support import BOOK, S, TABLE, Z, model, words
 
 import belfrychest as belfry
 from belfrychest import NONE, TEXT, Link, Node, Pair, Refused, Row, Subtotal
@@ -96,9 +96,27 @@ class Books(unittest.TestCase):
         with self.assertRaisesRegex(ValueError, message):
             belfry.write_book({2: Z[:3], 3: Z[3:]})
 
+    def test_as_many_lists_as_a_book_may_have(self):
+        self.assertEqual(belfry.MOST_LISTS, 64)
+        for count in (0, 1, 16, 17, 63, 64):
+            lists = {tag: (Z, S, array("I"))[tag % 3] for tag in range(count)}
+            book = belfry.write_book(lists)
+            expected = model.book(*((tag, model.cut(part, 4)) for tag, part in lists.items()))
+            self.assertEqual((book, belfry.book_check(book)), (expected, count))
+            again = belfry.book_lists(book)
+            self.assertEqual([(tag, part.tolist()) for tag, part in again.items()],
+                             [(tag, part.tolist()) for tag, part in lists.items()])
+
+    def test_more_lists_than_a_book_may_have(self):
+        for count in (65, 66, 300):
+            book = model.book(*((tag, []) for tag in range(count)))
+            lists = {tag: Z for tag in range(count)}
+            for call, given in ((belfry.book_check, book), (belfry.book_lists, book),
+                                (belfry.write_book, lists)):
+                with self.subTest(call=call), self.assertRaisesRegex(Refused, "CONTENTS"):
+                    call(given)
+
     def test_what_no_book_holds_is_refused(self):
-        with self.assertRaisesRegex(Refused, "CONTENTS"):
-            belfry.write_book({tag: Z for tag in range(17)})
         with self.assertRaisesRegex(Refused, "CONTENTS"):
             belfry.write_book({2: words([(5, 1 + at, 1 + at, 1) for at in range(4097)])})
         with self.assertRaisesRegex(Refused, "CONTENTS"):

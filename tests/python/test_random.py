@@ -53,17 +53,20 @@ def subtotal(zone, samples, hundredths):
 
 
 def random_book(rng):
-    """Returns a book with lists under the tags 2, 3 and 4, now and then with a faulty one."""
+    """Returns the tags of a book from 2 on and the book, now and then with a faulty list. Mostly it
+    has three lists, and now and then more than 16.
+    """
+    tags = range(2, 2 + (rng.randint(17, 64) if rng.random() < 0.1 else 3))
     tree = random_tree(rng)
-    lists = [some_of(rng, tree) for _ in range(3)]
+    lists = [some_of(rng, tree) for _ in tags]
     if rng.random() < 0.3:
-        lists[2] = damaged(rng, lists[2])
-    return model.book(*zip((2, 3, 4), lists))
+        lists[-1] = damaged(rng, lists[-1])
+    return tags, model.book(*zip(tags, lists))
 
 
-def random_question(rng):
+def random_question(rng, tags):
     """Returns a question, now and then for a tag that isn't in the book."""
-    tags = rng.choices((2, 3, 4, 5), weights=(4, 4, 4, 1), k=2)
+    tags = [tags[-1] + 1 if rng.random() < 0.08 else rng.choice(tags) for _ in range(2)]
     key = [rng.randint(5, 6), rng.randint(0, 9), rng.randint(0, 9)] if rng.random() < 0.5 else []
     words_ = [rng.randint(0, 1), rng.randint(0, 1), bool(key), *key, 0, 0, 0]
     return Question(*tags, Ticket.from_words(words_[:6]))
@@ -214,20 +217,23 @@ class AgainstTheModel(unittest.TestCase):
         self.assertGreater(answers["TAKEN"], 400)
 
     def test_questions(self):
-        rng, answers = random.Random(9), Counter()
+        rng, answers, later = random.Random(9), Counter(), 0
         for _ in range(1000):
-            book, room = random_book(rng), rng.randint(1, 20)
-            questions = [random_question(rng) for _ in range(rng.randint(0, 5))]
+            (tags, book), room = random_book(rng), rng.randint(1, 20)
+            questions = [random_question(rng, tags) for _ in range(rng.randint(0, 5))]
             asked = [(question.ancestors, question.descendants, in_model(question.ticket))
                      for question in questions]
             replies = belfry.ask(book, questions, room=room)
             self.assertEqual(("TAKEN", list(map(shown, replies))), model.ask(book, asked, room))
-            for reply in replies:
+            for question, reply in zip(questions, replies):
                 self.assertEqual(reply.pairs is None, reply.verdict.answer != Answer.TAKEN)
                 answers[reply.verdict.answer.name, reply.done] += 1
+                # The sixteenth list has the tag 17.
+                later += bool(reply.pairs) and max(question.ancestors, question.descendants) > 17
         for key in (("TAKEN", True), ("TAKEN", False), ("ABSENT", False), ("JOINT", False),
                     ("CROSS", False), ("ORDER", False)):
             self.assertGreater(answers[key], 10, key)
+        self.assertGreater(later, 10)
 
     def test_questions_that_are_asked_until_done(self):
         """Follows four listings of one book, of which each has the room that the others leave."""
@@ -275,10 +281,13 @@ class AgainstTheModel(unittest.TestCase):
         self.assertEqual(answers, {"TAKEN", "TABLE"})
 
     def test_books(self):
-        rng = random.Random(6)
+        rng, seen = random.Random(6), Counter()
         for _ in range(300):
-            tags = rng.sample(range(9), rng.randint(0, 3))
-            lists = {tag: damaged(rng, some_of(rng, random_tree(rng, 4))) for tag in tags}
+            many = rng.choice((16, 17, 40, 63, 64, 65, 66))
+            tags = rng.sample(range(99), many if rng.random() < 0.2 else rng.randint(0, 3))
+            lists = {tag: some_of(rng, random_tree(rng, 4)) for tag in tags}
+            for tag in rng.sample(tags, min(len(tags), rng.randint(0, 5))):
+                lists[tag] = damaged(rng, lists[tag])
             ordered = sorted(lists.items())
             entries = [(tag, len(nodes)) for tag, nodes in ordered]
             nodes = words(node for _, part in ordered for node in part)
@@ -287,6 +296,12 @@ class AgainstTheModel(unittest.TestCase):
             given = {tag: words(part) for tag, part in lists.items()}
             self.assertEqual(self.placed(belfry.write_book, given), expected)
             self.check_reading(model.book(*ordered), ordered)
+            answer, number, *_ = expected
+            seen[answer] += 1
+            seen["of many lists"] += answer == "TAKEN" and len(tags) > 16
+            seen["a later list"] += number > 15
+        for key in ("TAKEN", "CONTENTS", "of many lists", "a later list"):
+            self.assertGreater(seen[key], 5, key)
 
     def check_reading(self, book, ordered):
         answer, number, index, _ = model.read(book)

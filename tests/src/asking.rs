@@ -3,7 +3,7 @@
 
 use crate::making::tickets::FRESH;
 use crate::model::answers::{row, Answer, Verdict, Written};
-use crate::model::nodes::{nodes, NODE_WORDS};
+use crate::model::nodes::{nodes, words, NODE_WORDS};
 use crate::model::pages::Ticket;
 use crate::model::questions::{MOST_QUESTIONS, QUESTION_WORDS};
 use crate::model::{books, links, lists, marks, pages, questions, readings, sheets};
@@ -18,8 +18,19 @@ pub fn raw_verdict(verdict: Verdict) -> raw::Verdict {
     raw::Verdict { answer: verdict.answer as u32, list: verdict.list, index: verdict.index }
 }
 
-fn raw_written<T>(written: &Written<T>) -> raw::Written {
+/// Returns the same of what a call leaves that writes.
+pub fn raw_written<T>(written: &Written<T>) -> raw::Written {
     raw::Written { verdict: raw_verdict(written.verdict), count: written.count }
+}
+
+/// Returns the same of a book that is opened.
+pub fn raw_book(opened: &books::Opened) -> raw::Book {
+    raw::Book { verdict: raw_verdict(opened.verdict), lists: opened.entries.len() as u32 }
+}
+
+/// Returns the same of a body.
+pub fn raw_body(body: &books::Body) -> raw::Body {
+    raw::Body { verdict: raw_verdict(body.verdict), from: body.from, bytes: body.bytes }
 }
 
 pub fn check(list: &[u32]) -> Answer {
@@ -191,21 +202,20 @@ pub fn links_check(list: &[u32], words: &[u32]) -> Answer {
 }
 
 pub fn book_check(book: &[u8]) -> Answer {
-    let books::Opened { verdict, entries } = books::check(book);
-    let expected = raw::Book { verdict: raw_verdict(verdict), lists: entries.len() as u32 };
+    let opened = books::check(book);
+    let expected = raw_book(&opened);
     assert_eq!(raw::book_check(book), expected, "given and expected: check of the book {book:?}");
-    verdict.answer
+    opened.verdict.answer
 }
 
 pub fn book_body(book: &[u8], tag: u32) -> Answer {
-    let books::Body { verdict, from, bytes } = books::body(book, tag);
-    let expected = raw::Body { verdict: raw_verdict(verdict), from, bytes };
+    let body = books::body(book, tag);
     assert_eq!(
         raw::book_body(book, tag),
-        expected,
+        raw_body(&body),
         "given and expected: tag {tag} in the book {book:?}"
     );
-    verdict.answer
+    body.verdict.answer
 }
 
 pub fn book_write(entries: &[u32], nodes: &[u32], out: &mut [u8]) -> Answer {
@@ -214,6 +224,17 @@ pub fn book_write(entries: &[u32], nodes: &[u32], out: &mut [u8]) -> Answer {
         raw::book_write(entries, nodes, out)
     });
     expected.verdict.answer
+}
+
+/// Fails unless the lists of an accepted book are written to the same bytes again.
+pub fn comes_back(book: &[u8], entries: &[books::Entry]) {
+    let wanted: Vec<u32> =
+        entries.iter().flat_map(|entry| [entry.tag, entry.count as u32]).collect();
+    let nodes: Vec<u32> =
+        entries.iter().flat_map(|entry| words(&books::body_nodes(book, entry))).collect();
+    let mut written = vec![0; book.len()];
+    assert_eq!(book_write(&wanted, &nodes, &mut written), Answer::Taken);
+    assert_eq!(written, book);
 }
 
 /// Returns what a call with several questions answers: these pages, and pages of zeros after them.
@@ -229,13 +250,18 @@ pub fn raw_pages(answer: Answer, pages: &[raw::Page]) -> raw::Pages {
 /// Returns what the model says of a call with several questions. All 32 pages are compared.
 pub fn ask(book: &[u8], words: &[u32], out: &mut [u32]) -> questions::Asked {
     let asked = questions::ask(book, words, out.len());
+    hold_asked(book, words, out, &asked);
+    asked
+}
+
+/// Fails unless a call with several questions answers and writes this.
+pub fn hold_asked(book: &[u8], words: &[u32], out: &mut [u32], asked: &questions::Asked) {
     let answered = asked_in(words).iter().zip(&asked.pages);
     let pages: Vec<raw::Page> =
         answered.map(|(question, page)| raw_page(question.ticket, page)).collect();
     let expected = raw_pages(asked.answer, &pages);
     let written: Vec<u32> = asked.pages.iter().flat_map(pages::Page::words).collect();
     hold(&("ask", book, words), out, &written, expected, |out| raw::ask(book, words, out));
-    asked
 }
 
 /// Returns the whole questions that the words make.

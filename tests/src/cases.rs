@@ -2,13 +2,14 @@
 //! the ground says, and held against the model.
 
 use crate::asking;
+use crate::earlier::books::MOST_LISTS as FEW_LISTS;
 use crate::ends::{clash, is_between, meet, most_around, most_at_one_end};
 use crate::ground::Ground;
 use crate::making::{books, hundredths, links as lent, lists, marks, questions, readings, tickets};
 use crate::model::answers::Answer::{self, *};
-use crate::model::answers::NAME_BYTES;
+use crate::model::answers::{Written, NAME_BYTES};
 use crate::model::books::{
-    body_nodes, check as opened, contents_end, Entry, NUMBER_BYTES, WANTED_WORDS,
+    body_nodes, check as opened, contents_end, write, Entry, Opened, NUMBER_BYTES, WANTED_WORDS,
 };
 use crate::model::links::LINK_WORDS;
 use crate::model::marks::{CLOSE, ROW_WORDS};
@@ -24,7 +25,7 @@ use crate::tally::Tally;
 use belfrychest::raw;
 
 /// A function, by a case of it, which counts itself, and by the answers that it can give. The kinds
-/// are those in which nodes end at one position.
+/// are those that its cases have to be now and then.
 pub struct Function {
     case: fn(&mut Random, Ground, &mut Tally),
     answers: &'static [Answer],
@@ -285,50 +286,63 @@ fn links_check(random: &mut Random, ground: Ground, tally: &mut Tally) {
     count_one(tally, answer, &list);
 }
 
+/// Returns the lists of a book that have nodes and come after those that earlier programs take.
+fn later(entries: &[Entry]) -> impl Iterator<Item = &Entry> {
+    entries.iter().skip(FEW_LISTS).filter(|entry| entry.count > 0)
+}
+
 /// Counts a case of a book.
-fn count_book(tally: &mut Tally, answer: Answer, book: &[u8]) {
+fn count_book(tally: &mut Tally, answer: Answer, opened: &Opened, book: &[u8]) {
     let has_three = |entry: &Entry| most_at_one_end(&body_nodes(book, entry)) >= 3;
     tally.count(answer);
-    tally.see(Three, answer == Taken && opened(book).entries.iter().any(has_three));
+    tally.see(Three, answer == Taken && opened.entries.iter().any(has_three));
+    tally.see(LaterFault, opened.verdict.list as usize >= FEW_LISTS);
 }
 
 pub const BOOK_CHECK: Function = Function {
     case: book_check,
     answers: &[Taken, Level, Span, Order, Cross, Depth, Contents],
-    kinds: &[Three],
+    kinds: &[Three, Later, LaterFault],
 };
 
 fn book_check(random: &mut Random, ground: Ground, tally: &mut Tally) {
     let book = books::book(random);
     let answer = asking::book_check(&ground.lend(&book));
-    count_book(tally, answer, &book);
+    let opened = opened(&book);
+    count_book(tally, answer, &opened, &book);
+    tally.see(Later, later(&opened.entries).next().is_some());
 }
 
 pub const BOOK_BODY: Function = Function {
     case: book_body,
     answers: &[Taken, Level, Span, Order, Cross, Depth, Contents, Absent],
-    kinds: &[Three],
+    kinds: &[Three, Later, LaterFault],
 };
 
 fn book_body(random: &mut Random, ground: Ground, tally: &mut Tally) {
     let book = books::book(random);
     let tag = books::tag(random, &book);
     let answer = asking::book_body(&ground.lend(&book), tag);
-    count_book(tally, answer, &book);
+    let opened = opened(&book);
+    count_book(tally, answer, &opened, &book);
+    tally.see(Later, later(&opened.entries).any(|entry| entry.tag == tag));
 }
 
 pub const BOOK_WRITE: Function = Function {
     case: book_write,
     answers: &[Taken, Ragged, Level, Span, Order, Cross, Depth, Room, Contents],
-    kinds: &[Three],
+    kinds: &[Three, Later, LaterFault],
 };
 
 fn book_write(random: &mut Random, ground: Ground, tally: &mut Tally) {
     let (entries, words) = books::wanted(random);
     let needed = contents_end(entries.len() / WANTED_WORDS) + NUMBER_BYTES * words.len();
-    let mut out = ground.room(random.around(needed.min(MOST)));
+    let mut out = ground.room(random.around(needed));
     let answer = asking::book_write(&ground.lend(&entries), &ground.lend(&words), &mut out);
-    count_book(tally, answer, &out[..needed.min(out.len())]);
+    let Written { verdict, words: book, .. } = write(&entries, &words, out.len());
+    let opened = Opened { verdict, ..opened(&book) };
+    count_book(tally, answer, &opened, &book);
+    tally.see(Later, later(&opened.entries).next().is_some());
 }
 
 pub const ASK: Function = Function {
@@ -336,7 +350,7 @@ pub const ASK: Function = Function {
         ask(random, ground, tally);
     },
     answers: &[Taken, Ragged, Long, Level, Span, Order, Cross, Depth, Joint, Contents, Absent],
-    kinds: &[Three],
+    kinds: &[Three, Later, LaterFault],
 };
 
 /// What a book was asked, the words of the output, and what the model says.
@@ -345,6 +359,19 @@ pub struct Asking {
     pub words: Vec<u32>,
     pub room: usize,
     pub asked: Asked,
+}
+
+impl Asking {
+    /// Tells whether some question has pairs of which this is true: it is given the places of the
+    /// question's two lists in the book.
+    pub fn has_pairs_of(&self, is_so: impl Fn([usize; 2]) -> bool) -> bool {
+        let tags = books::tags(&self.book);
+        let place = |tag| tags.iter().position(|&other| other == tag).expect("a tag of the book");
+        let answered = asking::asked_in(&self.words).iter().zip(&self.asked.pages);
+        let with_pairs = answered.filter(|(_, page)| !page.pairs.is_empty());
+        let mut lists = with_pairs.map(|(asked, _)| [asked.ancestors, asked.descendants]);
+        lists.any(|tags| is_so(tags.map(place)))
+    }
 }
 
 /// Asks a book several questions. The answer of each counts, and so does that of the whole call. In
@@ -361,8 +388,11 @@ pub fn ask(random: &mut Random, ground: Ground, tally: &mut Tally) -> Asking {
     for page in &asked.pages {
         tally.count(page.verdict.answer);
         tally.see(Three, most_around(&page.pairs) >= 3);
+        tally.see(LaterFault, page.verdict.list as usize >= FEW_LISTS);
     }
-    Asking { book, words, room, asked }
+    let case = Asking { book, words, room, asked };
+    tally.see(Later, case.has_pairs_of(|places| places.iter().any(|&place| place >= FEW_LISTS)));
+    case
 }
 
 /// Checks names of numbers that have one and of numbers that have none. The output is a name's

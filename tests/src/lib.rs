@@ -3,12 +3,14 @@
 
 pub mod asking;
 pub mod cases;
+pub mod earlier;
 pub mod ends;
 pub mod ground;
 pub mod history;
 pub mod making;
 pub mod model;
 pub mod paint;
+pub mod process;
 pub mod random;
 pub mod stored;
 pub mod tally;

@@ -1,8 +1,9 @@
 //! The cases of `tests/cases`, each with what it must answer stored below it: how they are read,
-//! and how an answer is written there.
+//! and how an answer is written there. Then the books that are stored.
 
 use crate::telling::Telling;
 use belfrychest::raw;
+use std::fs;
 
 /// A case of a file.
 pub struct Case<'a> {
@@ -41,6 +42,18 @@ pub fn each_case(text: &str, count: usize, test: impl Fn(&Case) -> Vec<String>) 
     for case in &cases {
         let _telling = Telling { kind: "case", case: case.line };
         assert_eq!(test(case), case.answers, "given and stored: {}", case.line);
+    }
+}
+
+/// Runs the test on each book of the examples and of the figures.
+pub fn each_book(mut test: impl FnMut(&[u8])) {
+    let folders = ["../examples", "../crates/figures_books/data"];
+    let files = folders.iter().flat_map(|folder| fs::read_dir(folder).expect("a folder of books"));
+    for path in files.map(|file| file.expect("a file").path()) {
+        if path.extension().map_or(false, |kind| kind == "book") {
+            let _telling = Telling { kind: "book", case: path.display() };
+            test(&fs::read(&path).expect("a book"));
+        }
     }
 }
 

@@ -1,11 +1,13 @@
-//! How often each answer came, and how often nodes ended at one position.
+//! How often each answer came, and how often cases of some kinds, as those in which nodes ended at
+//! one position.
 
 use crate::model::answers::{Answer, NAMES};
 
 /// Fewer than this many of an answer, or of a kind, say too little.
 const LEAST: u64 = 5;
 
-/// A kind of case in which nodes end at one position.
+/// A kind of case that random ones have to be now and then. In the first four, nodes end at one
+/// position. In the others a book has more lists than earlier programs take.
 #[derive(Clone, Copy, Debug, PartialEq, Eq)]
 pub enum Kind {
     /// It is accepted, and a node ends where a node around it ends.
@@ -17,10 +19,15 @@ pub enum Kind {
     AtOdds,
     /// It is a page that stops between two ancestors that end at one position.
     Between,
+    /// It is accepted. A list that has nodes and comes after the sixteenth of its book is read,
+    /// found, asked about or written.
+    Later,
+    /// It is refused for a node of such a list.
+    LaterFault,
 }
 
 /// The number of kinds.
-const KINDS: usize = Kind::Between as usize + 1;
+const KINDS: usize = Kind::LaterFault as usize + 1;
 
 #[derive(Default)]
 pub struct Tally {

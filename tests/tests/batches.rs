@@ -1,7 +1,7 @@
 //! Several listings that are followed at once, each as one question of every call. Between the
 //! calls the book is edited, lists change places, tags are missing for a call, and the questions
-//! change places and neighbours. Some calls are refused as a whole. Each listing is held against
-//! demand 3 (`outside::history`).
+//! change places and neighbours. Some calls are refused as a whole, and some books have as many
+//! lists as they may have. Each listing is held against demand 3 (`outside::history`).
 
 use belfrychest::raw::{self, Question, Ticket};
 use outside::history::{History, Lists};
@@ -10,7 +10,7 @@ use outside::making::lists::{family, some_of};
 use outside::making::questions::question;
 use outside::making::tickets::made_up;
 use outside::model::answers::Answer::{self, *};
-use outside::model::books::{bytes, Tagged};
+use outside::model::books::{bytes, Tagged, MOST_LISTS};
 use outside::model::nodes::{words, Node};
 use outside::model::pages::PAIR_WORDS;
 use outside::model::questions::{MOST_QUESTIONS, QUESTION_WORDS};
@@ -22,8 +22,12 @@ const FRESH: u64 = 12_000;
 const MADE_UP: u64 = 4_000;
 /// Fewer than this many nodes of a document.
 const SIZE: usize = 20;
-/// The lists of the book. Their tags are twice their places.
+/// The lists of the book that are edited. Their tags are twice their places, and more than the tags
+/// of those before them.
 const LISTS: usize = 4;
+/// The lists before them in some books, which are never edited. These books have as many lists as
+/// they may have.
+const BEFORE: usize = MOST_LISTS - LISTS;
 /// The relations and orders of the listings that are followed at once.
 const KINDS: [[u32; 2]; 4] = [[0, 0], [0, 1], [1, 0], [1, 1]];
 /// Seeds that no other test has.
@@ -31,18 +35,24 @@ const SEEDS: u64 = 1 << 58;
 /// Fewer calls or listings of a kind say too little.
 const LEAST: u64 = 100;
 
-/// The nodes of the book's lists.
+/// The nodes of the book's lists that are edited.
 type Book = [Vec<Node>; LISTS];
 
 fn tag(place: usize) -> u32 {
-    2 * place as u32
+    2 * (BEFORE + place) as u32
 }
 
 /// Returns the bytes of the book, without the list of a place that is missing.
-fn without(missing: Option<usize>, book: &Book) -> Vec<u8> {
+fn without(missing: Option<usize>, before: &[Tagged], book: &Book) -> Vec<u8> {
     let places = (0..LISTS).filter(|&place| Some(place) != missing);
-    let lists: Vec<Tagged> = places.map(|place| (tag(place), book[place].clone())).collect();
-    bytes(&lists)
+    let edited: Vec<Tagged> = places.map(|place| (tag(place), book[place].clone())).collect();
+    bytes(&[before, &edited].concat())
+}
+
+/// Returns the lists before those that are edited: mostly none, and now and then as many as may be.
+fn any_before(random: &mut Random, all: &[Node]) -> Vec<Tagged> {
+    let count = if random.one_in(10) { BEFORE } else { 0 };
+    (0..count as u32).map(|tag| (tag, some_of(random, all))).collect()
 }
 
 /// Returns the book after some edits, which may damage it. Now and then two lists change places.
@@ -150,25 +160,28 @@ struct Seen {
     too_many: u64,
     some_refused: u64,
     /// Listings with more than five pages, with a refused call, and with a pair that was altered.
-    /// The last are those with a page that went on between two ancestors that end at one position.
     of_many_pages: u64,
     refused: u64,
     altered: u64,
+    /// Those with a page that went on between two ancestors that end at one position.
     between: u64,
+    /// Those with several pages, of the last lists of a book that has as many as may be.
+    of_many_lists: u64,
 }
 
 impl Seen {
-    fn count(&mut self, history: &History) {
+    fn count(&mut self, history: &History, before: &[Tagged]) {
+        self.of_many_lists += u64::from(history.pages > 1 && !before.is_empty());
         self.of_many_pages += u64::from(history.pages > 5);
         self.refused += u64::from(history.refused > 0);
         self.altered += u64::from(history.altered > 0);
         self.between += u64::from(history.between > 0);
     }
 
-    fn counts(&self) -> [u64; 7] {
-        let Seen { ragged, too_many, some_refused, of_many_pages, refused, altered, between } =
-            *self;
-        [ragged, too_many, some_refused, of_many_pages, refused, altered, between]
+    fn counts(&self) -> [u64; 8] {
+        let Seen { ragged, too_many, some_refused, of_many_pages, .. } = *self;
+        let Seen { refused, altered, between, of_many_lists, .. } = *self;
+        [ragged, too_many, some_refused, of_many_pages, refused, altered, between, of_many_lists]
     }
 }
 
@@ -177,12 +190,13 @@ impl Seen {
 /// all.
 fn follow(random: &mut Random, placed: u32, seen: &mut Seen) {
     let all = family(random, SIZE);
+    let before = any_before(random, &all);
     let mut book = [(); LISTS].map(|()| some_of(random, &all));
     let mut followed = KINDS.map(|kind| Followed::new(random, &book, kind, placed));
     for _ in 0..random.pick(&[0, 1, 4, 14, 30]) {
         let next = edited(random, &book, &all);
         let missing = random.one_in(8).then(|| random.below(LISTS));
-        let bytes = without(missing, &next);
+        let bytes = without(missing, &before, &next);
         let mut call = Call::new(asked(random, &followed, &bytes));
         if random.one_in(16) {
             call.words.pop();
@@ -196,20 +210,20 @@ fn follow(random: &mut Random, placed: u32, seen: &mut Seen) {
         seen.too_many += u64::from(call.expected().0 == Long);
         seen.some_refused += u64::from((1..KINDS.len()).contains(&accepted));
     }
-    finish(&mut followed, &book);
-    followed.iter().for_each(|one| seen.count(&one.history));
+    finish(&mut followed, &before, &book);
+    followed.iter().for_each(|one| seen.count(&one.history, &before));
 }
 
 /// Makes the last call, with room for all pairs. All listings are accepted and done.
-fn finish(followed: &mut [Followed], book: &Book) {
+fn finish(followed: &mut [Followed], before: &[Tagged], book: &Book) {
     let asked: Vec<Asked> =
         followed.iter().enumerate().map(|(place, one)| (Some(place), one.question())).collect();
-    let before: Vec<usize> = followed.iter().map(|one| one.history.done).collect();
+    let done: Vec<usize> = followed.iter().map(|one| one.history.done).collect();
     let sizes = followed.iter().map(|one| one.lists.map(|list| book[list].len()));
     let enough = sizes.map(|[outer, inner]| PAIR_WORDS * outer * inner).sum();
-    Call::new(asked).make(followed, book, &without(None, book), enough);
-    for (one, before) in followed.iter().zip(before) {
-        assert_eq!(one.history.done, before + 1, "accepted lists, and room for all their pairs");
+    Call::new(asked).make(followed, book, &without(None, before, book), enough);
+    for (one, done) in followed.iter().zip(done) {
+        assert_eq!(one.history.done, done + 1, "accepted lists, and room for all their pairs");
     }
 }
 

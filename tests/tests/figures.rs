@@ -1,9 +1,10 @@
-//! The figures of docs/SCOPE.md, word for word, of the library and of the model alike. Lengths are
-//! tried in `limits.rs`, most figures of readings in `ranges.rs`, and limits of the sheet in
-//! `sheets.rs`.
+//! The figures of docs/SCOPE.md, word for word, of the library and of the model alike. Lengths and
+//! the largest book are tried in `limits.rs`, most figures of readings in `ranges.rs`, and limits
+//! of the sheet in `sheets.rs`.
 
 use belfrychest::raw::{self, Question, Ticket};
 use outside::asking::{self, TAKEN};
+use outside::making::books::{empty_lists, shared_out};
 use outside::making::marks::FIGURE;
 use outside::making::tickets::FRESH;
 use outside::model::answers::Answer::{self, *};
@@ -14,6 +15,7 @@ use outside::model::nodes::{nodes, NODE_WORDS};
 use outside::model::pages::{Pair, PAIR_WORDS};
 use outside::model::printing::printed;
 use outside::model::sheets::{NO_HUNDREDTHS, SUBTOTAL_WORDS};
+use outside::process::print;
 
 const DOCUMENT: u32 = 5;
 const BOOK: &[u8] = include_bytes!("../../examples/figure.book");
@@ -316,6 +318,50 @@ fn book_of_zones_and_samples() {
     }
     assert_eq!(printed(BOOK), "5 2 4\n5 3 4\n5 2 8\npairs 3\n");
     assert_eq!(printed(b""), "refused 15 CONTENTS\n");
+}
+
+/// Fails unless the program and the model both print this of a book.
+fn is_printed(book: &[u8], text: &str) {
+    assert_eq!((&print(book)[..], &printed(book)[..]), (text, text), "of {} bytes", book.len());
+}
+
+#[test]
+fn books_with_many_lists() {
+    for (count, size) in [(16, 196), (17, 208), (64, 772)] {
+        let (entries, book) = empty_lists(count);
+        let mut written = vec![0; size];
+        assert_eq!(asking::book_write(&entries, &[], &mut written), Taken);
+        assert_eq!(written, book);
+        assert_eq!(asking::book_check(&book), Taken);
+        assert_eq!(raw::book_check(&book), raw::Book { verdict: TAKEN, lists: count });
+        is_printed(&book, "pairs 0\n");
+    }
+    let (entries, book) = empty_lists(65);
+    assert_eq!(asking::book_check(&book), Contents);
+    assert_eq!(asking::book_write(&entries, &[], &mut vec![0; book.len()]), Contents);
+    is_printed(&book, "refused 15 CONTENTS\n");
+}
+
+/// Tries books in which the first node is a zone around all others, and some bytes after them.
+#[test]
+fn books_with_many_lists_at_the_size_that_is_printed() {
+    let lines = |pairs: u32| {
+        let lines = (100..100 + pairs).map(|start| format!("5 0 {start}\n"));
+        lines.chain([format!("pairs {pairs}\n")]).collect::<String>()
+    };
+    let [contents, long] = ["refused 15 CONTENTS\n", "refused 2 LONG\n"].map(String::from);
+    for (lists, nodes, after, size, answer, text) in [
+        (64, 3_791, 0, 61_428, Taken, lines(60)),
+        (64, 3_791, 12, 61_440, Contents, contents),
+        (64, 3_791, 13, 61_441, Contents, long.clone()),
+        (64, 3_792, 0, 61_444, Taken, long.clone()),
+        (61, 3_794, 0, 61_440, Taken, lines(63)),
+        (61, 3_794, 1, 61_441, Contents, long),
+    ] {
+        let book = [bytes(&shared_out(lists, nodes)), vec![0; after]].concat();
+        assert_eq!((book.len(), asking::book_check(&book)), (size, answer));
+        is_printed(&book, &text);
+    }
 }
 
 /// Returns a book of the zones, the samples and one more list, which has this tag.

@@ -2,8 +2,15 @@
 //! right after it. Inputs can't be written either. A word too far would end the process. The
 //! answers are held against the model as everywhere.
 
+use belfrychest::raw::{self, Question};
+use outside::asking;
 use outside::cases::{self, Function};
 use outside::ground::{Ground, Lent};
+use outside::making::books::{parts, zones_and_texts};
+use outside::making::tickets::FRESH;
+use outside::model::answers::Answer::{Absent, Contents, Room, Taken};
+use outside::model::books::{bytes, contents_end, MOST_LISTS};
+use outside::model::pages::PAIR_WORDS;
 use outside::random::each_case;
 use std::io::{Read, Write};
 use std::os::unix::net::UnixStream;
@@ -48,6 +55,44 @@ fn right_before_a_guard() {
 #[test]
 fn right_after_a_guard() {
     hold(Ground::AfterGuard, 2 * SEEDS);
+}
+
+/// Tries a book of as many lists as it may have. It is read whole and after a cut at each byte of
+/// its contents, and asked about its first and its last list.
+#[test]
+fn reading_the_most_lists() {
+    let (count, last) = (MOST_LISTS as u32, MOST_LISTS as u32 - 1);
+    let book = bytes(&zones_and_texts(count));
+    let questions = [[0, last], [last, 0], [count, last]]
+        .map(|[ancestors, descendants]| Question { ancestors, descendants, ticket: FRESH });
+    for ground in [Ground::BeforeGuard, Ground::AfterGuard] {
+        assert_eq!(asking::book_check(&ground.lend(&book)), Taken);
+        for (tag, answer) in [(0, Taken), (last, Taken), (count, Absent)] {
+            assert_eq!(asking::book_body(&ground.lend(&book), tag), answer);
+        }
+        for length in 0..contents_end(MOST_LISTS) {
+            assert_eq!(asking::book_check(&ground.lend(&book[..length])), Contents);
+        }
+        let (lent, asked) = (ground.lend(&book), ground.lend(raw::words(&questions)));
+        let pages = asking::ask(&lent, &asked, &mut ground.room(6 * PAIR_WORDS)).pages;
+        let found = pages.iter().map(|page| (page.verdict.answer, page.pairs.len()));
+        assert!(found.eq([(Taken, 6), (Taken, 0), (Absent, 0)]), "{pages:?}");
+    }
+}
+
+/// Writes such a book into as much room as it needs and into a byte less, and one with a list more.
+#[test]
+fn writing_the_most_lists() {
+    let most = MOST_LISTS as u32;
+    for (count, less, answer) in [(most, 0, Taken), (most, 1, Room), (most + 1, 0, Contents)] {
+        let lists = zones_and_texts(count);
+        let (book, (entries, nodes)) = (bytes(&lists), parts(&lists));
+        for ground in [Ground::BeforeGuard, Ground::AfterGuard] {
+            let (entries, nodes) = (ground.lend(&entries), ground.lend(&nodes));
+            let mut out = ground.room(book.len() - less);
+            assert_eq!(asking::book_write(&entries, &nodes, &mut out), answer);
+        }
+    }
 }
 
 /// The system's number for memory that it can't read or write on behalf of the process.

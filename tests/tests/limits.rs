@@ -1,15 +1,15 @@
 //! Both sides of every limit. What is too large for the model, which tries all pairs, is known from
 //! how the case is put together.
 
-use belfrychest::raw::{self, Ticket};
+use belfrychest::raw::{self, Question, Ticket};
 use outside::asking::{self, raw_verdict, TAKEN};
-use outside::making::books::parts;
+use outside::making::books::{parts, zones_and_texts};
 use outside::making::lists::{nest, nest_with_one_end, texts};
 use outside::making::marks::FIGURE;
 use outside::making::tickets::FRESH;
 use outside::model::answers::Answer::{self, *};
 use outside::model::answers::{Verdict, ANCESTORS, DESCENDANTS};
-use outside::model::books::{self, bytes, contents_end, MOST_LISTS, NODE_BYTES, NUMBER_BYTES};
+use outside::model::books::{bytes, contents_end, Tagged, MOST_LISTS, NODE_BYTES, NUMBER_BYTES};
 use outside::model::links::{links_of, LINK_WORDS, NONE};
 use outside::model::lists::MOST_LEVEL;
 use outside::model::marks::{CLOSE, ROW_WORDS, TEXT};
@@ -319,18 +319,54 @@ fn rooms_of_pages() {
     }
 }
 
+/// Numbers of lists, on both sides of the limit and of that of earlier programs, and what a book of
+/// as many answers.
+const NUMBERS_OF_LISTS: [(u32, Answer); 11] = [
+    (0, Taken),
+    (1, Taken),
+    (2, Taken),
+    (15, Taken),
+    (16, Taken),
+    (17, Taken),
+    (63, Taken),
+    (64, Taken),
+    (65, Contents),
+    (66, Contents),
+    (300, Contents),
+];
+
 #[test]
 fn lists_of_a_book() {
-    let book = |lists: usize| {
-        (0..lists as u32).map(|tag| (tag, texts(tag as usize % 3))).collect::<Vec<_>>()
-    };
-    for (lists, answer) in
-        [(0, Taken), (1, Taken), (MOST_LISTS, Taken), (MOST_LISTS + 1, Contents), (300, Contents)]
-    {
-        let book = book(lists);
-        assert_eq!(asking::book_check(&bytes(&book)), answer);
-        let (entries, nodes) = parts(&book);
-        assert_eq!(asking::book_write(&entries, &nodes, &mut [0; 1_000]), answer);
+    for (count, answer) in NUMBERS_OF_LISTS {
+        let lists: Vec<Tagged> = (0..count).map(|tag| (tag, texts(tag as usize % 3))).collect();
+        let book = bytes(&lists);
+        assert_eq!(asking::book_check(&book), answer, "{count} lists");
+        for tag in 0..=count {
+            let held = if tag < count { Taken } else { Absent };
+            assert_eq!(asking::book_body(&book, tag), if answer == Taken { held } else { answer });
+        }
+        let (entries, nodes) = parts(&lists);
+        let mut out = vec![0; book.len()];
+        assert_eq!(asking::book_write(&entries, &nodes, &mut out), answer, "{count} lists");
+        assert_eq!(out == book, answer == Taken, "{count} lists");
+    }
+}
+
+/// Asks about the first list, which has zones, and about the last, which has texts in them.
+#[test]
+fn questions_about_the_first_and_the_last_list() {
+    for (count, answer) in NUMBERS_OF_LISTS.into_iter().filter(|&(count, _)| count >= 2) {
+        let last = count - 1;
+        let questions = [[0, last], [last, 0], [last, last], [0, 0], [0, count]]
+            .map(|[ancestors, descendants]| Question { ancestors, descendants, ticket: FRESH });
+        let book = bytes(&zones_and_texts(count));
+        let asked = asking::ask(&book, raw::words(&questions), &mut [0; 100]);
+        let found = asked.pages.iter().map(|page| (page.verdict.answer, page.pairs.len()));
+        let expected = match answer {
+            Taken => [(Taken, 6), (Taken, 0), (Taken, 0), (Taken, 3), (Absent, 0)],
+            _ => [(answer, 0); 5],
+        };
+        assert_eq!(found.collect::<Vec<_>>(), expected, "{count} lists");
     }
 }
 
@@ -361,23 +397,61 @@ fn tags_of_a_book() {
     }
 }
 
-/// Checks what the largest book of all answers: sixteen lists of the greatest length.
+/// The bytes of the largest book of all: 64 lists of the greatest length.
+const LARGEST: usize = 4_195_076;
+
+/// Returns the lists of the largest book, each in a document of its own.
+fn lists_of_the_largest() -> Vec<Tagged> {
+    let of = |document: u32| texts(MOST).into_iter().map(move |node| Node { document, ..node });
+    (0..MOST_LISTS as u32).map(|tag| (tag, of(tag).collect())).collect()
+}
+
+/// Returns of each list of the largest book its tag, where it begins, and how many bytes it has.
+fn bodies_of_the_largest() -> impl Iterator<Item = (u32, usize, usize)> {
+    let of_one = MOST * NODE_BYTES;
+    (0..64).map(move |tag| (tag, contents_end(64) + of_one * tag as usize, of_one))
+}
+
 #[test]
-fn nodes_of_a_book() {
-    let lists: Vec<books::Tagged> = (0..MOST_LISTS as u32).map(|tag| (tag, texts(MOST))).collect();
+fn the_largest_book() {
+    let lists = lists_of_the_largest();
     let book = bytes(&lists);
-    let size = contents_end(MOST_LISTS) + MOST_LISTS * MOST * NODE_BYTES;
-    assert_eq!(book.len(), size);
-    assert_eq!(raw::book_check(&book), raw::Book { verdict: TAKEN, lists: MOST_LISTS as u32 });
-    let last =
-        raw::Body { verdict: TAKEN, from: size - MOST * NODE_BYTES, bytes: MOST * NODE_BYTES };
-    assert_eq!(raw::book_body(&book, MOST_LISTS as u32 - 1), last);
+    assert_eq!(book.len(), LARGEST);
+    assert_eq!(raw::book_check(&book), raw::Book { verdict: TAKEN, lists: 64 });
+    for (tag, from, bytes) in bodies_of_the_largest() {
+        assert_eq!(raw::book_body(&book, tag), raw::Body { verdict: TAKEN, from, bytes });
+    }
+    let absent = raw::Body { verdict: raw_verdict(Verdict::of(Absent)), from: 0, bytes: 0 };
+    assert_eq!(raw::book_body(&book, 64), absent);
     let (entries, nodes) = parts(&lists);
-    let taken = raw::Written { count: size, ..refused(Taken) };
-    hold(&"all", &mut vec![0; size], &book, taken, |out| raw::book_write(&entries, &nodes, out));
-    hold(&"one byte less", &mut vec![0; size - 1], &[], refused(Room), |out| {
+    let taken = raw::Written { count: LARGEST, ..refused(Taken) };
+    hold(&"all", &mut vec![0; LARGEST], &book, taken, |out| raw::book_write(&entries, &nodes, out));
+    hold(&"one byte less", &mut vec![0; LARGEST - 1], &[], refused(Room), |out| {
         raw::book_write(&entries, &nodes, out)
     });
+    assert_eq!(raw::book_check(&book[1..]).verdict.answer, Contents as u32);
+    assert_eq!(raw::book_check(&book[..LARGEST - 1]).verdict.answer, Contents as u32);
+}
+
+#[test]
+fn the_largest_book_by_the_functions_of_the_rust_package() {
+    let lists = lists_of_the_largest();
+    let (entries, nodes) = parts(&lists);
+    let (entries, nodes) = (raw::items(&entries).unwrap(), raw::items(&nodes).unwrap());
+    let book = belfrychest::book_write(entries, nodes).expect("a book that is written");
+    assert_eq!((book.len(), belfrychest::book_bytes(64, 64 * MOST)), (LARGEST, LARGEST));
+    assert!(book == bytes(&lists), "the book isn't the model's");
+    assert_eq!(belfrychest::book_check(&book), Ok(64));
+    for (tag, from, bytes) in bodies_of_the_largest() {
+        let body = belfrychest::book_body(&book, tag).expect("a list of the book");
+        assert!(body == &book[from..from + bytes], "the list of tag {tag} lies elsewhere");
+    }
+    let absent = belfrychest::book_body(&book, 64).expect_err("a tag that isn't there");
+    assert_eq!(absent.answer, belfrychest::Answer::Absent);
+    let mut short = vec![0xA5; LARGEST - 1];
+    let room = belfrychest::book_write_into(entries, nodes, &mut short).expect_err("too little");
+    assert_eq!(room.answer, belfrychest::Answer::Room);
+    assert!(short.iter().all(|&byte| byte == 0xA5), "the output is altered");
 }
 
 #[test]

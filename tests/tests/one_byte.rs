@@ -4,8 +4,7 @@ use belfrychest::raw;
 use outside::asking::{self, TAKEN};
 use outside::making::tickets::FRESH;
 use outside::model::answers::Answer::{self, *};
-use outside::model::books::{body_nodes, check, Entry};
-use outside::model::nodes::words;
+use outside::model::books::check;
 use outside::model::pages::PAIR_WORDS;
 use outside::tally::Tally;
 
@@ -28,20 +27,9 @@ fn ask(book: &[u8]) -> Answer {
         asking::book_body(book, tag);
     }
     if !entries.is_empty() {
-        comes_back(book, &entries);
+        asking::comes_back(book, &entries);
     }
     asking::book_check(book)
-}
-
-/// Fails unless the lists of an accepted book are written to the same bytes again.
-fn comes_back(book: &[u8], entries: &[Entry]) {
-    let wanted: Vec<u32> =
-        entries.iter().flat_map(|entry| [entry.tag, entry.count as u32]).collect();
-    let nodes: Vec<u32> =
-        entries.iter().flat_map(|entry| words(&body_nodes(book, entry))).collect();
-    let mut written = vec![0; book.len()];
-    assert_eq!(asking::book_write(&wanted, &nodes, &mut written), Taken);
-    assert_eq!(written, book);
 }
 
 #[test]

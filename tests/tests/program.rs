@@ -1,62 +1,43 @@
 //! The printing program as a process, on a thousand books: its whole standard output and its exit
 //! status against the model's text.
 
+use outside::earlier::books::MOST_LISTS as FEW_LISTS;
 use outside::ends::most_around;
-use outside::making::books::book;
+use outside::making::books::{book, shared_out};
 use outside::making::lists::{nest, nest_with_one_end, texts};
 use outside::model::answers::Answer::{self, *};
-use outside::model::books::bytes;
+use outside::model::books::{bytes, check, numbers};
 use outside::model::nodes::Node;
 use outside::model::pages::Pair;
 use outside::model::printing::{joined, printed, MOST_BYTES};
+use outside::model::MOST;
+use outside::process::print_in_pieces;
 use outside::random::each_case;
-use std::env;
-use std::io::Write;
-use std::process::{Command, Stdio};
 
 /// Seeds that no other test has.
 const SEEDS: u64 = 1 << 43;
 
-/// Returns the program, run by the emulator where there is one.
-fn program() -> Command {
-    let path = env::var("BELFRYCHEST_PROGRAM").expect("BELFRYCHEST_PROGRAM names the program");
-    let emulator = env::var("BELFRYCHEST_EMULATOR").unwrap_or_default();
-    if emulator.is_empty() {
-        return Command::new(path);
-    }
-    let mut command = Command::new(emulator);
-    command.arg(path);
-    command
-}
-
 /// Fails unless the program prints of these bytes what the model prints. They are handed over in
 /// pieces of this length.
 fn hold_in_pieces(book: &[u8], piece: usize) {
-    let mut child = program()
-        .stdin(Stdio::piped())
-        .stdout(Stdio::piped())
-        .stderr(Stdio::piped())
-        .spawn()
-        .expect("the program starts");
-    let mut input = child.stdin.take().expect("the input is a pipe");
-    let sent = book.chunks(piece).try_for_each(|bytes| input.write_all(bytes));
-    assert!(sent.is_ok() || book.len() > MOST_BYTES, "the program doesn't read on");
-    drop(input);
-    let output = child.wait_with_output().expect("the program ends");
-    let (given, expected) = (String::from_utf8_lossy(&output.stdout), printed(book));
+    let (given, expected) = (print_in_pieces(book, piece), printed(book));
     assert!(given == expected, "given {given}, and expected {expected}, of {book:?}");
-    assert_eq!((output.status.code(), &output.stderr[..]), (Some(0), &b""[..]));
 }
 
 fn hold(book: &[u8]) {
     hold_in_pieces(book, book.len().max(1));
 }
 
-/// Runs the program on `books` random books of which this is true.
+/// Runs the program on `books` random books whose pairs, or whose refusal, are as wanted.
 fn hold_random(first_seed: u64, books: u64, wanted: impl Fn(Result<Vec<Pair>, Answer>) -> bool) {
+    hold_random_book(first_seed, books, |book| wanted(joined(book)));
+}
+
+/// Runs the program on `books` random books that are themselves as wanted.
+fn hold_random_book(first_seed: u64, books: u64, wanted: impl Fn(&[u8]) -> bool) {
     each_case(SEEDS + first_seed, books, |random| {
         let mut drawn = book(random);
-        while !wanted(joined(&drawn)) {
+        while !wanted(&drawn) {
             drawn = book(random);
         }
         hold(&drawn);
@@ -72,6 +53,18 @@ fn books_with_pairs() {
 #[test]
 fn books_with_three_ancestors_that_end_at_one_position() {
     hold_random(30_000, 100, |pairs| pairs.map_or(false, |pairs| most_around(&pairs) >= 3));
+}
+
+/// Tries books with more lists than earlier programs take: with pairs, without, and with a fault in
+/// one of the later lists.
+#[test]
+fn books_with_many_lists() {
+    let is_many = |book: &[u8]| numbers(book).first() > Some(&(FEW_LISTS as u32));
+    hold_random_book(40_000, 60, |book| {
+        is_many(book) && joined(book).map_or(false, |pairs| !pairs.is_empty())
+    });
+    hold_random_book(41_000, 20, |book| is_many(book) && joined(book).is_err());
+    hold_random_book(42_000, 20, |book| check(book).verdict.list >= FEW_LISTS as u32);
 }
 
 #[test]
@@ -128,13 +121,35 @@ fn books_of_many_pages() {
 
 #[test]
 fn books_as_long_as_may_be() {
-    let longest = bytes(&[(2, nest(1)), (3, texts(3_835)), (4, vec![]), (5, vec![]), (6, vec![])]);
-    assert_eq!(longest.len(), MOST_BYTES);
-    for length in
-        [MOST_BYTES - 1, MOST_BYTES, MOST_BYTES + 1, MOST_BYTES + 2, 1 << 16, 1 << 17, 1 << 20]
-    {
-        let mut book = longest.clone();
-        book.resize(length, 0);
+    let few = [(2, nest(1)), (3, texts(3_835)), (4, vec![]), (5, vec![]), (6, vec![])];
+    for longest in [bytes(&few), bytes(&shared_out(61, 3_794))] {
+        assert_eq!(longest.len(), MOST_BYTES);
+        for length in
+            [MOST_BYTES - 1, MOST_BYTES, MOST_BYTES + 1, MOST_BYTES + 2, 1 << 16, 1 << 17, 1 << 20]
+        {
+            let mut book = longest.clone();
+            book.resize(length, 0);
+            hold(&book);
+            hold_in_pieces(&book, 4_000);
+        }
+    }
+}
+
+/// Tries books of 64 lists, the longest that is printed and some longer ones.
+#[test]
+fn books_of_the_most_lists_as_long_as_may_be() {
+    let longest = bytes(&shared_out(64, 3_791));
+    assert_eq!(longest.len(), 61_428);
+    let with = |more: usize| [&longest[..], &vec![0; more]].concat();
+    for (book, expected) in [
+        (with(0), Ok(60)),
+        (with(1), Err(Contents)),
+        (with(12), Err(Contents)),
+        (with(13), Err(Long)),
+        (bytes(&shared_out(64, 3_792)), Err(Long)),
+        (bytes(&shared_out(64, 64 * MOST)), Err(Long)),
+    ] {
+        assert_eq!(joined(&book).map(|pairs| pairs.len()), expected, "{} bytes", book.len());
         hold(&book);
         hold_in_pieces(&book, 4_000);
     }

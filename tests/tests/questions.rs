@@ -6,6 +6,7 @@
 use belfrychest::raw::{self, Page, Pages, Question, Ticket};
 use outside::asking::{self, asked_in, raw_pages, raw_verdict, TAKEN};
 use outside::cases::{self, Asking};
+use outside::earlier::books::MOST_LISTS as FEW_LISTS;
 use outside::ground::Ground;
 use outside::making::books::tags;
 use outside::making::lists::{nest, node, texts};
@@ -329,12 +330,12 @@ fn longest_field() -> Vec<Node> {
 }
 
 /// Asks the largest book of all as many questions as a call may have. Every other list has a zone
-/// around all texts of any list.
+/// around all texts of any list. Each of these is asked about, with a list of the second half.
 #[test]
 fn the_longest_lists() {
     let list = |tag: u32| if tag % 2 == 0 { longest_field() } else { texts(MOST) };
     let lists: Vec<Tagged> = (0..MOST_LISTS as u32).map(|tag| (tag, list(tag))).collect();
-    let tags = |place: u32| [2 * (place % 8), place % MOST_LISTS as u32];
+    let tags = |place: u32| [2 * place, MOST_LISTS as u32 - 1 - place];
     let questions: Vec<Question> = (0..MOST_QUESTIONS as u32)
         .map(|place| ask(tags(place)[0], tags(place)[1], Ticket { order: place / 16, ..FRESH }))
         .collect();
@@ -475,7 +476,12 @@ fn is_absent(case: &Asking, has: [bool; 2]) -> bool {
     answered.filter(|(question, _)| lies(question)).any(|(_, page)| page.verdict.answer == Absent)
 }
 
-const TAGS: [Feature; 8] = [
+/// Tells whether the list at this place of a book comes after those that earlier programs take.
+fn is_late(place: usize) -> bool {
+    place >= FEW_LISTS
+}
+
+const TAGS: [Feature; 10] = [
     ("ABSENT for the ancestors", |case, _, _| is_absent(case, [false, true])),
     ("ABSENT for the descendants", |case, _, _| is_absent(case, [true, false])),
     ("ABSENT for both", |case, _, _| is_absent(case, [false, false])),
@@ -488,6 +494,12 @@ const TAGS: [Feature; 8] = [
     ("one tag twice, with pairs", |_, questions, pages| {
         let is_one = |question: &Question| question.ancestors == question.descendants;
         questions.iter().zip(pages).any(|(question, page)| is_one(question) && wrote(page))
+    }),
+    ("pairs of one of the first lists and of one after the sixteenth", |case, _, _| {
+        case.has_pairs_of(|[outer, inner]| is_late(outer) != is_late(inner))
+    }),
+    ("pairs of two lists after the sixteenth", |case, _, _| {
+        case.has_pairs_of(|[outer, inner]| is_late(outer) && is_late(inner))
     }),
     ("one question twice, with pairs of both", |_, questions, pages| {
         let is_again = |place: usize| {
@@ -517,7 +529,10 @@ fn is_later(pages: &[model::Page], answer: Answer) -> bool {
     pages.iter().any(|page| is_one(page.verdict))
 }
 
-const FAULTS: [Feature; 6] = [
+const FAULTS: [Feature; 7] = [
+    ("a fault in a list after the sixteenth", |_, _, pages| {
+        pages.iter().any(|page| is_late(page.verdict.list as usize))
+    }),
     ("CONTENTS", |_, _, pages| pages.iter().any(|page| page.verdict.answer == Contents)),
     ("LEVEL", |_, _, pages| is_later(pages, Level)),
     ("SPAN", |_, _, pages| is_later(pages, Span)),

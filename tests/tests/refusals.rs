@@ -162,6 +162,24 @@ fn any_list_of_a_book() {
     });
 }
 
+/// Tries every list of a book that has as many as it may have. Either that list alone is faulty, or
+/// all from it on are: the first is told.
+#[test]
+fn any_list_of_a_book_with_the_most_lists() {
+    const LAST: u32 = MOST_LISTS as u32 - 1;
+    const EACH: usize = 2;
+    for (first, index) in (0..=LAST).flat_map(|list| (0..EACH).map(move |index| (list, index))) {
+        each_fault(EACH, index, |list, answer| {
+            for last in [first, LAST] {
+                let is_faulty = |place| (first..=last).contains(&place);
+                let nodes = |place| if is_faulty(place) { list.to_vec() } else { sound(EACH) };
+                let lists: Vec<Tagged> = (0..=LAST).map(|place| (place, nodes(place))).collect();
+                refuses_book(&lists, Verdict { answer, list: first, index: index as u32 });
+            }
+        });
+    }
+}
+
 /// Fails unless a book of these lists is refused with this verdict. It is opened, each tag is
 /// looked for in it, it is asked several questions, and it is to be written.
 fn refuses_book(lists: &[Tagged], verdict: Verdict) {

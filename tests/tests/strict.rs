@@ -16,8 +16,7 @@ use outside::model::marks::ROW_WORDS;
 use outside::model::nodes::{node, nodes, words, Node};
 use outside::model::{strict, MOST};
 use outside::random::each_case;
-use outside::telling::Telling;
-use std::fs;
+use outside::stored::each_book;
 
 /// The cases that are made for each test.
 const CASES: u64 = 20_000;
@@ -141,14 +140,7 @@ fn books_are_accepted() {
 #[test]
 fn stored_books_are_accepted() {
     let mut seen = Seen::default();
-    let folders = ["../examples", "../crates/figures_books/data"];
-    let files = folders.iter().flat_map(|folder| fs::read_dir(folder).expect("a folder of books"));
-    for path in files.map(|file| file.expect("a file").path()) {
-        if path.extension().map_or(false, |kind| kind == "book") {
-            let _telling = Telling { kind: "book", case: path.display() };
-            seen.hold_book(&fs::read(&path).expect("a book"));
-        }
-    }
+    each_book(|book| seen.hold_book(book));
     seen.hold_counts(LEAST_STORED);
 }
 

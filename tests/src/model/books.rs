@@ -6,7 +6,7 @@ use super::nodes::{node, nodes, words, Node, NODE_WORDS};
 use super::MOST;
 
 /// The most lists of a book.
-pub const MOST_LISTS: usize = 16;
+pub const MOST_LISTS: usize = 64;
 /// The bytes of a number.
 pub const NUMBER_BYTES: usize = 4;
 /// The bytes of a list's entry in the contents: its tag, its offset and its count.
