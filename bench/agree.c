@@ -14,13 +14,23 @@ enum {
     ANSWERS = BELFRY_LINKS + 1,
     /* How far apart the words of a shape's links lie that are made wrong. Words of all three kinds
        are among them. */
-    WRONG_APART = 97
+    WRONG_APART = 97,
+    /* The nodes of each of the two lists of the shape that a book of many lists is dealt from. */
+    FEW_NODES = 100
+};
+
+/* What a book is written from: a list of entries, and the nodes of all lists. */
+struct wanted {
+    size_t entry_words, node_words;
+    uint32_t entry[BELFRY_ENTRY_WORDS * (BELFRY_MOST_LISTS + 1)],
+        node[2 * BELFRY_NODE_WORDS * (BELFRY_MOST_NODES + 1)];
 };
 
 /* What a case gives to the calls. */
 struct input {
     const uint32_t *ancestors, *descendants, *links, *readings, *hundredths, *marks, *questions;
     const uint8_t *book;
+    const struct wanted *wanted;
     size_t ancestor_words, descendant_words, link_words, reading_words, hundredth_words, mark_words,
         book_bytes, question_words;
     size_t rooms[2];
@@ -178,6 +188,19 @@ static void note_others(struct notes *notes, const struct code *code, const stru
     }
     note_verdict(notes,
                  code->links_check(in->ancestors, in->ancestor_words, in->links, in->link_words));
+}
+
+/* Notes what writing a book, checking one and finding a list in it answer. */
+static void note_books(struct notes *notes, const struct code *code, const struct input *in) {
+    const struct wanted *wanted = in->wanted;
+    for (size_t i = 0; i < 2; i++) {
+        clear_out(in->rooms[i]);
+        note_written(notes,
+                     code->book_write(wanted->entry, wanted->entry_words, wanted->node,
+                                      wanted->node_words, (uint8_t *)out,
+                                      BELFRY_NUMBER_BYTES * in->rooms[i]),
+                     in->rooms[i]);
+    }
     belfry_book book = code->book_check(in->book, in->book_bytes);
     belfry_body body = code->book_body(in->book, in->book_bytes, in->tag);
     note_verdict(notes, book.verdict);
@@ -205,6 +228,14 @@ static void note_questions(struct notes *notes, const struct code *code, const s
     }
 }
 
+/* Notes all that is answered about books and to questions about one. */
+static void note_books_and_questions(struct notes *notes, const struct code *code,
+                                     const struct input *in) {
+    notes->count = 0;
+    note_books(notes, code, in);
+    note_questions(notes, code, in);
+}
+
 static void note_all(struct notes *notes, const struct code *code, const struct input *in) {
     notes->count = 0;
     note_checks(notes, code, in);
@@ -212,6 +243,7 @@ static void note_all(struct notes *notes, const struct code *code, const struct 
     note_range(notes, code, in);
     note_sheets(notes, code, in);
     note_others(notes, code, in);
+    note_books(notes, code, in);
     note_questions(notes, code, in);
 }
 
@@ -263,6 +295,26 @@ enum {
     SMALL_QUESTIONS = BELFRY_MOST_QUESTIONS + 1,
     CONTENTS_BYTES = BELFRY_BOOK_BYTES(SMALL_LISTS, 0)
 };
+
+/* Puts a list into what a book is written from, under the next tag. */
+static void want_list(struct wanted *wanted, const uint32_t *list, size_t words) {
+    size_t lists = wanted->entry_words / BELFRY_ENTRY_WORDS;
+    uint32_t entry[BELFRY_ENTRY_WORDS] = {ZONE_TAG + lists, words / BELFRY_NODE_WORDS};
+    memcpy(&wanted->entry[wanted->entry_words], entry, sizeof entry);
+    memcpy(&wanted->node[wanted->node_words], list, words * sizeof list[0]);
+    wanted->entry_words += BELFRY_ENTRY_WORDS;
+    wanted->node_words += words;
+}
+
+/* Returns what the book of an input's two lists is written from. It lies in memory that all inputs
+ * share. */
+static struct wanted *want_both(const struct input *in) {
+    static struct wanted wanted;
+    wanted.entry_words = wanted.node_words = 0;
+    want_list(&wanted, in->ancestors, in->ancestor_words);
+    want_list(&wanted, in->descendants, in->descendant_words);
+    return &wanted;
+}
 
 /* A random case. */
 struct small {
@@ -361,6 +413,18 @@ static void fill_book(struct small *s) {
         s->bytes = below(2) ? below(end) : end + 1;
 }
 
+/* Changes what a book is written from, in most cases: a tag or a count by a little, or how many
+ * words there are. */
+static void damage_wanted(struct wanted *wanted) {
+    uint32_t choice = below(8);
+    if (choice < 3)
+        wanted->entry[below(wanted->entry_words)] += below(3) - 1;
+    else if (choice == 3)
+        wanted->entry_words -= below(BELFRY_ENTRY_WORDS + 1);
+    else if (choice == 4 && wanted->node_words >= BELFRY_NODE_WORDS)
+        wanted->node_words -= 1 + below(BELFRY_NODE_WORDS);
+}
+
 /* Changes a word of the links: to that of another node, or by a little, or to another limit. */
 static void damage_link(struct small *s) {
     static const uint32_t others[] = {0, BELFRY_MOST_NODES, BELFRY_NONE - 1, BELFRY_NONE};
@@ -445,6 +509,37 @@ static int meet_at_an_end(const struct input *in) {
     return 0;
 }
 
+/* Returns what a random case gives to the calls, all but what a book is written from. Now and then
+ * the readings have a word too few, or the hundredths one too many. */
+static struct input random_input(const struct small *s) {
+    return (struct input){
+        .ancestors = s->list[0],
+        .ancestor_words = s->words[0],
+        .descendants = s->list[1],
+        .descendant_words = s->words[1],
+        .links = s->link,
+        .link_words = s->links,
+        .readings = s->reading,
+        .reading_words = BELFRY_READING_WORDS * (s->words[1] / BELFRY_NODE_WORDS) -
+                         (s->words[1] > 0 && below(16) == 0),
+        .hundredths = s->hundredths,
+        .hundredth_words = s->words[1] / BELFRY_NODE_WORDS + (below(16) == 0),
+        .zone = below(8),
+        .marks = s->mark,
+        .mark_words = s->marks,
+        .book = s->book,
+        .book_bytes = s->bytes,
+        .questions = s->question,
+        .question_words = s->questions,
+        .tag = 1 + below(4),
+        .rooms = {below(200), below(40)},
+        .ticket = {.placed = below(4),
+                   .document = below(3),
+                   .first = below(24),
+                   .second = below(24)},
+    };
+}
+
 static void compare_random(unsigned long number) {
     static struct small s;
     fill_lists(&s);
@@ -458,32 +553,10 @@ static void compare_random(unsigned long number) {
     fill_marks(&s);
     fill_book(&s);
     fill_questions(&s);
-    struct input in = {
-        .ancestors = s.list[0],
-        .ancestor_words = s.words[0],
-        .descendants = s.list[1],
-        .descendant_words = s.words[1],
-        .links = s.link,
-        .link_words = s.links,
-        .readings = s.reading,
-        .reading_words = BELFRY_READING_WORDS * (s.words[1] / BELFRY_NODE_WORDS) -
-                         (s.words[1] > 0 && below(16) == 0),
-        .hundredths = s.hundredths,
-        .hundredth_words = s.words[1] / BELFRY_NODE_WORDS + (below(16) == 0),
-        .zone = below(8),
-        .marks = s.mark,
-        .mark_words = s.marks,
-        .book = s.book,
-        .book_bytes = s.bytes,
-        .questions = s.question,
-        .question_words = s.questions,
-        .tag = 1 + below(4),
-        .rooms = {below(200), below(40)},
-        .ticket = {.placed = below(4),
-                   .document = below(3),
-                   .first = below(24),
-                   .second = below(24)},
-    };
+    struct input in = random_input(&s);
+    struct wanted *wanted = want_both(&in);
+    damage_wanted(wanted);
+    in.wanted = wanted;
     compare(note_all, &in, "random case", number);
     if (meet_at_an_end(&in))
         seen_at_an_end[belfry_check_two(in.ancestors, in.ancestor_words, in.descendants,
@@ -552,6 +625,7 @@ static void compare_shape(const char *name) {
                    .first = lists.zone[BELFRY_NODE_WORDS * (lists.zones / 2) + 1],
                    .second = lists.zone[BELFRY_NODE_WORDS * (lists.zones / 3) + 1]},
     };
+    in.wanted = want_both(&in);
     compare(note_all, &in, name, BELFRY_MOST_NODES);
     compare_wrong_links(&in, links, name);
 }
@@ -594,7 +668,40 @@ static void compare_limit(size_t words, size_t mark_words, enum lie lie) {
         .question_words = sizeof questions / sizeof questions[0],
         .rooms = {BELFRY_ROW_WORDS * (BELFRY_MOST_NODES + 1), BELFRY_ROW_WORDS * (mark_words - 2)},
     };
+    in.wanted = want_both(&in);
     compare(note_all, &in, "the limits", words);
+}
+
+/* Compares a book of this many lists: its check, finding its last list, questions about that list,
+ * and writing it. */
+static void compare_lists(size_t lists) {
+    static struct shape flat;
+    static struct wanted wanted;
+    static uint8_t book[BELFRY_BOOK_BYTES(BELFRY_MOST_LISTS + 1, 2 * FEW_NODES)];
+    uint32_t last = ZONE_TAG + lists - 1;
+    uint32_t asked[] = {last, last, 0, 0, 0, 0, 0, 0, ZONE_TAG, last, 1, 0, 0, 0, 0, 0};
+    build_shape(&flat, "flat", FEW_NODES);
+    size_t bytes = build_book(book, lists, flat.zone, flat.zones, flat.sample, flat.samples);
+    size_t contents = BELFRY_BOOK_BYTES(lists, 0);
+    wanted.entry_words = BELFRY_ENTRY_WORDS * lists;
+    wanted.node_words = (bytes - contents) / BELFRY_NUMBER_BYTES;
+    memcpy(wanted.node, book + contents, bytes - contents);
+    for (size_t i = 0; i < lists; i++) {
+        const uint8_t *entry = book + BELFRY_BOOK_BYTES(i, 0);
+        wanted.entry[BELFRY_ENTRY_WORDS * i] = belfry_read_number(entry);
+        wanted.entry[BELFRY_ENTRY_WORDS * i + 1] =
+            belfry_read_number(entry + 2 * BELFRY_NUMBER_BYTES);
+    }
+    struct input in = {
+        .book = book,
+        .book_bytes = bytes,
+        .wanted = &wanted,
+        .questions = asked,
+        .question_words = sizeof asked / sizeof asked[0],
+        .tag = last,
+        .rooms = {bytes / BELFRY_NUMBER_BYTES, bytes / BELFRY_NUMBER_BYTES - 1},
+    };
+    compare(note_books_and_questions, &in, "the lists", lists);
 }
 
 /* Tells whether some case drew each answer that the calls compared here can give, and whether zones
@@ -629,9 +736,11 @@ int main(int argc, char **argv) {
         compare_limit(BELFRY_NODE_WORDS * nodes, nodes, NEST);
         compare_limit(BELFRY_NODE_WORDS * nodes, nodes, NEST_WITH_ONE_END);
     }
+    for (size_t lists = BELFRY_MOST_LISTS; lists <= BELFRY_MOST_LISTS + 1; lists++)
+        compare_lists(lists);
     for (unsigned long i = 0; i < cases; i++)
         compare_random(i);
-    printf("%d twins answered and wrote as the archive did: %d shapes, 7 cases at the limits, %lu "
+    printf("%d twins answered and wrote as the archive did: %d shapes, 9 cases at the limits, %lu "
            "random cases.\n",
            CODES - 1, SHAPES, cases);
     printf("A zone and a sample end at one position in %lu random cases that were taken, and in "

@@ -1,7 +1,7 @@
 #include "asking.h"
 #include "measures.h"
 
-enum { LISTINGS = 4, PASSED_PAIRS = 256 };
+enum { LISTINGS = 4, PASSED_PAIRS = 256, MOST_PASSED = 2 };
 
 /* A list of a book, as words. */
 struct list {
@@ -9,12 +9,21 @@ struct list {
     size_t count;
 };
 
-static belfry_question questions[QUESTIONS];
+static belfry_question questions[BELFRY_MOST_QUESTIONS];
 /* How many pairs the questions have in all. */
 static size_t all_pairs;
 
 static const uint8_t *bytes_of(const struct asking *asking) {
     return (const uint8_t *)asking->book;
+}
+
+static size_t count_of(const struct asking *asking) {
+    return asking->lists == BELFRY_MOST_LISTS ? BELFRY_MOST_QUESTIONS : QUESTIONS;
+}
+
+/* Returns the number of the list of samples that a question asks for. */
+static size_t sample_list(const struct asking *asking, size_t question) {
+    return 1 + question * (asking->lists - 1) / count_of(asking);
 }
 
 /* Finds the list of a tag. The book lies in words, and numbers lie in memory as it keeps them, so
@@ -40,20 +49,22 @@ static size_t last_count(const belfry_page *page) {
     return page->count;
 }
 
-void build_questions(const struct asking *asking) {
+void build_questions(const struct asking *asking, enum way way) {
     const struct code *code = &codes[0];
-    struct list zones = find_list(asking, code, ZONE_TAG);
+    uint32_t last = ZONE_TAG + asking->lists - 1, ancestors = way == LAST ? last : ZONE_TAG;
+    struct list zones = find_list(asking, code, ancestors);
     all_pairs = 0;
-    for (size_t i = 0; i < QUESTIONS; i++) {
-        uint32_t tag = SAMPLE_TAG + i % (asking->lists - 1);
-        struct list samples = find_list(asking, code, tag);
+    for (size_t i = 0; i < count_of(asking); i++) {
+        uint32_t descendants =
+            way == FIRST || way == LAST ? ancestors : ZONE_TAG + sample_list(asking, i);
+        struct list samples = find_list(asking, code, descendants);
         belfry_ticket ticket = BELFRY_TICKET(i & 1, i >> 1 & 1);
-        for (size_t passed = 0; passed < i / LISTINGS; passed++)
+        for (size_t passed = 0; passed < i / LISTINGS % (MOST_PASSED + 1); passed++)
             ticket = list_pairs(code, zones, samples, ticket, asking->out,
                                 BELFRY_PAIR_WORDS * PASSED_PAIRS)
                          .ticket;
         belfry_page rest = list_pairs(code, zones, samples, ticket, asking->out, asking->out_words);
-        questions[i] = (belfry_question){ZONE_TAG, tag, ticket};
+        questions[i] = (belfry_question){ancestors, descendants, ticket};
         all_pairs += last_count(&rest);
     }
 }
@@ -73,18 +84,18 @@ static size_t ask_some(const struct asking *asking, const struct code *code, siz
 
 static size_t ask_each(const struct asking *asking, const struct code *code) {
     size_t pairs = 0;
-    for (size_t i = 0; i < QUESTIONS; i++)
+    for (size_t i = 0; i < count_of(asking); i++)
         pairs = ask_some(asking, code, i, 1, pairs);
     return pairs;
 }
 
 /* Lists what each question asks for. The lists are found anew for each, or once. */
 static size_t list_each(const struct asking *asking, const struct code *code, int once) {
-    struct list found[MANY_LISTS];
+    struct list found[BELFRY_MOST_LISTS];
     size_t pairs = 0;
     for (size_t i = 0; once && i < asking->lists; i++)
         found[i] = find_list(asking, code, ZONE_TAG + i);
-    for (size_t i = 0; i < QUESTIONS; i++) {
+    for (size_t i = 0; i < count_of(asking); i++) {
         const belfry_question *q = &questions[i];
         struct list zones = once ? found[0] : find_list(asking, code, q->ancestors);
         struct list samples =
@@ -98,9 +109,9 @@ static size_t list_each(const struct asking *asking, const struct code *code, in
 }
 
 size_t ask_all(const struct asking *asking, enum way way, const struct code *code) {
-    size_t pairs = way == TOGETHER ? ask_some(asking, code, 0, QUESTIONS, 0)
-                   : way == EACH   ? ask_each(asking, code)
-                                   : list_each(asking, code, way == FOUND);
+    size_t pairs = way == EACH                     ? ask_each(asking, code)
+                   : way == SINGLE || way == FOUND ? list_each(asking, code, way == FOUND)
+                                                   : ask_some(asking, code, 0, count_of(asking), 0);
     if (pairs != all_pairs)
         fail("the questions have other pairs than their listings");
     return pairs;

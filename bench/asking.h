@@ -1,19 +1,21 @@
-/* A dozen questions to one book, asked in several ways. */
+/* Questions to one book, asked in several ways. */
 #ifndef ASKING_H
 #define ASKING_H
 
 #include "codes.h"
 
-/* A book has the zones as one list, and the samples as one list or dealt to a list for each
-   question. */
-enum { QUESTIONS = 12, FEW_LISTS = 2, MANY_LISTS = 1 + QUESTIONS };
+/* How many questions a book is asked. A book with the most lists is asked as many questions as a
+   call takes. */
+enum { QUESTIONS = 12 };
 
 /* How they are asked: in one call, in a call each, or by listings of lists that are found in the
-   book, anew for each question or once. */
-enum way { TOGETHER, EACH, SINGLE, FOUND, WAYS };
+   book, anew for each question or once. The last two are in one call too, and about one list alone,
+   the first of the book or its last. */
+enum way { TOGETHER, EACH, SINGLE, FOUND, FIRST, LAST, WAYS };
 
 /* What they are asked of: a book, which lies in words, and how many bytes and lists it has. The
-   output has room for all pairs. */
+   zones are its first list, and the samples are dealt to the others. The output has room for all
+   pairs. */
 struct asking {
     const uint32_t *book;
     size_t bytes, lists;
@@ -21,10 +23,11 @@ struct asking {
     size_t out_words;
 };
 
-/* Builds the questions. Each asks for the zones and the samples, or for the zones and its own list
-   of samples. The four listings take turns. The first four questions are fresh, the next four go on
-   after a page of 256 pairs, and the last four after two such pages. */
-void build_questions(const struct asking *asking);
+/* Builds the questions for a way. Each asks for the zones and a list of samples. These lists are
+   spread over the book. For first and last, each asks for that one list and itself. The four
+   listings take turns. Four questions are fresh, the next four go on after a page of 256 pairs, the
+   next four after two such pages, and so on in turn. */
+void build_questions(const struct asking *asking, enum way way);
 
 /* Asks them all in a way, and answers how many pairs came of it. It ends the program where one is
    refused or isn't done, or where there are more or fewer pairs than there should be. */

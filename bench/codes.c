@@ -12,7 +12,8 @@ TWIN_CALLS(twin_gcc_best)
     { \
         name, prefix##_check, prefix##_check_two, prefix##_list, prefix##_zone_range, \
             prefix##_sheet, prefix##_links, prefix##_links_check, prefix##_list_linked, \
-            prefix##_number, prefix##_book_check, prefix##_book_body, prefix##_ask \
+            prefix##_number, prefix##_book_check, prefix##_book_body, prefix##_book_write, \
+            prefix##_ask \
     }
 
 const struct code codes[CODES] = {

@@ -37,6 +37,8 @@ struct code {
                             uint32_t *out, size_t out_words);
     belfry_book (*book_check)(const uint8_t *book, size_t bytes);
     belfry_body (*book_body)(const uint8_t *book, size_t bytes, uint32_t tag);
+    belfry_result (*book_write)(const uint32_t *entries, size_t entry_words, const uint32_t *nodes,
+                                size_t node_words, uint8_t *out, size_t out_bytes);
     belfry_pages (*ask)(const uint8_t *book, size_t bytes, const uint32_t *questions,
                         size_t question_words, uint32_t *out, size_t out_words);
 };

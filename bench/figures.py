@@ -15,7 +15,8 @@ SHAPES = ("flat", "nests", "between", "random", "eight-zones", "few-samples")
 ALL_SHAPES = (*SHAPES, "documents", "twice", "fields", "side")
 MOST_NODES = 4096
 MOST_LEVELS = 64
-QUESTIONS = 12
+# Questions to a book; to one with the most lists; and how many lists those are.
+QUESTIONS, MOST_QUESTIONS, MOST_LISTS = 12, 32, 64
 
 # The program takes a book of BOOK_BYTES, which has room for PRINTED_NODES in each of two lists.
 BOOK_BYTES, CONTENTS_BYTES, NODE_BYTES = 61440, 28, 16
@@ -96,30 +97,38 @@ def sizes(shape, nodes=MOST_NODES):
 
 
 def without_kind(measure):
-    """Returns the measure's name: a range's without the kind of its readings, a book's without its
-    lists, and that of questions without the book and the way. A listing has it without its links.
+    """Returns the measure's name: a range's without the kind of its readings, a book's without the
+    number of lists, and that of questions without the book and the way. A listing has it without
+    its links.
     """
     name = measure.split("-")[0]
-    if name in ("range", "book", "ask"):
+    if name in ("range", "book", "body", "write", "ask"):
         return name
     return measure.removeprefix("linked-")
 
 
 def unit_of(measure):
     return {"check": "node", "check-one": "node", "range": "node", "sheet": "node", "book": "node",
-            "links": "node", "links-check": "node", "number": "mark",
-            "ask": "question"}.get(without_kind(measure), "pair")
+            "body": "node", "write": "node", "links": "node", "links-check": "node",
+            "number": "mark", "ask": "question"}.get(without_kind(measure), "pair")
+
+
+def questions_to(lists):
+    """Returns how many questions a book of that many lists is asked."""
+    return MOST_QUESTIONS if lists == MOST_LISTS else QUESTIONS
 
 
 def units(measure, shape, nodes=MOST_NODES):
     """Returns how many nodes, marks, questions or pairs the measure's cost is shared by."""
     if measure == "print":
         return sizes(shape, min(int(nodes), PRINTED_NODES))["inside"]
+    if measure.startswith("ask-"):
+        return questions_to(int(measure.split("-")[1]))
     measure, size = without_kind(measure), sizes(shape, nodes)
     both = size["zones"] + size["samples"]
     counts = {"check": both, "check-one": size["zones"], "range": both, "sheet": both, "book": both,
-              "links": size["zones"], "links-check": size["zones"], "number": size["marks"],
-              "ask": QUESTIONS}
+              "body": both, "write": both, "links": size["zones"], "links-check": size["zones"],
+              "number": size["marks"]}
     if measure in counts:
         return counts[measure]
     pairs = size[measure.split("-")[0]]
@@ -127,9 +136,9 @@ def units(measure, shape, nodes=MOST_NODES):
 
 
 def main(code, measure, shape, nodes=MOST_NODES):
-    total = instructions(code, measure, shape, nodes)
-    each = total / units(measure, shape, nodes)
-    print(f"{total} instructions, {each:.2f} for each {unit_of(measure)}")
+    total, count = instructions(code, measure, shape, nodes), units(measure, shape, nodes)
+    each = f", {total / count:.2f} for each {unit_of(measure)}" if count else ""
+    print(f"{total} instructions{each}")
 
 
 if __name__ == "__main__":

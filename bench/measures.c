@@ -5,14 +5,15 @@
 #include <string.h>
 
 enum {
+    FEW_LISTS = 2,
     BOOK_NODES = 2 * BELFRY_MOST_NODES,
     OUT_WORDS = QUESTIONS * MOST_PAIRS * BELFRY_PAIR_WORDS,
 };
 
 struct shape shape;
 static uint32_t out[OUT_WORDS], readings[BELFRY_READING_WORDS * BELFRY_MOST_NODES],
-    hundredths[BELFRY_MOST_NODES];
-uint32_t book[BELFRY_BOOK_BYTES(MANY_LISTS, BOOK_NODES) / BELFRY_NUMBER_BYTES];
+    hundredths[BELFRY_MOST_NODES], entries[BELFRY_ENTRY_WORDS * BELFRY_MOST_LISTS];
+uint32_t book[BELFRY_BOOK_BYTES(BELFRY_MOST_LISTS, BOOK_NODES) / BELFRY_NUMBER_BYTES];
 size_t book_bytes;
 
 void fail(const char *why) {
@@ -55,7 +56,7 @@ static int prepare_range(struct measure *measure, const char *name) {
 
 /* Tells whether there is a book of that many lists. */
 static int is_book(size_t lists) {
-    return lists == FEW_LISTS || lists == MANY_LISTS;
+    return FEW_LISTS <= lists && lists <= BELFRY_MOST_LISTS;
 }
 
 static struct asking asking_of(const struct measure *measure) {
@@ -64,7 +65,8 @@ static struct asking asking_of(const struct measure *measure) {
 
 static int prepare_ask(struct measure *measure, const char *name) {
     static const char *const ways[WAYS] = {
-        [TOGETHER] = "together", [EACH] = "each", [SINGLE] = "single", [FOUND] = "found"};
+        [TOGETHER] = "together", [EACH] = "each",   [SINGLE] = "single",
+        [FOUND] = "found",       [FIRST] = "first", [LAST] = "last"};
     char way[16];
     if (sscanf(name, "ask-%zu-%15s", &measure->lists, way) != 2)
         return 0;
@@ -75,30 +77,52 @@ static int prepare_ask(struct measure *measure, const char *name) {
     return 0;
 }
 
+/* The measures that have a name of their own. The last three may have a number of lists after it.
+ */
+static const char *const named[] = {[CHECK] = "check",
+                                    [CHECK_ONE] = "check-one",
+                                    [SHEET] = "sheet",
+                                    [LINKS] = "links",
+                                    [LINKS_CHECK] = "links-check",
+                                    [NUMBER] = "number",
+                                    [BOOK] = "book",
+                                    [BODY] = "body",
+                                    [WRITE] = "write"};
+
 static int prepare_book(struct measure *measure, const char *name) {
-    measure->kind = BOOK;
-    return sscanf(name, "book-%zu", &measure->lists) == 1 && is_book(measure->lists);
+    char call[16];
+    if (sscanf(name, "%15[^-]-%zu", call, &measure->lists) != 2)
+        return 0;
+    for (measure->kind = BOOK; measure->kind <= WRITE; measure->kind++)
+        if (strcmp(named[measure->kind], call) == 0)
+            return is_book(measure->lists);
+    return 0;
 }
 
 /* Prepares what a measure's name says, without the shape. */
 static int prepare_named(struct measure *measure, const char *name) {
-    static const char *const names[] = {
-        [CHECK] = "check", [CHECK_ONE] = "check-one",     [SHEET] = "sheet",
-        [LINKS] = "links", [LINKS_CHECK] = "links-check", [NUMBER] = "number",
-        [BOOK] = "book"};
+    if (prepare_book(measure, name))
+        return 1;
     measure->lists = FEW_LISTS;
-    for (enum kind kind = CHECK; kind <= BOOK; kind++)
-        if (names[kind] && strcmp(names[kind], name) == 0) {
+    for (enum kind kind = CHECK; kind <= WRITE; kind++)
+        if (named[kind] && strcmp(named[kind], name) == 0) {
             measure->kind = kind;
             return 1;
         }
-    if (strncmp(name, "book-", 5) == 0)
-        return prepare_book(measure, name);
     if (strncmp(name, "ask-", 4) == 0)
         return prepare_ask(measure, name);
     if (strncmp(name, "linked-", 7) == 0)
         return prepare_linked(measure, name + 7);
     return prepare_range(measure, name) || prepare_listing(measure, name);
+}
+
+/* Builds the entries that the book is written from: the tag and the count of each list. */
+static void build_entries(size_t lists) {
+    const uint32_t *numbers = book + 1;
+    for (size_t i = 0; i < lists; i++, numbers += BELFRY_CONTENTS_NUMBERS) {
+        entries[BELFRY_ENTRY_WORDS * i] = numbers[0];
+        entries[BELFRY_ENTRY_WORDS * i + 1] = numbers[2];
+    }
 }
 
 /* Makes the first page of a listing, with room for some pairs. */
@@ -124,11 +148,12 @@ int prepare_measure(struct measure *measure, const char *name, const char *shape
         return 0;
     book_bytes = build_book((uint8_t *)book, measure->lists, shape.zone, shape.zones, shape.sample,
                             shape.samples);
+    build_entries(measure->lists);
     build_readings(readings, shape.samples, measure->readings);
     build_hundredths(hundredths, shape.samples);
     if (measure->kind == ASK) {
         struct asking asking = asking_of(measure);
-        build_questions(&asking);
+        build_questions(&asking, measure->way);
     }
     build_links();
     if (measure->late)
@@ -195,7 +220,22 @@ static size_t check_book(const struct code *code) {
     return taken(opened.verdict.answer, opened.lists);
 }
 
-static size_t ask_dozen(const struct measure *measure, const struct code *code) {
+static size_t find_last(const struct measure *measure, const struct code *code) {
+    belfry_body body =
+        code->book_body((const uint8_t *)book, book_bytes, ZONE_TAG + measure->lists - 1);
+    return taken(body.verdict.answer, body.bytes);
+}
+
+/* Writes the book. Its nodes are taken from where they lie in it. */
+static size_t write_book(const struct measure *measure, const struct code *code) {
+    size_t contents = BELFRY_BOOK_BYTES(measure->lists, 0) / BELFRY_NUMBER_BYTES;
+    belfry_result result =
+        code->book_write(entries, BELFRY_ENTRY_WORDS * measure->lists, book + contents,
+                         book_bytes / BELFRY_NUMBER_BYTES - contents, (uint8_t *)out, sizeof out);
+    return taken(result.verdict.answer, result.count);
+}
+
+static size_t ask_questions(const struct measure *measure, const struct code *code) {
     struct asking asking = asking_of(measure);
     return ask_all(&asking, measure->way, code);
 }
@@ -214,8 +254,12 @@ size_t run_measure(const struct measure *measure, const struct code *code) {
         return number_marks(code);
     case BOOK:
         return check_book(code);
+    case BODY:
+        return find_last(measure, code);
+    case WRITE:
+        return write_book(measure, code);
     case ASK:
-        return ask_dozen(measure, code);
+        return ask_questions(measure, code);
     case CHECK_ONE:
     case LINKS_CHECK:
     case LINKED:

@@ -1,5 +1,5 @@
-/* What is measured: a call of the C interface, all page calls of a listing, or a dozen questions,
-   on a shape. */
+/* What is measured: a call of the C interface, all page calls of a listing, or several questions.
+   They are made on a shape. */
 #ifndef MEASURES_H
 #define MEASURES_H
 
@@ -20,6 +20,8 @@ enum kind {
     LINKS_CHECK,
     NUMBER,
     BOOK,
+    BODY,
+    WRITE,
     ASK
 };
 
@@ -47,14 +49,14 @@ extern size_t book_bytes;
    and as room the pairs of a page, or all. As room, late is all for one page that begins after
    three quarters of the pairs. A listing with links is linked-RELATION-ORDER-ROOM.
    The readings of range are of each kind in turn; those of range-percent, range-grams and
-   range-missing are of one. The book has 2 lists, and that of book-LISTS has 2 or 13.
-   A dozen questions are ask-LISTS-WAY: the book has 2 or 13 lists, and the way is together, each,
-   single or found. */
+   range-missing are of one. The book of book, body and write has 2 lists, and with -LISTS after
+   their name it has that many. They check it, find its last list and write it.
+   Questions are ask-LISTS-WAY, with the way together, each, single, found, first or last. */
 int prepare_measure(struct measure *measure, const char *name, const char *shape_name,
                     size_t nodes);
 
-/* Runs the measure once, and answers how many pairs, nodes, zones, link triples, rows or lists came
-   of it.
+/* Runs the measure once, and answers how many pairs, nodes, zones, link triples, rows, lists or
+   bytes came of it.
    A refusal ends the program. */
 size_t run_measure(const struct measure *measure, const struct code *code);
 

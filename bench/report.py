@@ -10,9 +10,9 @@ from pathlib import Path
 
 import farms
 import join
-from figures import (ALL_SHAPES, CODES, EMULATOR, MADE, MOST_LEVELS, MOST_NODES, PRINTED_NODES,
-                     QUESTIONS, SHAPES, counted, emulated, instructions, printing_nothing, run,
-                     sizes, unit_of, units)
+from figures import (ALL_SHAPES, CODES, EMULATOR, MADE, MOST_LEVELS, MOST_LISTS, MOST_NODES,
+                     MOST_QUESTIONS, PRINTED_NODES, QUESTIONS, SHAPES, counted, emulated,
+                     instructions, printing_nothing, questions_to, run, sizes, unit_of, units)
 from tables import item, progress, say, table
 
 CASES = 100_000
@@ -22,10 +22,12 @@ LINKED = tuple(f"linked-{listing}" for listing in LISTINGS)
 LINKED_CALLS = tuple(f"list_linked, {order} order" for order in ORDERS)
 PAGE_ROOMS = (256, MOST_NODES)
 GROWTH = (64, 1024, MOST_NODES)
-# How many lists the books have that are asked questions, and how these are asked.
+# How many lists the books that are asked questions have, and how these are asked.
 BOOKS = (2, 1 + QUESTIONS)
 WAYS = {"together": "one call", "each": "a call each", "single": "single calls",
         "found": "lists found once"}
+# How many lists the books of empty lists have.
+EMPTY_LISTS = (16, MOST_LISTS)
 TWINS = CODES[1:]
 CODES_HERE = TWINS if EMULATOR else CODES
 # Times of the calls are taken where the machine is an x86-64, unless counts alone are wanted.
@@ -179,12 +181,12 @@ def check_counter():
 
 def print_codes():
     print("\n## Codes")
-    say("Every call checks what it is given. The twins differ in how they check two lists, list "
-        "pairs and link nodes; they find ranges, write sheets, number marks and check books in one "
-        "way. A sheet is written without recursion by the twins. Questions are answered by a check "
-        "of the book, and by a copy and a listing of two lists for each. The twins check links "
-        "that are lent in one pass, three and fused by a stack of open nodes and best by the way "
-        "up. They jump as the archive does.")
+    say("Every call checks what it is given. The twins differ in how they check lists, list pairs "
+        "and link nodes; they find ranges, write sheets, number marks and check books in one way. "
+        "A sheet is written without recursion by the twins. A book is written once each of its "
+        "lists is checked. Questions are answered by a check of the book, and by a copy and a "
+        "listing of two lists for each. The twins check links that are lent in one pass, three and "
+        "fused by a stack of open nodes and best by the way up. They jump as the archive does.")
     print()
     item("archive: the proved library")
     item("three: ordinary C that checks two lists in three passes, over each list and then over "
@@ -259,7 +261,8 @@ def beyond_page(lists, shape):
     the book. Where the lists are found once, the book is checked as often as it has lists.
     """
     size, checks = sizes(shape), (lists - 1) * instructions("archive", f"book-{lists}", shape)
-    nodes = QUESTIONS * size["zones"] + QUESTIONS * size["samples"] // (lists - 1)
+    questions = questions_to(lists)
+    nodes = questions * size["zones"] + questions * size["samples"] // (lists - 1)
     return (asked(lists, "together", shape) - asked(lists, "found", shape) + checks) / nodes
 
 
@@ -520,6 +523,13 @@ def asked_row(lists, shape):
             f"{beyond_page(lists, shape):.1f}")
 
 
+def print_asked(lists):
+    progress(f"Questions to a book of {lists} lists")
+    print(f"\n### Questions to a book of {lists} lists")
+    table(("shape", *WAYS.values(), "to single calls", "to lists found once", "beyond, a node"),
+          [asked_row(lists, shape) for shape in ALL_SHAPES])
+
+
 def print_questions():
     print(f"\n## {QUESTIONS} questions to one book")
     say("The book has the zones as one list. The samples are one list too, or they are dealt to "
@@ -539,12 +549,48 @@ def print_questions():
         "That is the copy of the lists, and the clearing of 131,072 bytes once for each call, "
         "which counts an instruction for each byte.")
     for lists in BOOKS:
-        progress(f"Questions to a book of {lists} lists")
-        print(f"\n### Questions to a book of {lists} lists")
-        table(("shape", *WAYS.values(), "to single calls", "to lists found once", "beyond, a node"),
-              [asked_row(lists, shape) for shape in ALL_SHAPES])
+        print_asked(lists)
     for lists in BOOKS:
         measured(f"Questions in one call, {lists} lists", f"ask-{lists}-together", "a question")
+
+
+def to_find(code, lists):
+    """Returns what finding the last of empty lists takes beyond the check of the book."""
+    return (instructions(code, f"body-{lists}", "empty")
+            - instructions(code, f"book-{lists}", "empty"))
+
+
+def to_ask(code, lists):
+    """Returns what a question about the last of empty lists takes beyond one about the first."""
+    last, first = (instructions(code, f"ask-{lists}-{way}", "empty") for way in ("last", "first"))
+    return (last - first) // questions_to(lists)
+
+
+def print_empty_lists():
+    progress("Empty lists")
+    print("\n### Empty lists")
+    say("What lists take by themselves: the instructions for books whose lists are all empty. Tags "
+        "are sought from the first list on.")
+    costs = {"checking the book": lambda code, lists: instructions(code, f"book-{lists}", "empty"),
+             "writing it": lambda code, lists: instructions(code, f"write-{lists}", "empty"),
+             "finding the last list, beyond the check": to_find,
+             "a question about the last list and itself, beyond one about the first": to_ask}
+    table(("what", "lists", *CODES), [(what, lists, *(f"{cost(code, lists):,}" for code in CODES))
+                                      for what, cost in costs.items() for lists in EMPTY_LISTS])
+
+
+def print_many_lists():
+    print(f"\n## Books of {MOST_LISTS} lists")
+    say(f"The zones are the first list, and the samples are dealt to the {MOST_LISTS - 1} others. "
+        f"There are {MOST_QUESTIONS} questions, as many as a call takes. Each asks for the zones "
+        "and one list of samples, and these lists are spread over the book. The questions are of "
+        "the kinds above in turn, and are asked in the same ways.")
+    measured(f"Checking a book of {MOST_LISTS} lists", f"book-{MOST_LISTS}", "a node")
+    measured(f"Writing a book of {MOST_LISTS} lists", f"write-{MOST_LISTS}", "a node")
+    print_asked(MOST_LISTS)
+    measured(f"Questions in one call, {MOST_LISTS} lists", f"ask-{MOST_LISTS}-together",
+             "a question")
+    print_empty_lists()
 
 
 def printed_row(shape):
@@ -688,6 +734,7 @@ def main():
     print_pages()
     print_others()
     print_questions()
+    print_many_lists()
     print_linked()
     print_printing()
     print_growth()

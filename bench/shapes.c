@@ -397,7 +397,7 @@ static int build(struct building *b, const char *name) {
     else if (strcmp(name, "deepest") == 0)
         build_deepest(b);
     else
-        return build_farm(b, name);
+        return strcmp(name, "empty") == 0 || build_farm(b, name);
     return 1;
 }
 

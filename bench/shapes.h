@@ -19,10 +19,11 @@ struct shape {
 extern const char *const shape_names[SHAPES];
 
 /* Builds the shape of a name with at most `nodes` nodes in each list; it answers 0 where there is
-   no such shape. The lists need no root, so the outermost zones have level 1. Three names are
+   no such shape. The lists need no root, so the outermost zones have level 1. Four names are
    beside the ten. For ranges and sheets, holds-all is one zone with all samples in it, and
    holds-none is one zone with all samples after it. For the stack, deepest is a nest of as many
-   zones as there are levels, with a sample before and a sample after each inner zone.
+   zones as there are levels, with a sample before and a sample after each inner zone. For books,
+   empty has neither zones nor samples.
    Farms are beside them too: farm-ZONES-COUNT-PLACE has that many zones with a sample of their own,
    the first of the list, the last, or spread over it. ZONES says how the zones lie: flat, in fields
    of 64, in documents of 64 or in nests. It is side for nests with a small zone first in each zone,

@@ -1,8 +1,8 @@
 /* How much stack each call takes, its arguments, its answer and the way back included: the most
-   over all shapes and the deepest nest, taken and refused. A call runs on a stack of its own that
-   was painted before, and what lost its paint is counted, less what an empty function leaves. A
-   line is printed for each call: its name, and the bytes for each code, 0 where the twin has no
-   such call. */
+   over all shapes and the deepest nest, taken and refused, and over books of two lists and of as
+   many as may be. A call runs on a stack of its own that was painted before, and what lost its
+   paint is counted, less what an empty function leaves. A line is printed for each call: its name,
+   and the bytes for each code, 0 where the twin has no such call. */
 #include "codes.h"
 #include "shapes.h"
 #include <stdio.h>
@@ -15,21 +15,24 @@ enum {
     CALLS = 19,
     PAINTS = 2,
     WORD_BYTES = 8,
-    BOOK_LISTS = 2,
-    BOOK_NODES = BOOK_LISTS * BELFRY_MOST_NODES,
+    FEW_LISTS = 2,
+    BOOK_NODES = 2 * BELFRY_MOST_NODES,
+    /* For each shape there are books of few lists and of many, and each is taken and refused. */
+    ROUNDS = 2 * 2,
     LISTINGS = 4,
     QUESTION_KINDS = 1 + 2 * LISTINGS
 };
 
 /* What the calls are given: a shape's lists, links, readings and hundredths, a document's marks and
-   table, the entry of the zones for a book to be written, and a book of both lists with its
-   questions. */
+   table, and a book with the tag of its last list, its questions, and the entries and nodes that it
+   is written from. */
 static struct shape lists, document;
-static size_t zone_words, sample_words, table_words, book_bytes;
+static size_t zone_words, sample_words, table_words, book_bytes, entry_words, node_words;
 static belfry_question questions[QUESTION_KINDS];
-static uint32_t table[BELFRY_ROW_WORDS * BELFRY_MOST_NODES], entry[2],
-    book[BELFRY_BOOK_BYTES(BOOK_LISTS, BOOK_NODES) / BELFRY_NUMBER_BYTES],
-    links[BELFRY_LINK_WORDS * BELFRY_MOST_NODES],
+static const uint32_t *nodes;
+static uint32_t last_tag, table[BELFRY_ROW_WORDS * BELFRY_MOST_NODES],
+    book[BELFRY_BOOK_BYTES(BELFRY_MOST_LISTS, BOOK_NODES) / BELFRY_NUMBER_BYTES],
+    entries[BELFRY_ENTRY_WORDS * BELFRY_MOST_LISTS], links[BELFRY_LINK_WORDS * BELFRY_MOST_NODES],
     readings[BELFRY_READING_WORDS * BELFRY_MOST_NODES], hundredths[BELFRY_MOST_NODES],
     out[OUT_WORDS];
 
@@ -121,14 +124,11 @@ static void call_book_check(const struct code *code) {
 }
 
 static void call_book_body(const struct code *code) {
-    code->book_body((const uint8_t *)book, book_bytes, entry[0]);
+    code->book_body((const uint8_t *)book, book_bytes, last_tag);
 }
 
 static void call_book_write(const struct code *code) {
-    (void)code;
-    belfry_result written =
-        belfry_book_write(entry, 2, lists.zone, zone_words, (uint8_t *)out, sizeof out);
-    (void)written;
+    code->book_write(entries, entry_words, nodes, node_words, (uint8_t *)out, sizeof out);
 }
 
 static void call_ask(const struct code *code) {
@@ -163,7 +163,7 @@ static const struct {
     {"links_check", call_links_check, 1},
     {"book_check", call_book_check, 1},
     {"book_body", call_book_body, 1},
-    {"book_write", call_book_write, 0},
+    {"book_write", call_book_write, 1},
     {"ask", call_ask, 1},
     {"name", call_name, 0},
 };
@@ -208,20 +208,36 @@ static size_t stack_of(void (*make)(const struct code *code), const struct code 
     return (most + WORD_BYTES - 1) / WORD_BYTES * WORD_BYTES;
 }
 
+/* Builds the book of this many lists, and the entries and nodes that it is written from. */
+static void prepare_book(size_t count) {
+    book_bytes =
+        build_book((uint8_t *)book, count, lists.zone, lists.zones, lists.sample, lists.samples);
+    for (size_t i = 0; i < count; i++) {
+        const uint32_t *numbers = &book[1 + BELFRY_CONTENTS_NUMBERS * i];
+        entries[BELFRY_ENTRY_WORDS * i] = numbers[0];
+        entries[BELFRY_ENTRY_WORDS * i + 1] = numbers[2];
+    }
+    last_tag = ZONE_TAG + count - 1;
+    entry_words = BELFRY_ENTRY_WORDS * count;
+    nodes = &book[1 + BELFRY_CONTENTS_NUMBERS * count];
+    node_words = BELFRY_NODE_WORDS * (lists.zones + lists.samples);
+}
+
 /* Makes questions of all kinds: one for a tag that the book lacks, and one for each listing, first
- * from the middle zone's place on and then fresh. */
+ * from the middle zone's place on and then fresh. The listings are of the first list and the last.
+ */
 static void make_questions(void) {
     const uint32_t *zone = &lists.zone[BELFRY_NODE_WORDS * (lists.zones / 2)];
-    questions[0] = (belfry_question){SAMPLE_TAG + 1, ZONE_TAG, {0, 0, 0, 0, 0, 0}};
+    questions[0] = (belfry_question){last_tag + 1, ZONE_TAG, {0, 0, 0, 0, 0, 0}};
     for (uint32_t i = 0; i < LISTINGS; i++) {
         belfry_ticket placed = {i & 1, i >> 1, BELFRY_PLACED, zone[0], zone[1], 0};
-        questions[1 + i] = (belfry_question){ZONE_TAG, SAMPLE_TAG, placed};
+        questions[1 + i] = (belfry_question){ZONE_TAG, last_tag, placed};
         questions[1 + LISTINGS + i] =
-            (belfry_question){ZONE_TAG, SAMPLE_TAG, BELFRY_TICKET(i & 1, i >> 1)};
+            (belfry_question){ZONE_TAG, last_tag, BELFRY_TICKET(i & 1, i >> 1)};
     }
 }
 
-static void prepare(const char *shape_name) {
+static void prepare(const char *shape_name, size_t book_lists) {
     build_shape(&lists, shape_name, BELFRY_MOST_NODES);
     build_document(&document, shape_name, BELFRY_MOST_NODES);
     build_readings(readings, lists.samples, IN_TURN);
@@ -232,24 +248,23 @@ static void prepare(const char *shape_name) {
     size_t room = BELFRY_ROW_WORDS * BELFRY_MOST_NODES;
     belfry_result rows = codes[0].number(1, document.mark, document.marks, table, room);
     table_words = BELFRY_ROW_WORDS * rows.count;
-    entry[0] = ZONE_TAG;
-    entry[1] = lists.zones;
-    book_bytes = build_book((uint8_t *)book, BOOK_LISTS, lists.zone, lists.zones, lists.sample,
-                            lists.samples);
+    prepare_book(book_lists);
     make_questions();
 }
 
-/* Gives the last node of each list, and of the book, a level that is too high. */
+/* Gives the last node of each list, and of the book, a level that is too high. A book is written
+ * from its own nodes. */
 static void damage(void) {
     lists.zone[zone_words - 1] = BELFRY_MOST_LEVELS + 1;
     lists.sample[sample_words - 1] = BELFRY_MOST_LEVELS + 1;
-    book[book_bytes / 4 - 1] = BELFRY_MOST_LEVELS + 1;
+    book[book_bytes / BELFRY_NUMBER_BYTES - 1] = BELFRY_MOST_LEVELS + 1;
 }
 
 int main(void) {
     static size_t most[CALLS][CODES];
-    for (size_t round = 0; round < 2 * (SHAPES + 1); round++) {
-        prepare(round / 2 < SHAPES ? shape_names[round / 2] : "deepest");
+    for (size_t round = 0; round < ROUNDS * (SHAPES + 1); round++) {
+        prepare(round / ROUNDS < SHAPES ? shape_names[round / ROUNDS] : "deepest",
+                round / 2 % 2 == 0 ? FEW_LISTS : BELFRY_MOST_LISTS);
         if (round % 2 == 1)
             damage();
         for (size_t c = 0; c < CALLS; c++)

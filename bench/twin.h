@@ -598,6 +598,62 @@ belfry_body TWIN(book_body)(const uint8_t *book, size_t bytes, uint32_t tag) {
     return find_body(book, b.lists, tag);
 }
 
+/* Tells whether the contents of a book to be written keep the rules, and name all nodes. */
+static int are_wanted(const belfry_entry *entries, size_t lists, size_t nodes) {
+    size_t named = 0;
+    if (lists > BELFRY_MOST_LISTS)
+        return 0;
+    for (size_t i = 0; i < lists; i++) {
+        if (entries[i].count > BELFRY_MOST_NODES || (i > 0 && entries[i].tag <= entries[i - 1].tag))
+            return 0;
+        named += entries[i].count;
+    }
+    return named == nodes;
+}
+
+/* Checks the lists of a book to be written, one after the other. */
+static belfry_verdict check_wanted(const belfry_entry *entries, size_t lists,
+                                   const uint32_t *nodes) {
+    for (size_t i = 0; i < lists; i++) {
+        size_t words = BELFRY_NODE_WORDS * (size_t)entries[i].count;
+        belfry_verdict verdict = check_one(nodes, words);
+        if (verdict.answer != BELFRY_TAKEN)
+            return (belfry_verdict){verdict.answer, i, verdict.index};
+        nodes += words;
+    }
+    return verdict_of(BELFRY_TAKEN);
+}
+
+/* Writes a book's contents. Numbers lie in memory as a book keeps them. */
+static void write_contents(const belfry_entry *entries, uint32_t lists, uint8_t *out) {
+    uint32_t end = BELFRY_BOOK_BYTES(lists, 0);
+    memcpy(out, &lists, sizeof lists);
+    for (size_t i = 0; i < lists; i++) {
+        struct entry entry = {entries[i].tag, end, entries[i].count};
+        memcpy(out + BELFRY_BOOK_BYTES(i, 0), &entry, sizeof entry);
+        end += NODE_BYTES * entry.count;
+    }
+}
+
+belfry_result TWIN(book_write)(const uint32_t *entries, size_t entry_words, const uint32_t *nodes,
+                               size_t node_words, uint8_t *out, size_t out_bytes) {
+    const belfry_entry *entry = (const belfry_entry *)entries;
+    size_t lists = entry_words / BELFRY_ENTRY_WORDS, count = node_words / BELFRY_NODE_WORDS;
+    size_t bytes = BELFRY_BOOK_BYTES(lists, count);
+    if (entry_words % BELFRY_ENTRY_WORDS != 0 || node_words % BELFRY_NODE_WORDS != 0)
+        return result_of(verdict_of(BELFRY_RAGGED), 0);
+    if (!are_wanted(entry, lists, count))
+        return result_of(verdict_of(BELFRY_CONTENTS), 0);
+    belfry_verdict verdict = check_wanted(entry, lists, nodes);
+    if (verdict.answer == BELFRY_TAKEN && out_bytes < bytes)
+        verdict.answer = BELFRY_ROOM;
+    if (verdict.answer != BELFRY_TAKEN)
+        return result_of(verdict, 0);
+    write_contents(entry, lists, out);
+    memcpy(out + BELFRY_BOOK_BYTES(lists, 0), nodes, NODE_BYTES * count);
+    return result_of(verdict, bytes);
+}
+
 /* Answers a question to a book that was checked. A book may lie anywhere, so its two lists are
    copied to words, which lie as a book keeps them. */
 static belfry_page answer_one(const uint8_t *book, uint32_t lists, const belfry_question *q,
