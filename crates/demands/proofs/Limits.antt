@@ -17,8 +17,8 @@ use Rattle.contents.specs.Contents.{MOST-LISTS, EARLIER-LISTS, listsIn}
 use Rattle.books.specs.Book.{bookVerdictUpTo, opened, checkBookUpTo}
 use Rattle.books.specs.Find.{found, foundAtUpTo, foundTagUpTo}
 use Rattle.books.proofs.Limits.{many-refused, many-opened, many-found, many-tag, taken-few, verdict-alike, opened-alike, found-alike, tag-alike}
-use Rattle.readers.specs.Reader.{keptListsUpTo, keptBodyUpTo}
-use Rattle.readers.proofs.Kept.{no-lists, no-body, lists-alike, body-alike}
+use Rattle.readers.specs.Reader.{keptListsUpTo, keptBodyUpTo, keptPlaceUpTo}
+use Rattle.readers.proofs.Kept.{no-lists, no-body, lists-alike, body-alike, place-alike}
 use Rattle.writing.specs.Back.{entriesFrom, nodesFrom}
 use Rattle.writing.specs.Wanted.{WANTED-WORDS, wanted}
 use Rattle.writing.specs.WriteCall.{checkWantedUpTo, bytesFor, writtenOfUpTo, writtenOutputUpTo}
@@ -45,6 +45,7 @@ pub record ReadAlike (fewer more : ℕ) (book : List ℕ) : Type 0 where
   pub under-a-tag : (tag : ℕ) → foundTagUpTo fewer book tag ≡ foundTagUpTo more book tag
   pub lists-of-a-reader : keptListsUpTo fewer book ≡ keptListsUpTo more book
   pub body-of-a-reader : (tag : ℕ) → keptBodyUpTo fewer book tag ≡ keptBodyUpTo more book tag
+  pub place-of-a-body : (start : ℕ × ℕ) (tag : ℕ) → keptPlaceUpTo fewer book start tag ≡ keptPlaceUpTo more book start tag
   pub pages-of-questions : (words out : List ℕ) → askOfUpTo fewer book words out ≡ askOfUpTo more book words out
   pub output-of-questions : (words out : List ℕ) → askOutputUpTo fewer book words out ≡ askOutputUpTo more book words out
   pub printing : printedUpTo fewer book ≡ printedUpTo more book
@@ -90,6 +91,7 @@ module _ (fewer more : ℕ) (rises : fewer ≤ more) where
     under-a-tag = tag-alike fewer more book h (omega arith);
     lists-of-a-reader = lists-alike fewer more book h (omega arith);
     body-of-a-reader = body-alike fewer more book h (omega arith);
+    place-of-a-body = place-alike fewer more book h (omega arith);
     pages-of-questions = λ words out. asked-alike fewer more book h (omega arith) words out .0;
     output-of-questions = λ words out. asked-alike fewer more book h (omega arith) words out .1;
     printing = prints-alike fewer more book h (omega arith);

@@ -23,7 +23,7 @@ use Rattle.books.specs.Find.{tagAt, foundAt, foundTagUpTo, foundTag, tagEntry, 
 use Rattle.answers.proofs.VerdictLaws.{refuses, accepts}
 use Rattle.books.proofs.FindLaws.{list-absent, list-found, tag-body-at}
 use Rattle.books.proofs.Limits.{verdict-alike}
-use Rattle.readers.specs.Reader.{keptOfUpTo, keptOf, keptListsUpTo, keptLists, keptBodyUpTo, keptBody}
+use Rattle.readers.specs.Reader.{keptOfUpTo, keptOf, keptListsUpTo, keptLists, keptBodyUpTo, keptBody, keptPlaceUpTo}
 
 -- Of a book that is refused under a limit nothing is kept.
 module _ (most : ℕ) (book : List ℕ) (bad : bookVerdictUpTo most book .answer ≡ TAKEN → ⊥) where
@@ -83,7 +83,7 @@ module _ (book : List ℕ) (ok : bookVerdict book .answer ≡ TAKEN) where
 
 -- Under two limits that the book is within, the same is kept.
 module _ (fewer more : ℕ) (book : List ℕ) (h : listsIn book ≤ fewer) (k : listsIn book ≤ more) where
-  pub kept-alike : keptOfUpTo fewer book ≡ keptOfUpTo more book
+  kept-alike : keptOfUpTo fewer book ≡ keptOfUpTo more book
   unfolding keptOfUpTo
   kept-alike = rw (verdict-alike fewer more book h k)
 
@@ -94,3 +94,7 @@ module _ (fewer more : ℕ) (book : List ℕ) (h : listsIn book ≤ fewer) (k : 
   pub body-alike : (tag : ℕ) → keptBodyUpTo fewer book tag ≡ keptBodyUpTo more book tag
   unfolding keptBodyUpTo
   body-alike tag = rw (kept-alike, lists-alike) refl
+
+  pub place-alike : (start : ℕ × ℕ) (tag : ℕ) → keptPlaceUpTo fewer book start tag ≡ keptPlaceUpTo more book start tag
+  unfolding keptPlaceUpTo
+  place-alike start tag = rw (kept-alike, lists-alike) refl
