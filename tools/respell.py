@@ -1,13 +1,14 @@
 #!/usr/bin/env python3
-"""Brings this repository's own definitions and lemmas to snake case, as today's Rattle spells words.
+"""Brings this repository's own definitions and lemmas to snake case, as today's Rattle spells
+words.
 
 usage: python3 tools/respell.py    at the top of a checkout in which the kit's port.py has just run
 
-A word such as `nameOf` or `every-two-drop` becomes `name_of` or `every_two_drop`, and a constant such
-as `MOST-LISTS` becomes `MOST_LISTS`, wherever it is named: in specs/, proofs/, contracts, must-fail
-edits and pages. A lemma that would have a function's name gets `_lem` after it. Names of the kit's libraries,
-names that Rattle makes (goals and steps) and all text between double quotes stay. Where two words
-would still have one name, nothing is written.
+A word such as `nameOf` or `every-two-drop` becomes `name_of` or `every_two_drop`. A constant such
+as `MOST-LISTS` becomes `MOST_LISTS`. It is so wherever they are named: in specs/, proofs/,
+contracts, must-fail edits and pages. A lemma that would have a function's name gets `_lem` after
+it. Names of the kit's libraries, names that Rattle makes (goals and steps) and all text between
+double quotes stay. Where two words would still have one name, nothing is written.
 """
 
 import collections
@@ -23,6 +24,8 @@ BINDER = re.compile(r"[({]((?:[^\s(){}\[\],;.\"`:]+\s+)+):\s")
 USED = re.compile(r"^\s*(?:ghost\s+)?use\s+([\w.·]+)\.\{([^}]*)\}", re.M)
 # Lemmas that port.py gave the new name of a function.
 LEMMAS = ("entries_from", "from_start", "node_in", "not_done", "row_words", "too_many")
+# A field that no function of its name is near, and names that a λ binds.
+PLAIN = {"tag-at": "tag_at", "ofAncestors": "of_ancestors", "ofDescendants": "of_descendants"}
 # Names of functions that a module's import has too, by `as`, which is no clash.
 MODULES = ("entry_at", "name_of", "number_at")
 OWN = re.compile(r"^Rattle\.([a-z_]+)\.")
@@ -43,7 +46,7 @@ def read(path):
 
 
 def is_odd(word):
-    """Whether a word is no type and has a dash between letters, or a capital after a small letter."""
+    """Tells whether a word is no type and has a dash in it, or a capital after a small letter."""
     if not re.fullmatch(r"[A-Za-z][A-Za-z0-9_'-]*", word):
         return False
     if re.fullmatch(r"[A-Z][A-Z0-9-]*", word):
@@ -59,7 +62,7 @@ def snake(word):
 
 
 def code_of(line):
-    """The line without its comment."""
+    """Returns the line without its comment."""
     at = line.find("--")
     while at >= 0:
         if at == 0 or line[at - 1].isspace():
@@ -69,7 +72,7 @@ def code_of(line):
 
 
 def gather():
-    """The words to respell, and all words that are there."""
+    """Returns the words to respell, all words that are there, and those of the libraries."""
     own, there, crates = set(), collections.Counter(), set(os.listdir("crates"))
     library = set()
     for path in files(".antt", "crates"):
@@ -81,7 +84,8 @@ def gather():
         for line in text.split("\n"):
             line = code_of(line)
             for m in TOKEN.finditer(line):
-                if line[m.start() - 1 : m.start()] != "." and not line[: m.start()].endswith(" as "):
+                before = line[: m.start()]
+                if before[-1:] != "." and not before.endswith(" as "):
                     there[m[0]] += 1
             m = HEAD.match(line)
             goal = m and (re.match(r"tie\.", m[2]) or m[1].endswith("-spec"))
@@ -89,11 +93,18 @@ def gather():
                 own.add(m[1])
             for names in BINDER.findall(line):
                 own |= {n for n in names.split() if is_odd(n)}
+    for path in files(".rt", "crates"):
+        for line in read(path).split("\n"):
+            m = re.match(r"\s+([a-z][\w-]*) : \S.*;$", line)
+            if m and is_odd(m[1]):
+                own.add(m[1])
     return own - library, there, library
 
 
 def turned(text, words, made):
-    """The text with each word respelled; in a proof of a function, the names that Rattle made stay."""
+    """Returns the text with each word respelled. In a function's proof the names that Rattle made
+    stay.
+    """
 
     def one(m):
         word = m[0]
@@ -112,7 +123,8 @@ def turned(text, words, made):
 
 
 def outside_quotes(text, turn):
-    return "".join(p if i % 2 else turn(p) for i, p in enumerate(re.split(r'("(?:[^"\\\n]|\\.)*")', text)))
+    parts = re.split(r'("(?:[^"\\\n]|\\.)*")', text)
+    return "".join(p if i % 2 else turn(p) for i, p in enumerate(parts))
 
 
 def in_ticks(text, turn):
@@ -120,23 +132,29 @@ def in_ticks(text, turn):
 
 
 def commented(line, mark, turn):
-    """A line of code: what stands before the comment is turned, and in it what stands in ticks."""
+    """Turns in a line what stands before the comment, and in the comment what stands in ticks and
+    the lemmas that a loop rests on.
+    """
     at = line.find(mark)
     while at > 0 and not line[at - 1].isspace():
         at = line.find(mark, at + 1)
     if at < 0:
         return outside_quotes(line, turn)
-    return outside_quotes(line[:at], turn) + in_ticks(line[at:], turn)
+    said = line[at:]
+    if "Rests on" in said:
+        said = re.sub(r"[a-z0-9]+(?:-[a-z0-9]+)+", lambda m: turn(m[0]).replace("-", "_"), said)
+    return outside_quotes(line[:at], turn) + in_ticks(said, turn)
 
 
 def page(text, turn):
-    """A page: what stands in ticks or in a block of code is turned."""
+    """Turns in a page what stands in ticks or in a block of code."""
     parts = re.split(r"(^```.*?^```[ \t]*$)", text, flags=re.M | re.S)
-    return "".join(outside_quotes(p, turn) if i % 2 else in_ticks(p, turn) for i, p in enumerate(parts))
+    pieces = (outside_quotes(p, turn) if i % 2 else in_ticks(p, turn) for i, p in enumerate(parts))
+    return "".join(pieces)
 
 
 def edit(text, turn):
-    """A must-fail edit: its two texts are code, and its comment is prose."""
+    """Turns in a must-fail edit its two texts, which are code, and its comment, which is prose."""
     out = []
     for line in text.split("\n"):
         m = re.match(r"(old: |new: )(.*)$", line)
@@ -145,6 +163,7 @@ def edit(text, turn):
             said = re.sub(r"\(([\w']+) \.(\w+)\)", r"\1.\2", said)
             out.append(m[1] + re.sub(r"\bgetD\b", "get_or", said))
         else:
+            line = re.sub(r"^# [\w-]+(?=:)", lambda m: turn(m[0]), line)
             out.append(line if line.startswith("file:") else in_ticks(line, turn))
     return "\n".join(out)
 
@@ -156,6 +175,7 @@ def main():
     for word in own:
         if "-" in word and not word.isupper() and words[word] in functions:
             words[word] += "_lem"
+    words.update(PLAIN)
     by_new = collections.defaultdict(set)
     for old, new in words.items():
         by_new[new].add(old)
@@ -163,10 +183,11 @@ def main():
     for word in LEMMAS:
         clash.pop(word)
         words[word] = word + "_lem"
-    for word in MODULES:
+    for word in (*MODULES, "tag_at"):
         clash.pop(word)
     for new in sorted(clash):
-        print(f"together: {sorted(clash[new])} -> {new}: there {there[new]} times, library {new in library}")
+        print(f"together: {sorted(clash[new])} -> {new}: "
+              f"there {there[new]} times, library {new in library}")
     if clash:
         raise SystemExit("nothing was written")
     odd = {old: new for old, new in words.items() if old not in LEMMAS}
