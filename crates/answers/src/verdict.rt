@@ -10,7 +10,7 @@ pub const DESCENDANTS: u32 = 1;
 // The answer of a check: its number, the list that it names, and the index of the faulty node in
 // that list, or 0. With READING it is the index of the sample.
 #[repr(C)]
-#[derive(Drop)]
+#[derive(Clone, Copy)]
 pub struct Verdict {
     pub answer: u32,
     pub list: u32,
@@ -19,7 +19,7 @@ pub struct Verdict {
 
 // The answer of a call that writes: its verdict, and the count of what it wrote, 0 on refusal.
 #[repr(C)]
-#[derive(Drop)]
+#[derive(Clone, Copy)]
 pub struct Counted {
     pub verdict: Verdict,
     pub count: usize,

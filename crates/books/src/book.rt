@@ -15,7 +15,7 @@ use numbers::part::part_of;
 
 // What opening a book answers: the verdict, and how many lists the book has, 0 when it is refused.
 #[repr(C)]
-#[derive(Drop)]
+#[derive(Clone, Copy)]
 pub struct Opened {
     pub verdict: Verdict,
     pub lists: u32,
@@ -54,7 +54,7 @@ fn check_bodies(book: &[u8]) -> Verdict
 {
     let lists = number_at(book, 0);
     let mut list = 0;
-    // Rests on BookLaws: bodies-on, bodies-stop, bodies-end.
+    // Rests on BookLaws: bodies_on, bodies_stop, bodies_end.
     while list < lists {
         let entry = entry_at(book, list as usize);
         let verdict = check_bytes(body_of(book, entry));

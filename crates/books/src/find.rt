@@ -13,7 +13,7 @@ use numbers::little::NODE_BYTES;
 // What looking for a list answers: the verdict, and where the list's body lies in the book. That is
 // its first byte and its number of bytes, both 0 on refusal.
 #[repr(C)]
-#[derive(Drop)]
+#[derive(Clone, Copy)]
 pub struct Found {
     pub verdict: Verdict,
     pub from: usize,
@@ -37,7 +37,7 @@ fn tag_at(book: &[u8], lists: u32, tag: u32) -> usize
     ensures { result ≡ tag_at tag (take lists (entries_in book.now)) }
 {
     let mut index = 0;
-    // Rests on contents: ContentLaws: entry-from, none-from.
+    // Rests on contents: ContentLaws: entry_from, none_from.
     while index < lists as usize && index < entry_count(book) {
         let entry = entry_at(book, index);
         if entry.tag == tag {

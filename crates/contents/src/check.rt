@@ -17,7 +17,7 @@ fn pass_contents(book: &[u8], lists: u32) -> Step
 {
     let mut place = start_of(lists);
     let mut index = 0;
-    // Rests on ContentLaws: kept-on, kept-stop, kept-end.
+    // Rests on ContentLaws: kept_on, kept_stop, kept_end.
     while index < lists as usize {
         let step = pass_entry(place, entry_at(book, index));
         let Step::Reached(reached) = step else {

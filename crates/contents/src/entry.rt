@@ -12,7 +12,7 @@ pub const ENTRY_NUMBERS: usize = 3;
 
 // What the contents say of a list: its tag, where its body starts in the book, and how many nodes
 // it has.
-#[derive(Drop)]
+#[derive(Clone, Copy)]
 pub struct Entry {
     pub tag: u32,
     pub offset: u32,

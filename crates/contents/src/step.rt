@@ -9,7 +9,7 @@ use numbers::little::NODE_BYTES;
 
 // Where a walk along the contents stands: whether it has passed a list, that list's tag, and where
 // the next body has to start.
-#[derive(Drop)]
+#[derive(Clone, Copy)]
 pub struct ContentsPlace {
     pub begun: bool,
     pub tag: u32,
@@ -17,7 +17,7 @@ pub struct ContentsPlace {
 }
 
 // What a step answers: the place that it reached, or the number of the refusal.
-#[derive(Drop)]
+#[derive(Clone, Copy)]
 pub enum Step {
     Reached(ContentsPlace),
     Refused(u32),

@@ -42,7 +42,7 @@ pub(crate) fn elder_of(list: &[u32], links: &[u32], index: usize) -> usize
     let start = node_at(list, index).start;
     let mut elder = index - 1;
     let mut parent = parent_at(links, elder);
-    // Rests on Climbing: pass-parent, elder-passed.
+    // Rests on Climbing: pass_parent, elder_passed.
     while parent != NONE {
         if start <= end_at(list, parent as usize) {
             return elder;

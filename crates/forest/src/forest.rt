@@ -65,7 +65,7 @@ fn link_all(list: &[u32], out: &mut [u32])
     ensures { out.new ≡ written (links_in list.now) out.old }
 {
     let mut index = 0;
-    // Rests on LinkLaws: links-more, links-all.
+    // Rests on LinkLaws: links_more, links_all.
     while index < node_count(list) {
         link_node(list, out, index);
         index += 1;

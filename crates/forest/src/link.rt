@@ -12,7 +12,7 @@ pub const NONE: u32 = 4294967295;
 // The links of a node, each the index of another node of the list or NONE. The parent is the
 // innermost node that contains it, the child the first node whose parent it is. The next is the
 // next node in its document that has the same parent.
-#[derive(Drop)]
+#[derive(Clone, Copy)]
 pub struct Link {
     pub parent: u32,
     pub child: u32,

@@ -13,7 +13,7 @@ use numbers::part::copy_numbers;
 pub const LIST_WORDS: usize = NODE_WORDS * MOST_NODES;
 
 // What copying two lists answers: the verdict, and how many words each list has, 0 on refusal.
-#[derive(Drop)]
+#[derive(Clone, Copy)]
 pub struct Lengths {
     pub verdict: Verdict,
     pub ancestors: usize,

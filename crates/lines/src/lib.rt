@@ -1,3 +1,5 @@
 // Makes the lines of the printing program in a buffer.
+#![tactic(auto)]
+
 pub mod line;
 mod text;

@@ -47,7 +47,7 @@ pub fn put_lines(pairs: &[u32], text: &mut [u8]) -> usize
     let room = text.len() / LINE_BYTES;
     let mut to = 0;
     let mut index = 0;
-    // Rests on PairLines: lines-more, lines-fit, lines-all.
+    // Rests on PairLines: lines_more, lines_fit, lines_all.
     while index < node_count(pairs) / 2 && index < room {
         to = put_line(
             text,

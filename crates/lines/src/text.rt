@@ -37,7 +37,7 @@ pub(crate) fn put_bytes(text: &mut [u8], at: usize, bytes: &[u8]) -> usize
     } }
 {
     let mut index = 0;
-    // Rests on answers: OutputLaws: sets-more.
+    // Rests on answers: OutputLaws: sets_more.
     while index < bytes.len() {
         text[at + index] = bytes[index];
         index += 1;
@@ -51,7 +51,7 @@ fn digit_count(number: u64) -> usize
 {
     let mut rest = number;
     let mut count = 0;
-    // Rests on Digits: length-more, length-one, length-two.
+    // Rests on Digits: length_more, length_one, length_two.
     while 99 < rest {
         rest /= 100;
         count += 2;
@@ -84,7 +84,7 @@ fn put_decimal(text: &mut [u8], at: usize, number: u64, table: &[u8; TABLE_BYTES
     let end = at + digit_count(number);
     let mut rest = number;
     let mut to = end;
-    // Rests on Digits: decimal-more, decimal-one, decimal-two.
+    // Rests on Digits: decimal_more, decimal_one, decimal_two.
     while 99 < rest {
         to -= 2;
         put_two(text, to, rest % 100, table);
@@ -126,7 +126,7 @@ pub(crate) fn put_unfilled(text: &mut [u8], at: usize, letters: &[u8]) -> usize
 {
     let mut to = at;
     let mut index = 0;
-    // Rests on Blanks: unfilled-letter, unfilled-blank.
+    // Rests on Blanks: unfilled_letter, unfilled_blank.
     while index < letters.len() {
         if letters[index] != b' ' {
             text[to] = letters[index];

@@ -39,7 +39,7 @@ fn is_elder_told(list: &[u32], links: &[u32], index: usize) -> bool
     let start = list[NODE_WORDS * index + 1];
     let mut elder = index - 1;
     let mut parent = links[LINK_WORDS * elder] as usize;
-    // Rests on WayUp: way-up, elder-shows.
+    // Rests on WayUp: way_up, elder_shows.
     while parent < elder {
         if start <= list[NODE_WORDS * parent + 2] {
             return is_sibling_told(links, elder, index);
@@ -65,7 +65,7 @@ fn is_last_told(links: &[u32], index: usize) -> bool
         return false;
     }
     let mut i = index;
-    // Rests on WayUp: way-up, way-ends.
+    // Rests on WayUp: way_up, way_ends.
     while links[LINK_WORDS * i + 2] == NONE {
         let parent = links[LINK_WORDS * i] as usize;
         if i <= parent {
@@ -122,8 +122,8 @@ pub(crate) fn are_links(list: &[u32], links: &[u32]) -> bool
         return false;
     }
     let mut index = 1;
-    // Rests on InWords: all-linked, not-linked.
-    // Rests on Telling: told-first.
+    // Rests on InWords: all_linked, not_linked.
+    // Rests on Telling: told_first.
     while index < count {
         if !is_node_told(list, links, index) {
             return false;

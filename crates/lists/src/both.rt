@@ -18,7 +18,7 @@ const PAST: u64 = 4294967296;
 // Where a list stands in a document. `at` is the word of its next node, and `start` is where that
 // node starts, or PAST. `top` is the word of the stack at which the last node passed lies, or the
 // bottom where none was passed. If that node is of the other list, `on_top` brings `top` over.
-#[derive(Drop)]
+#[derive(Clone, Copy)]
 struct RunPlace {
     at: usize,
     start: u64,
@@ -26,21 +26,21 @@ struct RunPlace {
 }
 
 // What a step along one list answers: the place that it reached, or that something is wrong.
-#[derive(Drop)]
+#[derive(Clone, Copy)]
 enum RunStep {
     Reached(RunPlace),
     Fault,
 }
 
 // The words at which both lists go on after a document.
-#[derive(Drop)]
+#[derive(Clone, Copy)]
 struct BothPlace {
     first: usize,
     second: usize,
 }
 
 // What a step along both lists answers: the place that it reached, or that something is wrong.
-#[derive(Drop)]
+#[derive(Clone, Copy)]
 enum BothStep {
     Reached(BothPlace),
     Fault,
@@ -137,7 +137,7 @@ fn pass_run(
     } }
 {
     let mut place = begun;
-    // Rests on Runs: along-on, along-stop.
+    // Rests on Runs: along_on, along_stop.
     while place.start < limit {
         let RunStep::Reached(reached) = pass_next(stack, words, document, place) else {
             return RunStep::Fault;
@@ -219,7 +219,7 @@ fn pass_document(
     };
     let mut a = one;
     let mut b = other;
-    // Rests on Documents: first-run, same-on, second-run, document-ends.
+    // Rests on Documents: first_run, same_on, second_run, document_ends.
     loop {
         let RunStep::Reached(passed) = pass_run(stack, first, document, a, b.start) else {
             return BothStep::Fault;
@@ -253,7 +253,7 @@ pub(crate) fn pass_both(stack: &mut [u32; STACK_WORDS], first: &[u32], second: &
         first: 0,
         second: 0,
     };
-    // Rests on Documents: both-start, both-stop, both-end.
+    // Rests on Documents: both_start, both_stop, both_end.
     while place.first < first.len() || place.second < second.len() {
         let BothStep::Reached(reached) = pass_document(stack, first, second, place) else {
             return false;

@@ -22,7 +22,7 @@ fn pass_bytes(bytes: &[u8]) -> Step
     put_bottom(&mut stack);
     let mut place = first_place();
     let mut index = 0;
-    // Rests on Walking: walk-on, walk-stop, walk-end.
+    // Rests on Walking: walk_on, walk_stop, walk_end.
     while index < bytes.len() / NODE_BYTES {
         let step = pass_node(&mut stack, place, node_in(bytes, index));
         let Step::Reached(reached) = step else {

@@ -34,7 +34,7 @@ fn pass_list(stack: &mut [u32; STACK_WORDS], words: &[u32]) -> Step
     put_bottom(stack);
     let mut place = first_place();
     let mut at = 0;
-    // Rests on Walking: walk-on, walk-stop, walk-end.
+    // Rests on Walking: walk_on, walk_stop, walk_end.
     while at < words.len() {
         let step = pass_node(stack, place, node_from(words, at));
         let Step::Reached(reached) = step else {

@@ -48,7 +48,7 @@ pub(crate) fn left_open(stack: &[u32; STACK_WORDS], top: usize, start: u32) -> u
     } }
 {
     let mut left = top;
-    // Rests on StackLaws: peeled-on, peeled-end.
+    // Rests on StackLaws: peeled_on, peeled_end.
     while stack[left] < start {
         left -= OPEN_WORDS;
     }

@@ -18,7 +18,7 @@ use nodes::node::{MOST_LEVELS, Node};
 // Where a walk stands: how many nodes it has passed, the word of the last one on the stack, and
 // what the next one has to meet. That one is of `document` and starts at `from` or later, or it is
 // of a later document.
-#[derive(Drop)]
+#[derive(Clone, Copy)]
 pub(crate) struct ListPlace {
     pub index: usize,
     pub top: usize,
@@ -27,7 +27,7 @@ pub(crate) struct ListPlace {
 }
 
 // What a step answers: the place that it reached, or the refusal.
-#[derive(Drop)]
+#[derive(Clone, Copy)]
 pub(crate) enum Step {
     Reached(ListPlace),
     Refused(Verdict),

@@ -14,14 +14,14 @@ pub const CLOSE: u32 = 0;
 pub const TEXT: u32 = 65536;
 
 // Where a walk stands: how many elements are open, and how many rows begin before.
-#[derive(Drop)]
+#[derive(Clone, Copy)]
 pub(crate) struct MarkPlace {
     pub depth: usize,
     pub rows: usize,
 }
 
 // What a step answers: the place that it reached, or the number of the refusal.
-#[derive(Drop)]
+#[derive(Clone, Copy)]
 pub(crate) enum Step {
     Reached(MarkPlace),
     Refused(u32),
@@ -107,7 +107,7 @@ pub(crate) fn pass_marks(marks: &[u32]) -> Step
 {
     let mut place = MarkPlace { depth: 0, rows: 0 };
     let mut passed = 0;
-    // Rests on Passing: walk-on, walk-stop, all-closed.
+    // Rests on Passing: walk_on, walk_stop, all_closed.
     while passed < marks.len() {
         let step = pass_mark(passed + 1, place, marks[passed]);
         let Step::Reached(reached) = step else {

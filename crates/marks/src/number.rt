@@ -56,7 +56,7 @@ fn write_rows(document: u32, marks: &[u32], rows: usize, out: &mut [u32])
         rows: rows,
     };
     let mut position = marks.len() as u32;
-    // Rests on Backward: back-on, back-end.
+    // Rests on Backward: back_on, back_end.
     while 0 < position {
         let mark = marks[position as usize - 1];
         place = write_mark(document, position, mark, &mut closes, place, out);

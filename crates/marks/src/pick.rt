@@ -17,7 +17,7 @@ fn count_tag(table: &[u32], tag: u32) -> usize
 {
     let mut found = 0;
     let mut index = 0;
-    // Rests on Picking: firsts-yes, firsts-no, firsts-all.
+    // Rests on Picking: firsts_yes, firsts_no, firsts_all.
     while index < row_count(table) {
         let row = row_at(table, index);
         if row.tag == tag {
@@ -35,7 +35,7 @@ fn put_tag(table: &[u32], tag: u32, out: &mut [u32])
 {
     let mut found = 0;
     let mut index = 0;
-    // Rests on Picking: firsts-yes, firsts-no, firsts-all.
+    // Rests on Picking: firsts_yes, firsts_no, firsts_all.
     while index < row_count(table) {
         let row = row_at(table, index);
         if row.tag == tag {

@@ -10,7 +10,7 @@ use nodes::node::{MOST_NODES, NODE_WORDS, Node};
 pub const ROW_WORDS: usize = NODE_WORDS + 1;
 
 // A node of a numbered document and its tag, which is TEXT for a text.
-#[derive(Drop)]
+#[derive(Clone, Copy)]
 pub struct Row {
     pub node: Node,
     pub tag: u32,

@@ -18,7 +18,7 @@ use nodes::node::{MOST_LEVELS, MOST_NODES, is_same};
 // The answer of the way back: its number, the document's number and how many marks were written.
 // The last two are 0 on refusal.
 #[repr(C)]
-#[derive(Drop)]
+#[derive(Clone, Copy)]
 pub struct Unnumbered {
     pub answer: u32,
     pub document: u32,
@@ -132,7 +132,7 @@ fn reads_back(table: &[u32], document: u32, last: u32) -> bool
         rows: row_count(table),
     };
     let mut position = last;
-    // Rests on unnumber/reads_back/Proof: reads-on, reads-stop, read-all.
+    // Rests on unnumber/reads_back/Answers: reads_on, reads_stop, read_all.
     while 0 < position {
         let step = step_back(table, document, position, &mut closes, place);
         let Step::Reached(reached) = step else {
@@ -168,7 +168,7 @@ fn put_closes(out: &mut [u32], count: usize)
     ensures { out.new ≡ written (replicate count CLOSE) out.old }
 {
     let mut put = 0;
-    // Rests on Tagging: close-more.
+    // Rests on Tagging: close_more.
     while put < count {
         out[put] = CLOSE;
         put += 1;
@@ -181,7 +181,7 @@ fn put_tags(table: &[u32], out: &mut [u32])
     ensures { out.new ≡ tagged (rows table.now) out.old }
 {
     let mut index = 0;
-    // Rests on unnumber/put_tags/Proof: put-on, put-all.
+    // Rests on unnumber/put_tags/Answers: put_on, put_all.
     while index < row_count(table) {
         let row = row_at(table, index);
         out[row.node.start as usize - 1] = row.tag;

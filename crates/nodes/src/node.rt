@@ -14,7 +14,7 @@ pub const MOST_LEVELS: usize = 64;
 pub const MOST_NODES: usize = 4096;
 
 // An element or a text of a document: where it starts and ends there, and how deep it stands.
-#[derive(Drop)]
+#[derive(Clone, Copy)]
 pub struct Node {
     pub document: u32,
     pub start: u32,

@@ -27,7 +27,7 @@ pub fn copy_numbers(bytes: &[u8], words: &mut [u32])
     ensures { words.new ≡ copied bytes.now words.old }
 {
     let mut index = 0;
-    // Rests on answers: OutputLaws: written-more.
+    // Rests on answers: OutputLaws: written_more.
     while index < words.len() && index < bytes.len() / NUMBER_BYTES {
         words[index] = number_at(bytes, index);
         index += 1;

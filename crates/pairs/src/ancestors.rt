@@ -17,14 +17,14 @@ use tickets::ticket::{Order, Place, Relation};
 const STRIDE: usize = 8 * NODE_WORDS;
 
 // What was handed out of an ancestor's run, and a guess of where the next run ends.
-#[derive(Drop)]
+#[derive(Clone, Copy)]
 struct Turn {
     handed: Handed,
     guess: usize,
 }
 
 // The words of the zone and of the descendant to look at next.
-#[derive(Drop)]
+#[derive(Clone, Copy)]
 pub(crate) struct Passed {
     pub zone: usize,
     pub next: usize,
@@ -40,7 +40,7 @@ pub(crate) fn first_after(descendants: &[u32], from: usize, ancestor: Node) -> u
     } }
 {
     let mut k = from;
-    // Rests on tickets: Search: search-found, search-on, search-end.
+    // Rests on tickets: Search: search_found, search_on, search_end.
     while k < descendants.len() {
         if is_after(node_from(descendants, k), ancestor) {
             return k;
@@ -87,7 +87,7 @@ pub(crate) fn past_strides(descendants: &[u32], from: usize, ancestor: Node) -> 
     ensures { Further descendants.now ancestor from result }
 {
     let mut k = from;
-    // Rests on Running: further-next, further-trans.
+    // Rests on Running: further_next, further_trans.
     while is_running(descendants, k + STRIDE - NODE_WORDS, ancestor) {
         k += STRIDE;
     }
@@ -103,7 +103,7 @@ pub(crate) fn past_run(descendants: &[u32], from: usize, ancestor: Node) -> usiz
     } }
 {
     let mut k = from;
-    // Rests on Running: further-next, further-trans, further-stops.
+    // Rests on Running: further_next, further_trans, further_stops.
     while is_running(descendants, k, ancestor) {
         k += NODE_WORDS;
     }
@@ -151,10 +151,10 @@ fn past_inner(ancestors: &[u32], zone: usize, descendants: &[u32], k: usize, to:
     requires { ((check_two ancestors.now descendants.now).answer ≡ TAKEN) × Placed ancestors.now zone
         × Placed descendants.now k × (k < length descendants.now) × Placed descendants.now to }
     ensures { record {
-      zone-placed : Placed ancestors.now result.zone;
-      zone-later : zone ≤ result.zone;
-      next-placed : Placed descendants.now result.next;
-      next-later : k < result.next;
+      zone_placed : Placed ancestors.now result.zone;
+      zone_later : zone ≤ result.zone;
+      next_placed : Placed descendants.now result.next;
+      next_later : k < result.next;
       held : (j : ℕ) → k / NODE_WORDS < j → j < result.next / NODE_WORDS → (zone / NODE_WORDS < count ancestors.now)
           × (insideb (node_at descendants.now j) (node_at ancestors.now (zone / NODE_WORDS)) ≡ true);
     } }
@@ -214,7 +214,7 @@ fn hand_children(
     let level = node_from(ancestors, i).level + 1;
     let mut zone = i + NODE_WORDS;
     let mut k = from;
-    // Rests on Children: child-on, child-stop, inner-passed.
+    // Rests on Children: child_on, child_stop, inner_passed.
     while k < to {
         if node_from(descendants, k).level == level {
             handed = pair_with_descendants(
@@ -345,7 +345,7 @@ pub(crate) fn sweep_ancestors(
     let mut from = 0;
     let mut guess = 0;
     let mut i = NODE_WORDS * first;
-    // Rests on Zones: sweep-on, sweep-next, sweep-stop.
+    // Rests on Zones: sweep_on, sweep_next, sweep_stop.
     while i < ancestors.len() {
         from = first_after(descendants, from, node_from(ancestors, i));
         let turn = hand_ancestor(

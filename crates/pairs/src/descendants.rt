@@ -89,8 +89,8 @@ pub(crate) fn sweep_descendants(
     };
     let mut least = past;
     let mut j = NODE_WORDS * first;
-    // Rests on Descending: descend-on, descend-stop, ready-next.
-    while j < descendants.len() {
+    // Rests on Descending: descend_on, descend_stop, ready_next.
+    'samples: while j < descendants.len() {
         let descendant = node_from(descendants, j);
         let left = still_open(&stack, used, descendant);
         let opened = open_before(&mut stack, left, passed, ancestors, descendant);

@@ -15,7 +15,7 @@ use tickets::ticket::Order;
 
 // How far a listing was handed out: the pairs written so far, and whether all that were to be
 // written found room.
-#[derive(Drop)]
+#[derive(Clone, Copy)]
 pub(crate) struct Handed {
     pub count: usize,
     pub done: bool,
@@ -244,7 +244,7 @@ pub(crate) fn first_from(followers: &[u32], from: usize, to: usize, start: u64) 
         return from;
     }
     let mut k = from;
-    // Rests on Stretches: start-found, start-later, start-none.
+    // Rests on Stretches: start_found, start_later, start_none.
     while k < to {
         if start <= node_from(followers, k).start as u64 {
             return k;

@@ -42,14 +42,14 @@ fn open_jumping(
     ensures { record {
       long : length stack.new ≡ length stack.old;
       opening : Opening ancestors.now descendant result.used result.passed stack.new;
-      all-open : All (λ e. openb descendant e ≡ true) (opened result.used stack.new);
+      all_open : All (λ e. openb descendant e ≡ true) (opened result.used stack.new);
       rest : All (λ a. afterb descendant a ≡ false) (drop (result.passed / NODE_WORDS) (nodes ancestors.now));
     } }
 {
     let mut reached = used;
     let mut i = passed;
-    // Rests on Jumps: jump-passed.
-    // Rests on OpenStack: next-passed, passing-ends, passing-done.
+    // Rests on Jumps: jump_passed.
+    // Rests on OpenStack: next_passed, passing_ends, passing_done.
     while i < ancestors.len() {
         if !is_after(descendant, node_from(ancestors, i)) {
             return Opened {
@@ -95,7 +95,7 @@ fn jump_descendants(
     };
     let mut least = past;
     let mut j = NODE_WORDS * first;
-    // Rests on Descending: descend-on, descend-stop, ready-next.
+    // Rests on Descending: descend_on, descend_stop, ready_next.
     while j < descendants.len() {
         let descendant = node_from(descendants, j);
         let left = still_open(&stack, used, descendant);
@@ -127,10 +127,10 @@ fn past_inner_zone(
     requires { ((check_two ancestors.now descendants.now).answer ≡ TAKEN) × Placed ancestors.now zone
         × Placed descendants.now k × (k < length descendants.now) × Placed descendants.now to }
     ensures { record {
-      zone-placed : Placed ancestors.now result.zone;
-      zone-later : zone ≤ result.zone;
-      next-placed : Placed descendants.now result.next;
-      next-later : k < result.next;
+      zone_placed : Placed ancestors.now result.zone;
+      zone_later : zone ≤ result.zone;
+      next_placed : Placed descendants.now result.next;
+      next_later : k < result.next;
       held : (j : ℕ) → k / NODE_WORDS < j → j < result.next / NODE_WORDS → (zone / NODE_WORDS < count ancestors.now)
           × (insideb (node_at descendants.now j) (node_at ancestors.now (zone / NODE_WORDS)) ≡ true);
     } }
@@ -184,7 +184,7 @@ fn hand_level(
     let level = node_from(ancestors, i).level + 1;
     let mut zone = i + NODE_WORDS;
     let mut k = from;
-    // Rests on Children: child-on, child-stop, inner-passed.
+    // Rests on Children: child_on, child_stop, inner_passed.
     while k < to {
         if node_from(descendants, k).level == level {
             handed = pair_with_descendants(
@@ -269,8 +269,8 @@ fn jump_ancestors(
     };
     let mut from = 0;
     let mut i = NODE_WORDS * first;
-    // Rests on Jumps: jump-rest, none-left.
-    // Rests on Zones: sweep-on, sweep-next, sweep-stop.
+    // Rests on Jumps: jump_rest, none_left.
+    // Rests on Zones: sweep_on, sweep_next, sweep_stop.
     while i < ancestors.len() {
         from = first_after(descendants, from, node_from(ancestors, i));
         if descendants.len() <= from {

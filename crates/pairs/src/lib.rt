@@ -1,4 +1,6 @@
 // A page of the full listing of two lists, in either order.
+#![tactic(auto)]
+
 mod ancestors;
 pub mod apart;
 mod descendants;

@@ -19,7 +19,7 @@ pub(crate) const STACK_WORDS: usize = NODE_WORDS * MOST_LEVELS;
 
 // How far a sweep has come along the ancestors: the number of words of the stack in use, and the
 // word of the next ancestor.
-#[derive(Drop)]
+#[derive(Clone, Copy)]
 pub(crate) struct Opened {
     pub used: usize,
     pub passed: usize,
@@ -37,7 +37,7 @@ pub(crate) fn still_open(stack: &[u32; STACK_WORDS], used: usize, node: Node) ->
     } }
 {
     let mut left = used;
-    // Rests on StackNodes: head-open, head-shut, head-none.
+    // Rests on StackNodes: head_open, head_shut, head_none.
     while 0 < left {
         if is_open(node, node_from(stack, left - NODE_WORDS)) {
             return left;
@@ -84,13 +84,13 @@ pub(crate) fn open_before(
         × All (λ e. openb descendant e ≡ true) (opened used stack.old) }
     ensures { record {
       opening : Opening ancestors.now descendant result.used result.passed stack.new;
-      all-open : All (λ e. openb descendant e ≡ true) (opened result.used stack.new);
+      all_open : All (λ e. openb descendant e ≡ true) (opened result.used stack.new);
       rest : All (λ a. afterb descendant a ≡ false) (drop (result.passed / NODE_WORDS) (nodes ancestors.now));
     } }
 {
     let mut reached = used;
     let mut i = passed;
-    // Rests on OpenStack: next-passed, passing-ends, passing-done.
+    // Rests on OpenStack: next_passed, passing_ends, passing_done.
     while i < ancestors.len() {
         if !is_after(descendant, node_from(ancestors, i)) {
             return Opened {

@@ -20,7 +20,7 @@ use tickets::ticket::{Key, Order, Place, Relation, Ticket};
 
 // What a page call answers: the verdict on its two lists, the number of pairs it wrote, whether
 // that was all that remained, and the ticket for the next page.
-#[derive(Drop)]
+#[derive(Clone, Copy)]
 pub struct Page {
     pub verdict: Verdict,
     pub count: usize,

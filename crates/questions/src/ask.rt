@@ -22,7 +22,7 @@ use tickets::leader::PAIR_WORDS;
 // answered, 0 if it is refused as a whole. Each question has its page, in order; the pages after
 // the last question are all zeros.
 #[repr(C)]
-#[derive(Drop)]
+#[derive(Clone, Copy)]
 pub struct Pages {
     pub answer: u32,
     pub questions: u32,
@@ -63,7 +63,7 @@ fn refuse_all(questions: &[u32], verdict: Verdict) -> [PageWords; MOST_QUESTIONS
     let none = no_page();
     let mut pages = [none; MOST_QUESTIONS];
     let mut index = 0;
-    // Rests on Padding: padded-next, padded-all, padded-full.
+    // Rests on Padding: padded_next, padded_all, padded_full.
     while index < MOST_QUESTIONS && index < question_count(questions) {
         let question = question_at(questions, index);
         let ticket = question.ticket;
@@ -134,7 +134,7 @@ fn answer_all(
     let mut pages = [none; MOST_QUESTIONS];
     let mut from = 0;
     let mut index = 0;
-    // Rests on Turns: first-turn, next-turn, last-turn.
+    // Rests on Turns: first_turn, next_turn, last_turn.
     while index < question_count(questions) {
         let question = question_at(questions, index);
         let page = answer_one(book, lists, question, first, second, &mut out[from..]);

@@ -12,7 +12,7 @@ const QUESTION_WORDS: usize = 8;
 pub(crate) const MOST_QUESTIONS: usize = 32;
 
 // A question: the tags of the ancestors and of the descendants, and a ticket.
-#[derive(Drop)]
+#[derive(Clone, Copy)]
 pub struct Question {
     pub ancestors: u32,
     pub descendants: u32,

@@ -1,2 +1,4 @@
 // The low and the high of a zone's lab readings.
+#![tactic(auto)]
+
 pub mod range;

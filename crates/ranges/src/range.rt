@@ -14,7 +14,7 @@ use nodes::node::{Node, is_inside, node_at, node_count};
 use readings::reading::{Decoded, Percentage, READING_WORDS, decode, in_percent};
 
 // The lowest and the highest of some percentages.
-#[derive(Drop)]
+#[derive(Clone, Copy)]
 pub struct Range {
     pub low: f32,
     pub high: f32,
@@ -22,7 +22,7 @@ pub struct Range {
 
 // What the call answers: the zone's low and high, that no sample inside it has a reading, or why
 // the call is refused.
-#[derive(Drop)]
+#[derive(Clone, Copy)]
 pub enum ZoneRange {
     Found(Range),
     NoReading,
@@ -93,7 +93,7 @@ fn pass_samples(zone: Node, samples: &[u32], readings: &[u32]) -> ZoneRange
         high: 0.0,
     };
     let mut index = 0;
-    // Rests on Passing: outside-turn, missing-turn, percent-turn, faulty-turn, pass-end.
+    // Rests on Passing: outside_turn, missing_turn, percent_turn, faulty_turn, pass_end.
     while index < node_count(samples) {
         let Decoded::Read(reading) = reading_at(readings, index) else {
             return refused_at(READING, index);

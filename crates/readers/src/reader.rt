@@ -8,7 +8,7 @@ use books::find::tag_body;
 
 // An opened book: the caller's own bytes, and how many lists they have. It copies nothing, and is
 // passed by value.
-#[derive(Drop)]
+#[derive(Clone, Copy)]
 pub struct Reader<'a> {
     pub book: &'a [u8],
     pub lists: u32,
@@ -65,7 +65,7 @@ pub fn open<'a>(bytes: &'a [u8]) -> Reader<'a>
 }
 
 // Returns the body of `tag` out of any bytes, as a part of them. Where they are no book, or it has
-// no such list, that is the empty part at their beginning. A caller of it needs no proof by hand.
+// no such list, that is the empty part at their beginning.
 pub fn body_in(bytes: &[u8], tag: u32) -> &[u8]
     ensures { record {
       contents : result.now ≡ kept_body bytes.now tag;

@@ -1,2 +1,4 @@
 // Lab readings of organic matter: decoding, and turning into percent.
+#![tactic(auto)]
+
 pub mod reading;

@@ -28,7 +28,7 @@ const SIGN: u32 = 2147483648;
 const INFINITY: u32 = 2139095040;
 
 // What the lab found in a sample: organic matter in percent or in grams per kilogram, or nothing.
-#[derive(Drop)]
+#[derive(Clone, Copy)]
 pub enum Reading {
     Percent(f32),
     Grams(f32),
@@ -36,14 +36,14 @@ pub enum Reading {
 }
 
 // What two words are decoded to: a reading, or a fault.
-#[derive(Drop)]
+#[derive(Clone, Copy)]
 pub enum Decoded {
     Read(Reading),
     Faulty,
 }
 
 // A reading in percent, or none where it is missing.
-#[derive(Drop)]
+#[derive(Clone, Copy)]
 pub enum Percentage {
     Of(f32),
     Missing,

@@ -31,7 +31,7 @@ pub(crate) fn first_faulty(words: &[u32]) -> usize
     ensures { result ≡ first_at faulty_wordb words.now }
 {
     let mut index = 0;
-    // Rests on laws: First: first-from, first-hit.
+    // Rests on laws: First: first_from, first_hit.
     while index < words.len() {
         if is_faulty(words[index]) {
             return index;

@@ -9,7 +9,7 @@ use crate::subtotal::{Subtotal, added, nothing, of_word};
 use nodes::node::{Node, is_after, node_at, node_count};
 
 // A stretch of samples: the index of the sample after it, and its subtotal.
-#[derive(Drop)]
+#[derive(Clone, Copy)]
 pub(crate) struct Stretch {
     pub next: usize,
     pub subtotal: Subtotal,
@@ -27,7 +27,7 @@ pub(crate) fn pass_samples(samples: &[u32], hundredths: &[u32], from: usize, lim
 {
     let mut next = from;
     let mut subtotal = nothing();
-    // Rests on SampleLaws: no-stretch, stretch-more, by-more.
+    // Rests on SampleLaws: no_stretch, stretch_more, by_more.
     while next < node_count(samples) {
         if is_after(node_at(samples, next), limit) {
             return Stretch {

@@ -11,7 +11,7 @@ pub const SUBTOTAL_WORDS: usize = 3;
 
 // What a row says of some samples: how many they are, how many of them have a reading, and the sum
 // of those readings in hundredths of a percent.
-#[derive(Drop)]
+#[derive(Clone, Copy)]
 pub struct Subtotal {
     pub samples: u32,
     pub present: u32,

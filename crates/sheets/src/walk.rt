@@ -17,7 +17,7 @@ use nodes::node::{MOST_LEVELS, Node, is_open, node_at, node_count};
 
 // How far the walk of a zone came. `zone` and `sample` are the indices of the first zone and the
 // first sample after those inside it, and `subtotal` is its row.
-#[derive(Drop)]
+#[derive(Clone, Copy)]
 struct Walked {
     zone: usize,
     sample: usize,
@@ -79,7 +79,7 @@ fn walk_zone(
     let mut next = zone + 1;
     let mut place = sample;
     let mut subtotal = nothing();
-    // Rests on Walking: walk-start, walk-child, child-none.
+    // Rests on Walking: walk_start, walk_child, child_none.
     while is_within(zones, next, around) {
         let own = pass_samples(samples, hundredths, place, node_at(zones, next));
         let child = walk_zone(zones, samples, hundredths, out, next, own.next, depth - 1);
@@ -110,8 +110,8 @@ pub(crate) fn walk_all(zones: &[u32], samples: &[u32], hundredths: &[u32], out: 
 {
     let mut zone = 0;
     let mut sample = 0;
-    // Rests on Walking: by-left.
-    // Rests on RowPlaces: rows-join, rows-all.
+    // Rests on Walking: by_left.
+    // Rests on RowPlaces: rows_join, rows_all.
     while zone < node_count(zones) {
         let outside = pass_samples(samples, hundredths, sample, node_at(zones, zone));
         let walked = walk_zone(

@@ -12,7 +12,7 @@ use pairs::page::{Page, next_page};
 // the words of the ticket for the next page. `done` is 1 if the call wrote all that remained;
 // otherwise it is 0.
 #[repr(C)]
-#[derive(Drop)]
+#[derive(Clone, Copy)]
 pub struct PageWords {
     pub verdict: Verdict,
     pub done: u32,

@@ -9,7 +9,7 @@ use tickets::ticket::{Key, Order, Place, Relation, Ticket};
 // number ancestor order. A ticket whose `placed` is 0 is fresh; with any other number it is placed
 // after the key in the last three words.
 #[repr(C)]
-#[derive(Drop)]
+#[derive(Clone, Copy)]
 pub struct TicketWords {
     pub relation: u32,
     pub order: u32,

@@ -56,7 +56,7 @@ pub fn served_count(place: Place, leaders: &[u32]) -> usize
     ensures { result ≡ served_in place (nodes leaders.now) }
 {
     let mut k = 0;
-    // Rests on Search: search-found, search-on, search-end.
+    // Rests on Search: search_found, search_on, search_end.
     while k < node_count(leaders) {
         if !is_served(place, node_at(leaders, k)) {
             return k;

@@ -3,14 +3,14 @@ ghost use Rattle.std.specs.Prelude.{◌≡◌};
 ghost use Rattle.tickets.specs.Ticket.{fresh_ticket, asked};
 
 // The pairs to list: those of nodes that lie inside, or only directly inside.
-#[derive(Drop)]
+#[derive(Clone, Copy)]
 pub enum Relation {
     Inside,
     Directly,
 }
 
 // The order in which they come: by the descendants first, or by the ancestors first.
-#[derive(Drop)]
+#[derive(Clone, Copy)]
 pub enum Order {
     Descendant,
     Ancestor,
@@ -18,7 +18,7 @@ pub enum Order {
 
 // The sort key of a pair: its document, the start of the node that comes first in the order, and
 // the start of the other one.
-#[derive(Drop)]
+#[derive(Clone, Copy)]
 pub struct Key {
     pub document: u32,
     pub leader: u32,
@@ -26,14 +26,14 @@ pub struct Key {
 }
 
 // The place reached: none yet, or the key of the last pair handed out.
-#[derive(Drop)]
+#[derive(Clone, Copy)]
 pub enum Place {
     Fresh,
     After(Key),
 }
 
 // What a caller keeps between two pages of a listing. Any ticket can be used, even an invented one.
-#[derive(Drop)]
+#[derive(Clone, Copy)]
 pub struct Ticket {
     pub relation: Relation,
     pub order: Order,

@@ -27,7 +27,7 @@ fn pass_wanted(entries: &[u32]) -> Step
     let lists = wanted_count(entries);
     let mut place = start_of(lists as u32);
     let mut index = 0;
-    // Rests on contents: ContentLaws: kept-on, kept-stop, kept-end.
+    // Rests on contents: ContentLaws: kept_on, kept_stop, kept_end.
     while index < lists {
         let wanted = wanted_at(entries, index);
         let step = pass_entry(
@@ -69,7 +69,7 @@ fn check_bodies(entries: &[u32], list: &[u32]) -> Verdict
 {
     let mut from = 0;
     let mut index = 0;
-    // Rests on books: BookLaws: bodies-on, bodies-stop, bodies-end.
+    // Rests on books: BookLaws: bodies_on, bodies_stop, bodies_end.
     while index < wanted_count(entries) {
         let wanted = wanted_at(entries, index);
         let to = from + NODE_WORDS * wanted.count as usize;

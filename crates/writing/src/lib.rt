@@ -1,4 +1,6 @@
 // Writes a field book from its lists.
+#![tactic(auto)]
+
 mod check;
 mod put;
 pub mod wanted;

@@ -19,7 +19,7 @@ pub(crate) fn put_numbers(words: &[u32], out: &mut [u8], from: usize)
     ensures { out.new ≡ sets out.old (NUMBER_BYTES * from) (words_in bytes_of words.now) }
 {
     let mut index = 0;
-    // Rests on Putting: put-on.
+    // Rests on Putting: put_on.
     while index < words.len() {
         put_number(out, from + index, words[index]);
         index += 1;
@@ -49,7 +49,7 @@ pub(crate) fn put_contents(entries: &[u32], out: &mut [u8])
     put_number(out, 0, lists as u32);
     let mut end = contents_end(lists as u32);
     let mut index = 0;
-    // Rests on Putting: laid-on.
+    // Rests on Putting: laid_on.
     while index < lists {
         let wanted = wanted_at(entries, index);
         put_entry(

@@ -6,7 +6,7 @@ ghost use Rattle.writing.specs.Wanted.{WANTED_WORDS, want, wanted};
 pub(crate) const WANTED_WORDS: usize = 2;
 
 // A list that is wanted: its tag, and how many of the nodes are its own.
-#[derive(Drop)]
+#[derive(Clone, Copy)]
 pub(crate) struct Wanted {
     pub tag: u32,
     pub count: u32,
