@@ -3,12 +3,8 @@
 -- What would break it: A comparison that leaves out equal ends would be caught at the return.
 use mathlib.Core.Path.{refl}
 use Rattle.nodes.specs.Node.{endsb}
-use Rattle.nodes.proofs.node.ends_within.Statement.{statement}
-use Rattle.nodes.proofs.node.ends_within.Tie as tie
+use Rattle.nodes.proofs.node.ends_within.Goals as goal
 
-returns : tie.Need-returns
+pub returns : goal.returns
 unfolding endsb
 returns c = refl
-
-pub ends-within-spec : {M : Type 1} → statement M
-ends-within-spec = tie.close (tie.spec returns)

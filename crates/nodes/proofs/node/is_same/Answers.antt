@@ -10,8 +10,7 @@ use lib.Dec.{eqb}
 use borrow.Author.Tests.{eq-eqb, ne_eqb}
 use Rattle.nodes.specs.declared.node.Node.{Node}
 use Rattle.nodes.specs.Node.{sameb}
-use Rattle.nodes.proofs.node.is_same.Statement.{statement}
-use Rattle.nodes.proofs.node.is_same.Tie as tie
+use Rattle.nodes.proofs.node.is_same.Goals as goal
 
 module _ (x y : Node) where
   documents : (x.document ≡ y.document → ⊥) → false ≡ sameb x y
@@ -30,17 +29,14 @@ module _ (x y : Node) where
   unfolding sameb
   levels d s e = rw (eq-eqb _ _ d, eq-eqb _ _ s, eq-eqb _ _ e)
 
-returns : tie.Need-returns
-returns c = documents _ _ c.if1.true
+pub returns-then-x-y : goal.returns-then-x-y
+returns-then-x-y c = documents _ _ c.if-x-y.true
 
-returns-2 : tie.Need-returns-2
-returns-2 c = starts _ _ (omega arith) c.if2.true
+pub returns-then-x-y-2 : goal.returns-then-x-y-2
+returns-then-x-y-2 c = starts _ _ (omega arith) c.if-x-y-2.true
 
-returns-3 : tie.Need-returns-3
-returns-3 c = ends _ _ (omega arith) (omega arith) c.if3.true
+pub returns-then-x-y-3 : goal.returns-then-x-y-3
+returns-then-x-y-3 c = ends _ _ (omega arith) (omega arith) c.if-x-y-3.true
 
-returns-4 : tie.Need-returns-4
-returns-4 c = levels _ _ (omega arith) (omega arith) (omega arith)
-
-pub is-same-spec : {M : Type 1} → statement M
-is-same-spec = tie.close (tie.spec returns returns-2 returns-3 returns-4)
+pub returns : goal.returns
+returns c = levels _ _ (omega arith) (omega arith) (omega arith)

@@ -11,8 +11,7 @@ use lib.Dec.{ltb}
 use borrow.Author.Tests.{eq-eqb, ne_eqb, lt-ltb, le-ltb}
 use Rattle.nodes.specs.declared.node.Node.{Node}
 use Rattle.nodes.specs.Node.{afterb}
-use Rattle.nodes.proofs.node.is_after.Statement.{statement}
-use Rattle.nodes.proofs.node.is_after.Tie as tie
+use Rattle.nodes.proofs.node.is_after.Goals as goal
 
 module _ (y x : Node) where
   later : x.document < y.document → true ≡ afterb y x
@@ -27,14 +26,11 @@ module _ (y x : Node) where
   unfolding afterb
   starts d = rw (eq-eqb _ _ d, le-ltb x.document y.document (omega arith))
 
-returns : tie.Need-returns
-returns c = later _ _ c.if1.true
+pub returns-then-x-y : goal.returns-then-x-y
+returns-then-x-y c = later _ _ c.if-x-y.true
 
-returns-2 : tie.Need-returns-2
-returns-2 c = earlier _ _ (omega arith) c.if2.true
+pub returns-then-y-x : goal.returns-then-y-x
+returns-then-y-x c = earlier _ _ (omega arith) c.if-y-x.true
 
-returns-3 : tie.Need-returns-3
-returns-3 c = starts _ _ (omega arith)
-
-pub is-after-spec : {M : Type 1} → statement M
-is-after-spec = tie.close (tie.spec returns returns-2 returns-3)
+pub returns : goal.returns
+returns c = starts _ _ (omega arith)

@@ -5,7 +5,6 @@
 -- would be caught at its return.
 use mathlib.Core.Path.{◌≡◌}
 use native.Mathlib.Omega.{arith}
-use borrow.Author.Rules.{rules}
 use borrow.Author.Tests.{eq-eqb, ne_eqb}
 use Prim.Native.Nat.{ℕ, ◌+◌}
 use Rattle.nodes.specs.declared.node.Node.{Node}
@@ -13,8 +12,7 @@ use Rattle.tickets.specs.declared.ticket.Key.{Key}
 use Rattle.tickets.specs.declared.ticket.Place.{Place}
 use Rattle.tickets.specs.declared.ticket.Place.TheVariants.{Fresh, After}
 use Rattle.tickets.specs.Leaders.{past_from}
-use Rattle.tickets.proofs.leader.past_from.Statement.{statement}
-use Rattle.tickets.proofs.leader.past_from.Tie as tie
+use Rattle.tickets.proofs.leader.past_from.Goals as goal
 
 module _ (place : Place) (x : Node) where
   fresh : place ≡ Fresh → ◌≡◌ {A = ℕ} 0 (past_from place x)
@@ -34,39 +32,14 @@ module _ (place : Place) (x : Node) where
     unfolding past_from
     own d s = rw (q, eq-eqb _ _ d, eq-eqb _ _ s)
 
-enum_told : tie.Need-enum-told
-enum_told c = search rules
+pub returns-then-key-leader : goal.returns-then-key-leader
+returns-then-key-leader c = elsewhere _ _ _ c.in-After.is c.if-key-leader.true
 
-enum-known-place : tie.Need-enum-known-place
-enum-known-place c = search rules
+pub returns-then-key-leader-2 : goal.returns-then-key-leader-2
+returns-then-key-leader-2 c = another _ _ _ c.in-After.is (omega arith) c.if-key-leader-2.true
 
-returns : tie.Need-returns
-returns c = elsewhere _ _ _ c.before.before.before.before.place.given.1 c.if1.true
+pub returns-in-Fresh : goal.returns-in-Fresh
+returns-in-Fresh c = fresh _ _ c.in-Fresh.is
 
-returns-2 : tie.Need-returns-2
-returns-2 c = another _ _ _ c.before.before.before.before.before.before.before.place.given.1 (omega arith) c.if2.true
-
-cast-result : tie.Need-overflow-cast-result
-cast-result c = search rules
-
-add-result : tie.Need-overflow-add-result
-add-result c = search rules
-
-returns-3 : tie.Need-returns-3
-returns-3 c = fresh _ _ c.enum_told.given.1
-
-returns-4 : tie.Need-returns-4
-returns-4 c = own _ _ _ c.before.before.before.before.before.before.before.before.place.given.1 (omega arith) (omega arith)
-
-pub past-from-spec : {M : Type 1} → statement M
-past-from-spec =
-    tie.close
-    (tie.spec
-    enum_told
-    enum-known-place
-    returns
-    returns-2
-    cast-result
-    add-result
-    returns-3
-    returns-4)
+pub returns-else-key-leader-2 : goal.returns-else-key-leader-2
+returns-else-key-leader-2 c = own _ _ _ c.in-After.is (omega arith) (omega arith)

@@ -3,7 +3,6 @@
 -- as `insideb` says.
 -- What would break it: A comparison that also takes equal starts, or a document left out, would be
 -- caught at its return.
-use borrow.Author.Rules.{rules}
 use mathlib.Core.Path.{◌≡◌, ◌∙◌}
 use mathlib.Core.Bool.{false}
 use Prim.Native.Nat.{◌≤◌}
@@ -12,8 +11,7 @@ use borrow.Author.Tests.{eq-eqb, ne_eqb, le-ltb}
 use Rattle.nodes.specs.declared.node.Node.{Node}
 use Rattle.nodes.specs.Node.{insideb}
 use Rattle.nodes.proofs.NodeLaws.{inside_by_end}
-use Rattle.nodes.proofs.node.is_inside.Statement.{statement}
-use Rattle.nodes.proofs.node.is_inside.Tie as tie
+use Rattle.nodes.proofs.node.is_inside.Goals as goal
 
 module _ (y x : Node) where
   documents : (y.document ≡ x.document → ⊥) → false ≡ insideb y x
@@ -24,17 +22,11 @@ module _ (y x : Node) where
   unfolding insideb
   starts d h = rw (eq-eqb _ _ d, le-ltb _ _ h)
 
-returns : tie.Need-returns
-returns c = documents _ _ c.if1.true
+pub returns-then-y-x : goal.returns-then-y-x
+returns-then-y-x c = documents _ _ c.if-y-x.true
 
-returns-2 : tie.Need-returns-2
-returns-2 c = starts _ _ (omega arith) (omega arith)
+pub returns-then-y-x-2 : goal.returns-then-y-x-2
+returns-then-y-x-2 c = starts _ _ (omega arith) (omega arith)
 
-ends-within-requires : tie.Need-ends-within-requires
-ends-within-requires c κs = search rules
-
-returns-3 : tie.Need-returns-3
-returns-3 c = c.ends-within.ensures ∙ inside_by_end _ _ (omega arith) (omega arith)
-
-pub is-inside-spec : {M : Type 1} → statement M
-is-inside-spec = tie.close (tie.spec returns returns-2 ends-within-requires returns-3)
+pub returns : goal.returns
+returns c = c.ends_within.ensures ∙ inside_by_end _ _ (omega arith) (omega arith)

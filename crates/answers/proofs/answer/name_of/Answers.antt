@@ -8,30 +8,19 @@ use lib.ListN.{length, get_or-eq_default}
 use mathlib.Core.Path.{◌≡◌, sym}
 use mathlib.Core.List.{map}
 use Prim.Native.Nat.{ℕ, ◌≤◌}
-use borrow.Author.Rules.{rules}
 use Rattle.laws.proofs.Choices.{within_end}
 use Rattle.answers.specs.Answer.{names, letter_at, padded, name_of}
-use Rattle.answers.proofs.answer.name_of.Statement.{statement}
-use Rattle.answers.proofs.answer.name_of.Tie as tie
+use Rattle.answers.proofs.answer.name_of.Goals as goal
 
 -- A number that has no row has the blank name.
 blank : (n : ℕ) → length (map padded names) ≤ n → padded "" ≡ name_of n
 unfolding name_of
 blank n h = sym (get_or-eq_default (map padded names) (padded "") h)
 
-returns : tie.Need-returns
+pub returns-then-number-ge-ROWS : goal.returns-then-number-ge-ROWS
 unfolding names letter_at padded name_of
-returns c = blank c.before.args.number (omega arith)
+returns-then-number-ge-ROWS c = blank c.args.number (omega arith)
 
-mul-result : tie.Need-overflow-mul-result
-mul-result c = search rules
-
-array-copy-out-result : tie.Need-array-copy-out-result
-array-copy-out-result c = search rules
-
-returns-2 : tie.Need-returns-2
+pub returns : goal.returns
 unfolding names letter_at padded name_of
-returns-2 c = within_end (map padded names) c.before.before.args.number _ (padded "") (omega arith)
-
-pub name-of-spec : {M : Type 1} → statement M
-name-of-spec = tie.close (tie.spec returns mul-result array-copy-out-result returns-2)
+returns c = within_end (map padded names) c.args.number _ (padded "") (omega arith)

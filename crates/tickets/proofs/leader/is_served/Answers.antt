@@ -8,7 +8,6 @@ use mathlib.Core.Path.{◌≡◌, sym}
 use mathlib.Core.Bool.{true, false}
 use native.Mathlib.Omega.{arith}
 use lib.Dec.{ltb, eqb}
-use borrow.Author.Rules.{rules}
 use borrow.Author.Tests.{eq-eqb, ne_eqb, lt-ltb, le-ltb}
 use Rattle.nodes.specs.declared.node.Node.{Node}
 use Rattle.paging.specs.Key.{aboveb}
@@ -17,8 +16,7 @@ use Rattle.tickets.specs.declared.ticket.Place.{Place}
 use Rattle.tickets.specs.declared.ticket.Place.TheVariants.{Fresh, After}
 use Rattle.tickets.specs.Leaders.{servedb}
 use Rattle.laws.proofs.Tests.{or_end}
-use Rattle.tickets.proofs.leader.is_served.Statement.{statement}
-use Rattle.tickets.proofs.leader.is_served.Tie as tie
+use Rattle.tickets.proofs.leader.is_served.Goals as goal
 
 module _ (place : Place) (x : Node) where
   fresh : place ≡ Fresh → false ≡ servedb place x
@@ -40,23 +38,14 @@ module _ (place : Place) (x : Node) where
         rw (q, eq-eqb k.document x.document (sym d), le-ltb x.document k.document (omega arith))
         (or_end (ltb x.start k.leader) (eqb k.leader x.start))
 
-enum_told : tie.Need-enum-told
-enum_told c = search rules
+pub returns-then-leader-key : goal.returns-then-leader-key
+returns-then-leader-key c = earlier _ _ _ c.in-After.is (omega arith)
 
-enum-known-place : tie.Need-enum-known-place
-enum-known-place c = search rules
+pub returns-then-leader-key-2 : goal.returns-then-leader-key-2
+returns-then-leader-key-2 c = later _ _ _ c.in-After.is (omega arith) c.if-leader-key-2.true
 
-returns : tie.Need-returns
-returns c = earlier _ _ _ c.before.before.before.before.place.given.1 (omega arith)
+pub returns-in-Fresh : goal.returns-in-Fresh
+returns-in-Fresh c = fresh _ _ c.in-Fresh.is
 
-returns-2 : tie.Need-returns-2
-returns-2 c = later _ _ _ c.before.before.before.before.before.before.before.place.given.1 (omega arith) c.if2.true
-
-returns-3 : tie.Need-returns-3
-returns-3 c = fresh _ _ c.enum_told.given.1
-
-returns-4 : tie.Need-returns-4
-returns-4 c = starts _ _ _ c.before.before.before.before.before.before.before.before.before.place.given.1 (omega arith)
-
-pub is-served-spec : {M : Type 1} → statement M
-is-served-spec = tie.close (tie.spec enum_told enum-known-place returns returns-2 returns-3 returns-4)
+pub returns-else-leader-key-2 : goal.returns-else-leader-key-2
+returns-else-leader-key-2 c = starts _ _ _ c.in-After.is (omega arith)

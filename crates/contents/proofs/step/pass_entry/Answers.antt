@@ -3,14 +3,13 @@
 -- to the place after its list.
 -- What would break it: A limit one off, equal tags let through, or a next body at another place
 -- would be caught at its return.
-use borrow.Author.Rules.{rules}
 use mathlib.Core.Path.{◌≡◌}
 use mathlib.Core.Logic.{inl, inr}
 use mathlib.Core.Bool.{true, false, not, ◌||◌}
 use Prim.Native.Nat.{◌+◌, ◌*◌, ◌≤◌, ◌<◌}
 use native.Mathlib.Omega.{arith}
 use lib.Dec.{ltb}
-use borrow.Author.Tests.{eq-eqb, ne_eqb, lt-ltb, le-ltb, le-leb, lt-leb, leb-true, leb-false}
+use borrow.Author.Tests.{eq-eqb, ne_eqb, lt-ltb, le-ltb, le-leb, lt-leb}
 use Rattle.answers.specs.Answer.{CONTENTS}
 use Rattle.nodes.specs.Words.{MOST_NODES}
 use Rattle.laws.proofs.Tests.{or_right}
@@ -20,8 +19,7 @@ use Rattle.contents.specs.declared.step.ContentsPlace.{ContentsPlace}
 use Rattle.contents.specs.declared.step.Step.{Step}
 use Rattle.contents.specs.declared.step.Step.TheVariants.{Reached, Refused}
 use Rattle.contents.specs.Passing.{contents_place, passesb, after_entry, step_of}
-use Rattle.contents.proofs.step.pass_entry.Statement.{statement}
-use Rattle.contents.proofs.step.pass_entry.Tie as tie
+use Rattle.contents.proofs.step.pass_entry.Goals as goal
 
 module _ (p : ContentsPlace) (e : Entry) where
   elsewhere : (e.offset ≡ p.end → ⊥) → ◌≡◌ {A = Step} (Refused CONTENTS) (step_of p e)
@@ -49,41 +47,17 @@ module _ (p : ContentsPlace) (e : Entry) where
       unfolding step_of passesb after_entry
       passed h = rw (eq-eqb e.offset p.end o, le-leb e.count MOST_NODES m, h)
 
-cast-if1 : tie.Need-overflow-cast-if1
-cast-if1 c = search rules
+pub returns-then-entry-place : goal.returns-then-entry-place
+returns-then-entry-place c = elsewhere _ _ c.if-entry-place.true
 
-returns : tie.Need-returns
-returns c = elsewhere _ _ c.if1.true
+pub returns-then-entry-gt-MOST_NODES : goal.returns-then-entry-gt-MOST_NODES
+returns-then-entry-gt-MOST_NODES c = too_long _ _ (omega arith) (omega arith)
 
-cast-if2 : tie.Need-overflow-cast-if2
-cast-if2 c = search rules
+pub returns-then-entry-place-2 : goal.returns-then-entry-place-2
+returns-then-entry-place-2 c = not_above _ _ (omega arith) (omega arith) c.if-place.true (omega arith)
 
-returns-2 : tie.Need-returns-2
-returns-2 c = too_long _ _ (omega arith) (omega arith)
-
-returns-3 : tie.Need-returns-3
-returns-3 c = not_above _ _ (omega arith) (omega arith) c.before.before.before.if3.true (leb-true _ _ c.if4.true)
-
-cast-t3 : tie.Need-overflow-cast-t3
-cast-t3 c = search rules
-
-mul-t7 : tie.Need-overflow-mul-t7
-mul-t7 c = search rules
-
-add-t8 : tie.Need-overflow-add-t8
-add-t8 c = search rules
-
-returns-4 : tie.Need-returns-4
-returns-4 c =
-    let a = c.before.before.before.before.before.before.before.before.args in
-    passed a.place a.entry (omega arith) (omega arith) (
-    elim c.before.before.if3.branch [
-      | inl g ↦ above a.place a.entry (leb-false a.entry.tag a.place.tag g.3.left)
-      | inr g ↦ first a.place a.entry g.left
-    ]
-    )
-
-pub pass-entry-spec : {M : Type 1} → statement M
-pass-entry-spec =
-    tie.close
-    (tie.spec cast-if1 returns cast-if2 returns-2 returns-3 cast-t3 mul-t7 add-t8 returns-4)
+pub returns : goal.returns
+returns c =
+    let a = c.args in
+    passed a.place a.entry (omega arith) (omega arith)
+    (elim c.else-place.either [ inl g ↦ above a.place a.entry g.1 | inr g ↦ first a.place a.entry g ])

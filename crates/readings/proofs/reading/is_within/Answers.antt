@@ -11,8 +11,7 @@ use lib.Ieee.Scale.{finite}
 use borrow.Author.Tests.{le-leb, lt-leb}
 use Rattle.readings.specs.Reading.{float, withinb}
 use Rattle.readings.proofs.FloatBits.{INFINITY, SIGN, finite_bits, finite_no_nan, zero_bits}
-use Rattle.readings.proofs.reading.is_within.Statement.{statement}
-use Rattle.readings.proofs.reading.is_within.Tie as tie
+use Rattle.readings.proofs.reading.is_within.Goals as goal
 
 module _ (most : Float) (bits : ℕ) where
   abbrev x : Float
@@ -30,17 +29,14 @@ module _ (most : Float) (bits : ℕ) where
   decided f b e = sym (ap (λ (b : Bool). b && (not (lt x (float 0)) && not (lt most x))) f
       ∙ ap (λ (b : Bool). not b && not (lt most x)) (ap (lt x) (sym zero_bits) ∙ e))
 
-returns : tie.Need-returns
-returns c = infinite _ _ c.if1.true
+pub returns-then-bits-ge-INFINITY : goal.returns-then-bits-ge-INFINITY
+returns-then-bits-ge-INFINITY c = infinite _ _ c.if-bits-ge-INFINITY.true
 
-float-from-bits-value : tie.Need-float-from-bits-value
-float-from-bits-value c = finite_no_nan _ (number c.before.args.most _ c.if1.false)
+pub float_from_bits-value : goal.float_from_bits-value
+float_from_bits-value c = finite_no_nan _ (number c.args.most _ c.if-bits-ge-INFINITY.false)
 
-returns-2 : tie.Need-returns-2
-returns-2 c = decided _ _ (number c.before.before.args.most _ c.before.if1.false) true c.if2.true
+pub returns-then-value : goal.returns-then-value
+returns-then-value c = decided _ _ (number c.args.most _ c.if-bits-ge-INFINITY.false) true c.if-value.true
 
-returns-3 : tie.Need-returns-3
-returns-3 c = decided _ _ (number c.before.before.args.most _ c.before.if1.false) false c.if2.false
-
-pub is-within-spec : {M : Type 1} → statement M
-is-within-spec = tie.close (tie.spec returns float-from-bits-value returns-2 returns-3)
+pub returns : goal.returns
+returns c = decided _ _ (number c.args.most _ c.if-bits-ge-INFINITY.false) false c.if-value.false

@@ -9,8 +9,7 @@ use borrow.Author.Tests.{eq-eqb, ne_eqb}
 use native.Mathlib.Omega.{arith}
 use Rattle.nodes.specs.declared.node.Node.{Node}
 use Rattle.nodes.specs.Node.{openb}
-use Rattle.nodes.proofs.node.is_open.Statement.{statement}
-use Rattle.nodes.proofs.node.is_open.Tie as tie
+use Rattle.nodes.proofs.node.is_open.Goals as goal
 
 module _ (n e : Node) where
   documents : (e.document ≡ n.document → ⊥) → false ≡ openb n e
@@ -21,11 +20,8 @@ module _ (n e : Node) where
   unfolding openb
   ends d = rw (eq-eqb _ _ d)
 
-returns : tie.Need-returns
-returns c = documents _ _ c.if1.true
+pub returns-then-e-n : goal.returns-then-e-n
+returns-then-e-n c = documents _ _ c.if-e-n.true
 
-returns-2 : tie.Need-returns-2
-returns-2 c = ends _ _ (omega arith)
-
-pub is-open-spec : {M : Type 1} → statement M
-is-open-spec = tie.close (tie.spec returns returns-2)
+pub returns : goal.returns
+returns c = ends _ _ (omega arith)

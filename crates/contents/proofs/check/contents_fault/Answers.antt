@@ -4,7 +4,6 @@
 -- them.
 -- What would break it: A limit one off, or an answer other than that step's, would be caught at its
 -- return.
-use borrow.Author.Rules.{rules}
 use mathlib.Core.Path.{◌≡◌, sym, ap, ◌∙◌}
 use mathlib.Core.List.{List}
 use Prim.Native.Nat.{ℕ, ◌≤◌, ◌<◌}
@@ -17,8 +16,7 @@ use Rattle.contents.specs.Contents.{MOST_LISTS, lists_in, entries_in, contents_o
 use Rattle.contents.specs.Passing.{start_of, step_answer}
 use Rattle.contents.specs.Private.Walk.{Kept}
 use Rattle.contents.proofs.ContentLaws.{walk_answers, short_broken, many_broken, fault_broken}
-use Rattle.contents.proofs.check.contents_fault.Statement.{statement}
-use Rattle.contents.proofs.check.contents_fault.Tie as tie
+use Rattle.contents.proofs.check.contents_fault.Goals as goal
 
 module _ (book : List ℕ) (lists : ℕ) (n : lists ≡ number_at book 0) where
   too_many_lem : MOST_LISTS < lists → ◌≡◌ {A = ℕ} CONTENTS (contents_fault book)
@@ -35,38 +33,13 @@ module _ (book : List ℕ) (lists : ℕ) (n : lists ≡ number_at book 0) where
   unfolding contents_fault_up_to lists_in contents_of
   walked few r k answer e = e ∙ rw (← n) (walk_answers MOST_LISTS lists (take lists (entries_in book)) (length book) few r k)
 
-number-at-requires : tie.Need-number-at-requires
-number-at-requires c κs = search rules
+pub returns-then-lists-gt-MOST_LISTS : goal.returns-then-lists-gt-MOST_LISTS
+returns-then-lists-gt-MOST_LISTS c = too_many_lem _ _ c.number_at-lists.ensures (omega arith)
 
-returns : tie.Need-returns
-returns c = too_many_lem _ _ c.before.number_at.ensures (omega arith)
+pub returns-then-book-contents_end : goal.returns-then-book-contents_end
+returns-then-book-contents_end c = too_short _ _ c.number_at-lists.ensures _ c.contents_end.ensures (omega arith)
 
-contents-end-requires : tie.Need-contents-end-requires
-contents-end-requires c κs = search rules
-
-returns-2 : tie.Need-returns-2
-returns-2 c = too_short _ _ c.before.before.before.number_at.ensures _ c.before.contents-end.ensures (omega arith)
-
-pass-contents-requires : tie.Need-pass-contents-requires
-pass-contents-requires c κs = search rules
-
-step-answer-requires : tie.Need-step-answer-requires
-step-answer-requires c κs = search rules
-
-returns-3 : tie.Need-returns-3
-returns-3 c =
-    let t = c.before in
-    walked _ _ t.before.before.before.before.number_at.ensures (omega arith)
-    t.pass-contents.result t.pass-contents.ensures _ c.step-answer.ensures
-
-pub contents-fault-spec : {M : Type 1} → statement M
-contents-fault-spec =
-    tie.close
-    (tie.spec
-    number-at-requires
-    returns
-    contents-end-requires
-    returns-2
-    pass-contents-requires
-    step-answer-requires
-    returns-3)
+pub returns : goal.returns
+returns c =
+    walked _ _ c.number_at-lists.ensures (omega arith)
+    c.pass_contents.result c.pass_contents.ensures _ c.step_answer.ensures
