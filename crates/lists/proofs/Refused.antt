@@ -22,7 +22,7 @@ use Rattle.nodes.proofs.NodeLaws.{within, open_read, same_read, same_self}
 use Rattle.lists.specs.Check.{check_from, check_nodes, check_words}
 use Rattle.lists.specs.Fault.{levelb, spanb, orderb, crossb, depthb, fault}
 use Rattle.lists.specs.Refusal.{Neighbours, Follows, Faulty, AtOdds}
-use Rattle.lists.specs.Refusal.Neighbours.{here as next_here, later as next-later}
+use Rattle.lists.specs.Refusal.Neighbours.{here as next_here, later as next_later}
 use Rattle.lists.specs.Refusal.Follows.{here, later}
 use Rattle.lists.specs.Refusal.Faulty.{ragged, long, level, span, order, cross, depth}
 use Rattle.lists.specs.Two.{nestedb, agreeb, oddsb, jointb, check_two}
@@ -44,7 +44,7 @@ module _ {e n : Node} where
 
   next_beyond : {ns : List Node} → Neighbours e n ns → Follows e n ns
   next_beyond (next_here p q) = here p (Memᴰ.head q)
-  next_beyond (next-later b) = later (next_beyond b)
+  next_beyond (next_later b) = later (next_beyond b)
 
 level_read : (n : Node) → levelb n ≡ true → (n.level ≡ 0) ⊎ (MOST_LEVELS < n.level)
 unfolding levelb
@@ -75,7 +75,7 @@ module _ (words : List ℕ) where
     unfolding orderb
     order_found [] q h = absurd (never h refl)
     order_found (e ∷ before) q h =
-        order e n (among (Neighbours e n) (λ y ms b. next-later b) before (e ∷ n ∷ ns) q (next_here refl refl)) (not_read (afterb n e) h)
+        order e n (among (Neighbours e n) (λ y ms b. next_later b) before (e ∷ n ∷ ns) q (next_here refl refl)) (not_read (afterb n e) h)
 
     module _ (before : List Node) (q : reverse_aux before (n ∷ ns) ≡ nodes words) where
       cross_found : crossb before n ≡ true → Faulty words

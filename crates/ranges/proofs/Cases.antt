@@ -2,14 +2,18 @@
 -- is read off its case.
 -- What would break it: A range taken for a refusal, or no reading for a range, would be caught
 -- here.
-use mathlib.Core.Path.{◌≡◌, refl, ap}
-use mathlib.Core.Logic.{◌↔◌}
+use types.Run.{OneOf}
+use denote.Enum.Declared.{tag_of}
+use native.Mathlib.Omega.{arith}
+use mathlib.Core.Path.{◌≡◌, refl, ap, subst}
+use mathlib.Core.Logic.{◌↔◌, inl, inr}
 use mathlib.Core.Bool.{Bool, true, false}
 use mathlib.Core.List.{List, [], ◌∷◌}
 use lib.Ieee.{Float, nan}
 use Rattle.answers.specs.declared.verdict.Verdict.{Verdict}
 use Rattle.answers.specs.Verdict.{taken}
 use Rattle.laws.proofs.Tests.{never}
+use Rattle.ranges.specs.contracts.range.ZoneRange.{the_type}
 use Rattle.ranges.specs.declared.range.Range.{Range}
 use Rattle.ranges.specs.declared.range.ZoneRange.{ZoneRange}
 use Rattle.ranges.specs.declared.range.ZoneRange.TheVariants.{Found, NoReading, Refused}
@@ -34,6 +38,10 @@ same_range h = ap range_in h
 pub found_not_none : {r : Range} → Found r ≡ NoReading → ⊥
 unfolding foundb
 found_not_none h = never refl (ap foundb h)
+
+-- An answer whose number is that of a range or of no reading isn't a refusal.
+pub no_refusal : (r : ZoneRange) (v : Verdict) → OneOf (0 ∷ 1 ∷ []) (tag_of the_type r) → r ≡ Refused v → ⊥
+no_refusal r v k e = elim (subst (λ r. OneOf (0 ∷ 1 ∷ []) (tag_of the_type r)) e k) [ inl z ↦ omega arith | inr z ↦ omega arith ]
 
 -- The verdict of a refusal.
 refusal_in : ZoneRange → Verdict

@@ -1,0 +1,32 @@
+-- Function: `next_document` (src/both.rt).
+-- Why it holds: Each return gives the document of one list's next node, which is no later than the
+-- other's, or the other list is at its end.
+-- What would break it: The later of two documents would be caught at its return.
+use mathlib.Core.Path.{refl}
+use mathlib.Core.Logic.{inl, inr, ⊎_elim}
+use native.Mathlib.Omega.{arith}
+use Rattle.lists.specs.Private.Walk.{node_from}
+use Rattle.lists.proofs.both.next_document.Goals as goal
+
+pub bounds-first-i : goal.bounds-first-i
+bounds-first-i c = ⊎_elim (λ l. l) (λ l. absurd (omega arith)) c.requires.2
+
+pub returns-then-second-j : goal.returns-then-second-j
+unfolding node_from
+returns-then-second-j c = record {
+  upcoming = inl (⊎_elim (λ l. l) (λ l. absurd (omega arith)) c.requires.2, refl);
+  first_on = λ l. omega arith;
+  second_on = λ l. absurd (omega arith);
+}
+
+pub returns-then-first-i : goal.returns-then-first-i
+unfolding node_from
+returns-then-first-i c = record { upcoming = inr (omega arith, refl); first_on = λ l. absurd (omega arith); second_on = λ l. omega arith }
+
+pub returns-then-second-j-2 : goal.returns-then-second-j-2
+unfolding node_from
+returns-then-second-j-2 c = record { upcoming = inr (omega arith, refl); first_on = λ l. omega arith; second_on = λ l. omega arith }
+
+pub returns : goal.returns
+unfolding node_from
+returns c = record { upcoming = inl (omega arith, refl); first_on = λ l. omega arith; second_on = λ l. omega arith }
