@@ -5,7 +5,6 @@
 use mathlib.Core.Path.{◌≡◌, refl, sym, ap, ◌∙◌}
 use mathlib.Core.List.{List, [], ◌∷◌, ◌++◌}
 use Rattle.tickets.specs.declared.ticket.Ticket.{Ticket}
-use Rattle.pairs.specs.Calls.{answer}
 use Rattle.ticket_words.specs.declared.words.TicketWords.{TicketWords}
 use Rattle.ticket_words.specs.Following.{answer_to_c}
 use Rattle.ticket_words.specs.Page.{shown_page}

@@ -99,7 +99,7 @@ module _ (ns : List Node) (ok : AcceptedList ns) where
   ended_childless i l e =
       child_none (i - 1) (omega arith) (λ j a k. not_so (λ h.
       never (elim (eq-or-lt_of_le a) [
-        | inl q ↦ ap (λ x. holds ns x (i - 1)) (omega (arith, e.later)) ∙ h
+        | inl q ↦ let next : i ≡ j = omega (arith, e.later) in ap (λ x. holds ns x (i - 1)) next ∙ h
         | inr q ↦ contains_between ns ok j i (i - 1) (omega (arith, e.later)) (omega arith) k h
       ]) (outside_ended ns ok (i - 1) i l e.ended)))
 

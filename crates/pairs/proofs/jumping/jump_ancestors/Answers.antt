@@ -1,0 +1,200 @@
+-- Function: `jump_ancestors` (src/jumping.rt).
+-- Why it holds: At each turn, handing out the groups of the ancestors from `i` on gives what
+-- handing out all that remains gives. An ancestor that isn't open at the first descendant after it
+-- has no group, and neither has any that lies inside it. Without such a descendant no later one has
+-- a group.
+-- Measure: `length ancestors - i`, the words of the ancestors still to come.
+-- What would break it: A group that is lost, served twice or served after the room has run out
+-- would be caught at a return or at the next turn.
+use mathlib.Core.Path.{◌≡◌, refl, ap, sym, ◌∙◌}
+use mathlib.Core.Bool.{true}
+use Prim.Native.Nat.{◌+◌, ◌*◌, ◌/◌, zero-le}
+use native.Mathlib.Omega.{arith}
+use Rattle.nodes.specs.Words.{nodes, node_at}
+use Rattle.laws.proofs.Tests.{not_read, not_none}
+use Rattle.paging.specs.Private.Serve.{serve}
+use Rattle.paging.proofs.Serving.{left_end}
+use Rattle.tickets.specs.declared.ticket.Order.TheVariants.{Ancestor}
+use Rattle.tickets.specs.Listing.{leaders, followers}
+use Rattle.tickets.specs.PairWords.{PAIR_WORDS, pair_words}
+use Rattle.pairs.specs.Private.Sweep.{Placed, Running, runningb}
+use Rattle.pairs.proofs.Jumps.{jump_rest, none_left}
+use Rattle.pairs.proofs.ListingGroups.{sweep_start, sweep_end}
+use Rattle.pairs.proofs.SweepStart.{tells_first, tells_later}
+use Rattle.pairs.proofs.Zones.{first_taken, sweep_running, sweep_next, sweep_on, sweep_stop}
+use Rattle.pairs.proofs.jumping.jump_ancestors.Goals as goal
+
+pub loop-i-init : goal.loop-i-init
+unfolding leaders followers
+loop-i-init c =
+    let a = c.args in
+    let same : 4 * a.first / 4 ≡ a.first = omega arith in
+    let h = c.requires.1 in
+    let t = first_taken a.ancestors.now a.descendants.now c.requires.0 in (
+      refl,
+      (t.1, omega arith, omega (arith, t.1)),
+      (t.2, refl, zero-le),
+      λ l. zero-le,
+      refl,
+      λ place s. (
+        tells_first place a.ancestors.now t.0 a.first _ s,
+        ap (serve pair_words PAIR_WORDS a.out.now 0)
+            (sweep_start a.relation Ancestor place (nodes a.ancestors.now) (nodes a.descendants.now) (4 * a.first / 4) (same ∙ s.0)),
+      ),
+    )
+
+pub node_from-requires : goal.node_from-requires
+node_from-requires c = (c.loop-i.invariant.1, c.loop-i-test.true)
+
+pub first_after-from-requires : goal.first_after-from-requires
+first_after-from-requires c = c.loop-i.invariant.2
+
+pub returns-then-descendants-from : goal.returns-then-descendants-from
+returns-then-descendants-from c =
+    let a = c.args in
+    let l = c.loop-i in
+    let i = l.invariant in
+    let t = c.loop-i-test.true in
+    λ place s.
+    let none = none_left a.ancestors.now a.descendants.now c.requires.0 l.i (l.from / 4) _ _ (omega (arith, i.1)) c.node_from.ensures i.3
+    c.first_after-from.ensures.index (omega (arith, c.if-descendants-from.true)) a.relation place in
+    left_end pair_words PAIR_WORDS _ _ i.4 none (i.5 place s).1
+
+pub node_from-requires-in-loop-i : goal.node_from-requires-in-loop-i
+node_from-requires-in-loop-i c = (c.loop-i.invariant.1, c.loop-i-test.true)
+
+pub is_running-requires : goal.is_running-requires
+is_running-requires c =
+    let i = c.loop-i.invariant in
+    (i.2.0, omega (arith, i.1, c.first_after-from.ensures.aligned))
+
+pub hand_zone-handed-requires : goal.hand_zone-handed-requires
+hand_zone-handed-requires c =
+    let running : let a = c.args in Running a.descendants.now (node_at a.ancestors.now (c.loop-i.i / 4)) (c.first_after-from.result / 4) =
+    let a = c.args in
+    let l = c.loop-i in
+    let i = l.invariant in
+    let t = c.loop-i-test.true in
+    sweep_running a.ancestors.now a.descendants.now c.requires.0 (l.i / 4) (l.from / 4) _ _ (omega (arith, i.1)) c.node_from.ensures i.3 c.first_after-from.ensures.index in
+    let placed : let a = c.args in Placed a.descendants.now c.first_after-from.result =
+    let i = c.loop-i.invariant in
+    let f = c.first_after-from.ensures in
+    (i.2.0, f.aligned, omega (arith, running.from_in, f.aligned, i.2.0)) in
+    let a = c.args in
+    let l = c.loop-i in
+    let runs = ap (λ n. runningb a.descendants.now n (c.first_after-from.result / 4)) (sym c.node_from-in-loop-i.ensures)
+    ∙ sym c.is_running.ensures ∙ c.if-is_running.true in
+    (c.requires.0, l.invariant.1, c.loop-i-test.true, placed, running, runs)
+
+pub shape_of-out-then-not-handed : goal.shape_of-out-then-not-handed
+shape_of-out-then-not-handed c =
+    let i = c.loop-i.invariant.0 in
+    omega arith
+
+pub returns-then-not-handed : goal.returns-then-not-handed
+returns-then-not-handed c =
+    let a = c.args in
+    let l = c.loop-i in
+    let i = l.invariant in
+    let t = c.loop-i-test.true in
+    λ place s.
+    let left = i.5 place s in
+    sweep_stop a.ancestors.now a.descendants.now c.requires.0 (l.i / 4) (l.from / 4) _ _ (omega (arith, i.1)) c.node_from.ensures
+    i.3 c.first_after-from.ensures.index a.relation place _ ((l.i + 4) / 4) (left.0 t) (omega arith)
+    _ _ c.hand_zone-handed.ensures (not_read _ c.if-not-handed.true) left.1
+
+pub overflow_add-i : goal.overflow_add-i
+overflow_add-i c =
+    let t = c.loop-i-test.true in
+    let fits = c.well_formed in
+    omega arith
+
+pub past_zone-i-requires : goal.past_zone-i-requires
+past_zone-i-requires c =
+    ((first_taken c.args.ancestors.now c.args.descendants.now c.requires.0).0, c.loop-i.invariant.1, c.loop-i-test.true)
+
+pub loop-i-smaller-else-not-handed : goal.loop-i-smaller-else-not-handed
+loop-i-smaller-else-not-handed c =
+    let t = c.loop-i-test.true in
+    omega arith
+
+pub loop-i-preserved-else-not-handed : goal.loop-i-preserved-else-not-handed
+loop-i-preserved-else-not-handed c =
+    let running : let a = c.args in Running a.descendants.now (node_at a.ancestors.now (c.loop-i.i / 4)) (c.first_after-from.result / 4) =
+    let a = c.args in
+    let l = c.loop-i in
+    let i = l.invariant in
+    let t = c.loop-i-test.true in
+    sweep_running a.ancestors.now a.descendants.now c.requires.0 (l.i / 4) (l.from / 4) _ _ (omega (arith, i.1)) c.node_from.ensures i.3 c.first_after-from.ensures.index in
+    let placed : let a = c.args in Placed a.descendants.now c.first_after-from.result =
+    let i = c.loop-i.invariant in
+    let f = c.first_after-from.ensures in
+    (i.2.0, f.aligned, omega (arith, running.from_in, f.aligned, i.2.0)) in
+    let a = c.args in
+    let l = c.loop-i in
+    let i = l.invariant in
+    let t = c.loop-i-test.true in
+    let done : c.hand_zone-handed.result.done ≡ true = not_none _ c.if-not-handed.false in
+    let n = c.node_from.ensures in
+    let f = c.first_after-from.ensures.index in (
+      omega (arith, i.0),
+      (i.1.0, omega (arith, i.1), omega (arith, i.1)),
+      placed,
+      sweep_next a.ancestors.now a.descendants.now c.requires.0 (l.i / 4) (l.from / 4) _ _ (omega (arith, i.1)) n i.3 f ((l.i + 4) / 4) (omega arith),
+      done,
+      λ place s.
+          let left = i.5 place s in (
+            tells_later place a.ancestors.now (first_taken a.ancestors.now a.descendants.now c.requires.0).0 _ l.i (l.i + 4) (omega arith) left.0,
+            sweep_on a.ancestors.now a.descendants.now c.requires.0 (l.i / 4) (l.from / 4) _ _ (omega (arith, i.1)) n
+                i.3 f a.relation place _ ((l.i + 4) / 4) (left.0 t) (omega arith) _ _ c.hand_zone-handed.ensures done left.1,
+          ),
+    )
+
+pub loop-i-smaller : goal.loop-i-smaller
+loop-i-smaller c =
+    let t = c.loop-i-test.true in
+    let e = c.past_zone-i.ensures.later in
+    omega arith
+
+pub loop-i-preserved : goal.loop-i-preserved
+loop-i-preserved c =
+    let running : let a = c.args in Running a.descendants.now (node_at a.ancestors.now (c.loop-i.i / 4)) (c.first_after-from.result / 4) =
+    let a = c.args in
+    let l = c.loop-i in
+    let i = l.invariant in
+    let t = c.loop-i-test.true in
+    sweep_running a.ancestors.now a.descendants.now c.requires.0 (l.i / 4) (l.from / 4) _ _ (omega (arith, i.1)) c.node_from.ensures i.3 c.first_after-from.ensures.index in
+    let placed : let a = c.args in Placed a.descendants.now c.first_after-from.result =
+    let i = c.loop-i.invariant in
+    let f = c.first_after-from.ensures in
+    (i.2.0, f.aligned, omega (arith, running.from_in, f.aligned, i.2.0)) in
+    let a = c.args in
+    let l = c.loop-i in
+    let i = l.invariant in
+    let t = c.loop-i-test.true in
+    let r = c.past_zone-i.result in
+    let jumped = c.past_zone-i.ensures in
+    let n = c.node_from.ensures in
+    let f = c.first_after-from.ensures.index in (
+      i.0,
+      jumped.placed,
+      placed,
+      sweep_next a.ancestors.now a.descendants.now c.requires.0 (l.i / 4) (l.from / 4) _ _ (omega (arith, i.1)) n i.3 f (r / 4) (omega (arith, jumped.later, jumped.placed, i.1)),
+      i.4,
+      λ place s.
+          let left = i.5 place s in (
+            tells_later place a.ancestors.now (first_taken a.ancestors.now a.descendants.now c.requires.0).0 _ l.i r (omega (arith, jumped.later, jumped.placed, i.1)) left.0,
+            ap (serve pair_words PAIR_WORDS l.out l.handed.count)
+                (sym (jump_rest a.ancestors.now a.descendants.now c.requires.0 l.i (l.from / 4) _ _ (omega (arith, i.1)) n i.3 f _ _
+                c.node_from-in-loop-i.ensures c.is_running.ensures c.if-is_running.false r jumped a.relation place)) ∙ left.1,
+          ),
+    )
+
+pub returns : goal.returns
+returns c =
+    let a = c.args in
+    let l = c.loop-i in
+    let i = l.invariant in
+    λ place s.
+    let none = sweep_end a.relation Ancestor place a.ancestors.now (nodes a.descendants.now) (l.i / 4) (omega (arith, i.1, c.loop-i-test.false)) in
+    left_end pair_words PAIR_WORDS _ _ i.4 none (i.5 place s).1
