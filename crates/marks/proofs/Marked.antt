@@ -57,7 +57,7 @@ close_mark inner position depth (mark ∷ marks) f l =
 later_marked : (position mark : ℕ) (marks : List ℕ) (r : Row) → Marked (position + 1) marks r → Marked position (mark ∷ marks) r
 later_marked position mark marks r k =
     record {
-      tag_at_lem = mark_later mark position _ _ marks k.tag_at_lem;
+      tag_at = mark_later mark position _ _ marks k.tag_at;
       no_close = k.no_close;
       one_position = k.one_position;
       closed_after = k.closed_after;
@@ -76,7 +76,7 @@ all_marked document position depth (mark ∷ marks) f =
           (all_marked document (position + 1) (depth - 1) marks g))
       | is_text h ↦ rw (rows_node document position depth mark marks (λ c. omega arith), end_text_lem position mark marks h) (
         record {
-          tag_at_lem = mark_first position mark marks;
+          tag_at = mark_first position mark marks;
           no_close = λ c. omega (arith, c, h);
           one_position = λ t. refl;
           closed_after = λ t. absurd (t h);
@@ -87,7 +87,7 @@ all_marked document position depth (mark ∷ marks) f =
       | opens h k ↦ let g : fault_from (position + 1) (depth + 1) marks ≡ TAKEN = (rw (open_opens depth mark h k) at r).1 in
           rw (rows_node document position depth mark marks h, end_opens position mark marks k) (
             record {
-              tag_at_lem = mark_first position mark marks;
+              tag_at = mark_first position mark marks;
               no_close = h;
               one_position = λ t. absurd (k t);
               closed_after = λ t. let c = close_from 0 (position + 1) marks in omega (arith, c);

@@ -2,7 +2,7 @@
 -- inside one another come in turn. So of two rows the later starts after the earlier one's end, or
 -- ends before it and stands deeper.
 -- What would break it: A close taken for another's, or a level one off, would be caught here.
-use mathlib.Core.Path.{◌≡◌, refl}
+use mathlib.Core.Path.{◌≡◌, refl, sym, subst}
 use mathlib.Core.Logic.{◌⊎◌, inl, inr, ⊎_elim}
 use mathlib.Core.List.{List, [], ◌∷◌}
 use Prim.Native.Nat.{ℕ, zero, suc, ◌+◌, ◌-◌, ◌≤◌, ◌<◌}
@@ -12,11 +12,12 @@ use lib.ListN.{length}
 use Rattle.answers.specs.Answer.{TAKEN}
 use Rattle.laws.specs.Choose.{All, EveryTwo}
 use Rattle.nodes.specs.Node.{MOST_LEVELS}
+use Rattle.nodes.specs.Words.{node}
 use Rattle.laws.proofs.Choices.{all_map, all_both}
 use Rattle.laws.proofs.Tests.{either}
 use Rattle.marks.specs.declared.row.Row.{Row}
 use Rattle.marks.specs.Mark.{CLOSE, TEXT, closeb, open_after, fault_from}
-use Rattle.marks.specs.Table.{close_at, end_of, rows_from}
+use Rattle.marks.specs.Table.{row, close_at, end_of, rows_from}
 use Rattle.marks.proofs.MarkLaws.{closes, is_text, opens, kind_of, open_closes, open_text, open_opens, close_here, close_closes, close_text, close_opens, rows_closes, rows_node, end_text_lem, end_opens, InPlace, fault_read, end_read}
 
 -- A close doesn't come before the position from which it is looked for.
@@ -135,17 +136,25 @@ all_beside document position depth inner (mark ∷ marks) f l =
           (λ k m. all_beside document (position + 1) (depth - 1) k marks (rw (open_closes depth mark h) at r).1 m))
       | is_text h ↦ let c = close_from inner (position + 1) marks in
           let later = all_beside document (position + 1) depth inner marks (rw (open_text depth mark h) at r).1 l in
-          rw (rows_node document position depth mark marks (λ c. omega arith), close_text inner position mark marks h)
-          (rw (end_text_lem position mark marks h, open_text depth mark h) (inr (omega arith, omega arith), later))
+          node_beside _ (close_text inner position mark marks h) (λ c. omega arith)
+          (rw (end_text_lem position mark marks h) (inr (omega arith, omega arith))) (rw (open_text depth mark h) later)
       | opens h k ↦ let turn = innermost_first inner (position + 1) (depth + 1) marks (rw (open_opens depth mark h k) at r).1 (omega arith) in
-          let later = all_beside document (position + 1) (depth + 1) (suc inner) marks (rw (open_opens depth mark h k) at r).1 (omega arith) in
-          let e : depth + 1 - suc inner ≡ depth - inner = omega arith in
-          rw (rows_node document position depth mark marks h, close_opens inner position mark marks h k, add-one inner)
-          (rw (end_opens position mark marks k, open_opens depth mark h k) (inr (turn, omega arith), rw e at later))
+          let later = all_beside document (position + 1) (depth + 1) (inner + 1) marks (rw (open_opens depth mark h k) at r).1 (omega arith) in
+          let e : depth + 1 - (inner + 1) ≡ depth - inner = omega arith in
+          node_beside _ (close_opens inner position mark marks h k) h
+          (rw (end_opens position mark marks k) (inr (rw (add-one inner) turn, omega arith))) (rw (open_opens depth mark h k) (rw e at later))
     ]
   where
     r : InPlace position depth mark × (fault_from (position + 1) (open_after depth mark) marks ≡ TAKEN)
     r = fault_read position depth mark marks f
+
+    node_beside : (close : ℕ) → close_at inner position (mark ∷ marks) ≡ close → (mark ≡ CLOSE → ⊥)
+        → Beside close (depth - inner) (row (node document position (end_of position mark marks) (depth + 1)) mark)
+        → All (Beside close (depth - inner)) (rows_from document (position + 1) (open_after depth mark) marks)
+        → All (Beside (close_at inner position (mark ∷ marks)) (depth - inner)) (rows_from document position depth (mark ∷ marks))
+    node_beside close e h first later =
+        subst (λ c. All (Beside c (depth - inner)) (rows_from document position depth (mark ∷ marks))) (sym e)
+        (rw (rows_node document position depth mark marks h) (first, later))
 
     rest : List Row
     rest = rows_from document (position + 1) (depth - 1) marks

@@ -47,7 +47,7 @@ pub record MarkAt (from : ℕ) (marks : List ℕ) (position mark : ℕ) : Type 0
 -- the mark at its start and not a close. A text ends where it starts, and an element ends at a
 -- close after its start.
 pub record Marked (from : ℕ) (marks : List ℕ) (r : Row) : Type 0 where
-  pub tag_at_lem : MarkAt from marks r.node.start r.tag
+  pub tag_at : MarkAt from marks r.node.start r.tag
   pub no_close : r.tag ≡ CLOSE → ⊥
   pub one_position : r.tag ≡ TEXT → r.node.end ≡ r.node.start
   pub closed_after : (r.tag ≡ TEXT → ⊥) → r.node.start < r.node.end

@@ -30,12 +30,12 @@ place_from start words index = place_in start (NUMBER_BYTES * length words) (NOD
 -- Where the part that a verdict shows lies: at the faulty node, in the list that has it. Where no
 -- node is at fault, it lies at the beginning of the ancestors.
 unfoldable pub place_at : Verdict → ℕ × ℕ → ℕ × ℕ → List ℕ → List ℕ → ℕ × ℕ
-place_at v ofAncestors ofDescendants ancestors descendants =
+place_at v of_ancestors of_descendants ancestors descendants =
     cond (showsb v)
-    (cond (eqb v.list DESCENDANTS) (place_from ofDescendants descendants v.index) (place_from ofAncestors ancestors v.index))
-    ofAncestors
+    (cond (eqb v.list DESCENDANTS) (place_from of_descendants descendants v.index) (place_from of_ancestors ancestors v.index))
+    of_ancestors
 
 -- Where the part that the check of these two lists shows lies, given where each list begins.
 unfoldable pub faulty_place : ℕ × ℕ → ℕ × ℕ → List ℕ → List ℕ → ℕ × ℕ
-faulty_place ofAncestors ofDescendants ancestors descendants =
-    place_at (check_two ancestors descendants) ofAncestors ofDescendants ancestors descendants
+faulty_place of_ancestors of_descendants ancestors descendants =
+    place_at (check_two ancestors descendants) of_ancestors of_descendants ancestors descendants

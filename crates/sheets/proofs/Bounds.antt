@@ -1,5 +1,5 @@
 -- Why it holds: A sample adds one to the samples, at most one to the present ones, and at most
--- MOST-HUNDREDTHS to the sum where it is present. No call has more than MOST-NODES samples.
+-- MOST_HUNDREDTHS to the sum where it is present. No call has more than MOST_NODES samples.
 -- What would break it: A missing word that were added, or a faulty one let through, would be caught
 -- here.
 use mathlib.Core.Path.{◌≡◌, subst, sym}
@@ -24,8 +24,8 @@ use Rattle.sheets.proofs.LabSamples.{labs_few, labs_words}
 use Rattle.sheets.proofs.Rows.{row_told}
 use Rattle.sheets.proofs.Subtotals.{over_small}
 
--- A row's numbers: no more are present than there are samples, these are at most MOST-NODES, and
--- the sum is at most MOST-HUNDREDTHS for each.
+-- A row's numbers: no more are present than there are samples, these are at most MOST_NODES, and
+-- the sum is at most MOST_HUNDREDTHS for each.
 abbrev pub Bounded : Subtotal → Type 0
 Bounded t = (t.present ≤ t.samples) × (t.samples ≤ MOST_NODES) × (t.sum ≤ MOST_NODES * MOST_HUNDREDTHS)
 
