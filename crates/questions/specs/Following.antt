@@ -68,8 +68,8 @@ abbrev pub AcceptedIn : Batch → Type 0
 AcceptedIn b = (verdict_in b).answer ≡ TAKEN
 
 -- The single call that the question amounts to: the lists under its two tags, and the rest of the
--- output, after the pairs of the questions before it. `pages_to` counts those pairs, since the pages
--- before don't depend on the ticket of the question that is followed.
+-- output, after the pairs of the questions before it. `pages_to` counts those pairs, since the
+-- pages before don't depend on the ticket of the question that is followed.
 abbrev pub call_in : Batch → Call
 call_in b = record {
   ancestors = list_under b.book b.ancestors;

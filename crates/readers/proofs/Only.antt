@@ -1,6 +1,6 @@
 -- Why it holds: Each contract equates its answer with a definition, and two things that equal a
--- third are equal. So no second answer satisfies it. These functions are proved by hand, so this is
--- said of the contract itself: in every model, two answers that satisfy it are equal.
+-- third are equal. So no second answer satisfies it. This is said of the contract itself: in every
+-- model, two answers that satisfy it are equal.
 -- What would break it: A contract that left the slice or the number of a reader open would be
 -- caught here.
 use mathlib.Core.Path.{◌≡◌}
