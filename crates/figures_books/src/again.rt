@@ -5,10 +5,10 @@ ghost use Rattle.contents.specs.Contents.{MOST_LISTS};
 use crate::say::{say, say_answer, say_number, say_verdict};
 use answers::answer::TAKEN;
 use answers::verdict::Counted;
-use check::same;
 use contents::entry::{MOST_LISTS, contents_end, entry_at, entry_count};
 use numbers::little::{NUMBER_BYTES, number_at};
 use numbers::part::{copy_numbers, part_of};
+use std::io::Stdout;
 use writing::write::write_book;
 
 // The most entries that are taken over: one more than a book may have.
@@ -74,27 +74,27 @@ fn is_painted(bytes: &[u8]) -> bool {
 }
 
 // Prints the answer `written`, and says if a byte of `out` beyond what was written has changed.
-fn say_written(written: Counted, out: &[u8]) {
-    say_verdict(b"written ", written.verdict);
-    say_number(b" bytes ", written.count);
+fn say_written(stdout: Stdout, written: Counted, out: &[u8]) {
+    say_verdict(stdout, b"written ", written.verdict);
+    say_number(stdout, b" bytes ", written.count);
     if !is_painted(part_of(out, written.count, out.len())) {
-        say(b", altered beyond");
+        say(stdout, b", altered beyond");
     }
 }
 
 // Prints what writing into `out`, which is too short, answers, and says if a byte of it has
 // changed.
-fn say_short(entries: &[u32], list: &[u32], out: &mut [u8]) {
+fn say_short(stdout: Stdout, entries: &[u32], list: &[u32], out: &mut [u8]) {
     let written = write_book(entries, list, out);
     let verdict = written.verdict;
-    say_answer(b"; in one byte less ", verdict.answer);
+    say_answer(stdout, b"; in one byte less ", verdict.answer);
     if !is_painted(out) {
-        say(b", altered");
+        say(stdout, b", altered");
     }
 }
 
 // Writes a book of `size` bytes into an output of one byte less, and prints what comes of it.
-fn write_short(entries: &[u32], list: &[u32], size: usize) {
+fn write_short(stdout: Stdout, entries: &[u32], list: &[u32], size: usize) {
     let mut out = [PAINT; OUTPUT_BYTES];
     if OUTPUT_BYTES < size {
         return;
@@ -102,29 +102,29 @@ fn write_short(entries: &[u32], list: &[u32], size: usize) {
     if size == 0 {
         return;
     }
-    say_short(entries, list, &mut out[0..size - 1]);
+    say_short(stdout, entries, list, &mut out[0..size - 1]);
 }
 
 // Writes the book of `entries` and `list`, and prints what comes of it and whether it is `book`
 // again.
-fn write_and_say(book: &[u8], entries: &[u32], list: &[u32]) {
+fn write_and_say(stdout: Stdout, book: &[u8], entries: &[u32], list: &[u32]) {
     let mut out = [PAINT; OUTPUT_BYTES];
     let written = write_book(entries, list, &mut out);
-    say_written(written, &out);
+    say_written(stdout, written, &out);
     let verdict = written.verdict;
     if verdict.answer == TAKEN {
-        if same(book, part_of(&out, 0, written.count)) {
-            say(b", as read");
+        if book == part_of(&out, 0, written.count) {
+            say(stdout, b", as read");
         } else {
-            say(b", not as read");
+            say(stdout, b", not as read");
         }
-        write_short(entries, list, written.count);
+        write_short(stdout, entries, list, written.count);
     }
-    say(b"\n");
+    say(stdout, b"\n");
 }
 
 // Writes the parts of `book` anew: the entries of its contents and the numbers after them.
-pub(crate) fn write_parts(book: &[u8]) {
+pub(crate) fn write_parts(stdout: Stdout, book: &[u8]) {
     let mut entries = [0u32; 2 * MOST_ENTRIES];
     let mut list = [0u32; MOST_WORDS];
     let count = taken_over(book);
@@ -133,12 +133,12 @@ pub(crate) fn write_parts(book: &[u8]) {
     copy_numbers(rest, &mut list);
     let words = rest.len() / NUMBER_BYTES;
     if words <= MOST_WORDS {
-        write_and_say(book, &entries[0..2 * count], &list[0..words]);
+        write_and_say(stdout, book, &entries[0..2 * count], &list[0..words]);
     }
 }
 
 // Writes a book of three words of entries, which make no whole entries.
-pub(crate) fn write_odd() {
-    say(b"== entries of three words\n");
-    write_and_say(b"", &[2, 0, 3], &[]);
+pub(crate) fn write_odd(stdout: Stdout) {
+    say(stdout, b"== entries of three words\n");
+    write_and_say(stdout, b"", &[2, 0, 3], &[]);
 }

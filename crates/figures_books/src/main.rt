@@ -1,19 +1,25 @@
 // The scope's figures of the field book and of the printing program. Each argument names a book.
 // For each this program prints what opening it answers, and where its lists lie. It also prints
 // what writing its parts anew answers, and what the printing program prints of it.
+#![tactic(auto)]
+
 mod again;
 mod say;
+
+ghost use Rattle.std.specs.Prelude.{◌≤◌, length};
 
 use crate::again::{write_odd, write_parts};
 use crate::say::{say, say_number, say_verdict, say_word};
 use books::book::check_book;
 use books::find::{Found, find_list, find_tag};
-use check::same;
 use contents::entry::entry_at;
-use io::read_full;
 use numbers::part::part_of;
 use printing::print::print_book;
 use readers::reader::body_in;
+use std::env::FillError;
+use std::io::{Read, Stdout};
+use std::rt::{Env, Files};
+use std::{fs, str};
 
 // The number of bytes of a book that there is room for.
 const MOST_BYTES: usize = 65600;
@@ -27,77 +33,107 @@ fn is_agreed(book: &[u8], tag: u32, by_tag: Found, by_place: Found) -> bool {
     if by_tag.bytes != by_place.bytes {
         return false;
     }
-    same(body_in(book, tag), part_of(book, by_tag.from, by_tag.bytes))
+    body_in(book, tag) == part_of(book, by_tag.from, by_tag.bytes)
 }
 
 // Prints where the list at `position` lies when it is looked for by its tag. Says so if it lies
 // elsewhere by its place or in the reader.
-fn say_list(book: &[u8], position: usize) {
+fn say_list(stdout: Stdout, book: &[u8], position: usize) {
     let entry = entry_at(book, position);
     let tag = entry.tag;
     let found = find_tag(book, tag);
-    say_word(b"tag ", tag);
-    say_number(b" from ", found.from);
-    say_number(b" bytes ", found.bytes);
+    say_word(stdout, b"tag ", tag);
+    say_number(stdout, b" from ", found.from);
+    say_number(stdout, b" bytes ", found.bytes);
     if !is_agreed(book, tag, found, find_list(book, position)) {
-        say(b", elsewhere by its place");
+        say(stdout, b", elsewhere by its place");
     }
-    say(b"\n");
+    say(stdout, b"\n");
 }
 
 // Prints where each of the `lists` of `book` lies.
-fn say_lists(book: &[u8], lists: u32) {
+fn say_lists(stdout: Stdout, book: &[u8], lists: u32) {
     let mut position = 0;
     // Rests on arithmetic alone: `position` rises to `lists`.
     while position < lists as usize {
-        say_list(book, position);
+        say_list(stdout, book, position);
         position += 1;
     }
 }
 
 // Runs the case of `book`, which the file `name` holds.
-fn run_case(name: &[u8], book: &[u8]) {
-    say(b"== ");
-    say(name);
-    say_number(b": ", book.len());
-    say(b" bytes\n");
+fn run_case(stdout: Stdout, name: &[u8], book: &[u8]) {
+    say(stdout, b"== ");
+    say(stdout, name);
+    say_number(stdout, b": ", book.len());
+    say(stdout, b" bytes\n");
     let opened = check_book(book);
-    say_verdict(b"read ", opened.verdict);
-    say_word(b" lists ", opened.lists);
-    say(b"\n");
-    say_lists(book, opened.lists);
-    write_parts(book);
-    print_book(book);
+    say_verdict(stdout, b"read ", opened.verdict);
+    say_word(stdout, b" lists ", opened.lists);
+    say(stdout, b"\n");
+    say_lists(stdout, book, opened.lists);
+    write_parts(stdout, book);
+    print_book(stdout, book);
 }
 
-// Runs the case of the book `name`, which `fd` reads.
-fn read_case(fd: i32, name: &[u8]) {
-    let mut book = [0u8; MOST_BYTES];
-    let length = read_full(fd, &mut book);
-    run_case(name, &book[0..length]);
-}
-
-// Runs the case of the book that the argument at `index` names.
-fn run_argument(index: usize) {
-    let mut path = io::buffer();
-    let length = os::arg(index, &mut path);
-    let fd = os::open_read(&path[..length]);
-    if fd < 0 {
-        os::fail(&path[..length]);
-        return;
+// Reads until `buffer` is full, the input ends or a read fails, and returns how many bytes that
+// put at the start of `buffer`.
+fn read_full(input: &mut impl Read, buffer: &mut [u8]) -> usize
+    ensures { result ≤ length buffer.new }
+{
+    let mut done = 0;
+    // Rests on arithmetic alone: `done` rises to the length of `buffer`, which stays.
+    while done < buffer.len() {
+        let count = input.read(&mut buffer[done..]).unwrap_or(0);
+        if count == 0 {
+            break;
+        }
+        done += count;
     }
-    read_case(fd, &path[..length]);
-    libc::close(fd);
+    done
+}
+
+// Runs the case of the book `name`, which `input` reads.
+fn read_case(stdout: Stdout, input: &mut impl Read, name: &[u8]) {
+    let mut book = [0u8; MOST_BYTES];
+    let length = read_full(input, &mut book);
+    run_case(stdout, name, &book[0..length]);
+}
+
+// Runs the case of the book that the file `name` holds, or says on standard error why it can't be
+// opened.
+fn run_file(rt: &(impl Eprint + Files), stdout: Stdout, name: &str) {
+    match fs::open(rt, name) {
+        Ok(mut file) => read_case(stdout, &mut file, name.as_bytes()),
+        Err(error) => {
+            let _ = eprintln!(rt; "{name}: {error}");
+        }
+    }
+}
+
+// Runs the case of the book that the argument at `index` names. Returns whether there is such an
+// argument.
+fn run_argument(rt: &(impl Env + Eprint + Files), stdout: Stdout, index: usize) -> bool {
+    let mut path = [0u8; 4096];
+    match rt.arg(index, &mut path) {
+        Ok(length) => {
+            run_file(rt, stdout, str::from_utf8(&path[0..length]).unwrap_or(""));
+            true
+        }
+        Err(FillError::TooLong) => {
+            run_file(rt, stdout, "");
+            true
+        }
+        Err(FillError::NotPresent) => false,
+    }
 }
 
 // Runs the case of each book that an argument names, and last that of entries of three words.
-fn main() {
-    let count = os::arg_count();
-    let mut index = 1;
-    // Rests on arithmetic alone: `index` rises to `count`.
-    while index < count {
-        run_argument(index);
-        index += 1;
+fn main(rt: HostRuntime) {
+    for index in 1..usize::MAX {
+        if !run_argument(&rt, rt.stdout(), index) {
+            break;
+        }
     }
-    write_odd();
+    write_odd(rt.stdout());
 }

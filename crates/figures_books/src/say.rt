@@ -1,41 +1,40 @@
 // Printing answers.
 use answers::answer::name_of;
 use answers::verdict::Verdict;
-use io::{print_decimal, write_all};
-use libc::STDOUT_FILENO;
+use std::io::Stdout;
 
-// Prints `text`.
-pub(crate) fn say(text: &[u8]) {
-    write_all(STDOUT_FILENO, text);
+// Prints `text`. Where standard output cannot be written, the rest of the run goes on all the same.
+pub(crate) fn say(stdout: Stdout, text: &[u8]) {
+    let _ = stdout.write_all(text);
 }
 
 // Prints `text` and `number` after it.
-pub(crate) fn say_number(text: &[u8], number: usize) {
-    say(text);
-    print_decimal(STDOUT_FILENO, number as u64);
+pub(crate) fn say_number(stdout: Stdout, text: &[u8], number: usize) {
+    say(stdout, text);
+    let _ = stdout.print(number);
 }
 
 // Prints `text` and `word` after it.
-pub(crate) fn say_word(text: &[u8], word: u32) {
-    say_number(text, word as usize);
+pub(crate) fn say_word(stdout: Stdout, text: &[u8], word: u32) {
+    say_number(stdout, text, word as usize);
 }
 
 // Prints the letters of `name` before its first blank.
-fn say_letters(name: &[u8]) {
-    let end = bytes::scan::find(name, 0, name.len(), b' ');
-    say(&name[0..end]);
+fn say_letters(stdout: Stdout, name: &[u8]) {
+    let mut letters = name.split(|byte| *byte == b' ');
+    say(stdout, letters.next().unwrap_or(name));
 }
 
 // Prints `text`, and after it the number and name of `answer`.
-pub(crate) fn say_answer(text: &[u8], answer: u32) {
-    say_word(text, answer);
-    say(b" ");
-    say_letters(&name_of(answer));
+pub(crate) fn say_answer(stdout: Stdout, text: &[u8], answer: u32) {
+    say_word(stdout, text, answer);
+    say(stdout, b" ");
+    say_letters(stdout, &name_of(answer));
 }
 
 // Prints `text`, and after it `verdict`.
-pub(crate) fn say_verdict(text: &[u8], verdict: Verdict) {
-    say_answer(text, verdict.answer);
-    say_word(b" list ", verdict.list);
-    say_number(b" index ", verdict.index as usize);
+pub(crate) fn say_verdict(stdout: Stdout, text: &[u8], verdict: Verdict) {
+    say_answer(stdout, text, verdict.answer);
+    say_word(stdout, b" list ", verdict.list);
+    say_number(stdout, b" index ", verdict.index as usize);
 }

@@ -12,11 +12,10 @@ ghost use Rattle.pairs.specs.Page.{handed_out, page_of};
 ghost use Rattle.lines.specs.Line.{LINE_BYTES, pair_line};
 
 use answers::answer::TAKEN;
-use io::write_all;
-use libc::STDOUT_FILENO;
 use lines::line::{LINE_BYTES, NOTE_BYTES, put_lines, put_refusal, put_total};
 use numbers::part::part_of;
 use pairs::page::{Page, next_page};
+use std::io::Stdout;
 use tickets::leader::PAIR_WORDS;
 use tickets::ticket::{Order, Relation, Ticket, fresh};
 
@@ -27,7 +26,7 @@ use tickets::ticket::{Order, Relation, Ticket, fresh};
 const PAGE_PAIRS: usize = 4096;
 
 // A page of a listing, and how many bytes its lines have.
-#[derive(Drop)]
+#[derive(Clone, Copy)]
 struct Lines {
     page: Page,
     bytes: usize,
@@ -35,28 +34,33 @@ struct Lines {
 
 // What was printed of a listing: the answer, whether all pairs were printed, and if so their
 // number.
-#[derive(Drop)]
+#[derive(Clone, Copy)]
 struct Printed {
     answer: u32,
     count: u64,
     whole: bool,
 }
 
+// Writes all of `bytes` to standard output, and returns whether that worked.
+fn write_all(stdout: Stdout, bytes: &[u8]) -> bool {
+    stdout.write_all(bytes).is_ok()
+}
+
 // Prints the line of the refusal `answer`, and returns `answer`.
-pub(crate) fn print_refusal(answer: u32) -> u32
+pub(crate) fn print_refusal(stdout: Stdout, answer: u32) -> u32
     ensures { result ≡ answer }
 {
     let mut text = [0u8; NOTE_BYTES];
     let bytes = put_refusal(answer, &mut text);
-    write_all(STDOUT_FILENO, part_of(&text[0..NOTE_BYTES], 0, bytes));
+    write_all(stdout, part_of(&text[0..NOTE_BYTES], 0, bytes));
     answer
 }
 
 // Prints the last line, with `count`, the number of all pairs.
-fn print_total(count: u64) {
+fn print_total(stdout: Stdout, count: u64) {
     let mut text = [0u8; NOTE_BYTES];
     let bytes = put_total(count, &mut text);
-    write_all(STDOUT_FILENO, part_of(&text[0..NOTE_BYTES], 0, bytes));
+    write_all(stdout, part_of(&text[0..NOTE_BYTES], 0, bytes));
 }
 
 // Makes the next page of the listing in `out`. Then `text` begins with the lines of exactly those
@@ -101,7 +105,13 @@ fn stopped(answer: u32) -> Printed
 // Prints the lines of all pairs of two lists, page by page, and makes each page in the two buffers.
 // Stops at a refusal, and where standard output can't be written. Once all pairs are printed, the
 // count is their number.
-fn print_pairs(ancestors: &[u32], descendants: &[u32], out: &mut [u32], text: &mut [u8]) -> Printed
+fn print_pairs(
+    stdout: Stdout,
+    ancestors: &[u32],
+    descendants: &[u32],
+    out: &mut [u32],
+    text: &mut [u8],
+) -> Printed
     requires { (0 < room out.old) × (LINE_BYTES * room out.old ≤ length text.old) }
     ensures { record {
       answer : result.answer ≡ (check_two ancestors.now descendants.now).answer;
@@ -110,7 +120,7 @@ fn print_pairs(ancestors: &[u32], descendants: &[u32], out: &mut [u32], text: &m
 {
     let mut ticket = fresh(Relation::Inside, Order::Descendant);
     let mut count = 0u64;
-    // Rests on Counting: counted-more, counted-less, counted-all.
+    // Rests on Counting: counted_more, counted_less, counted_all.
     loop {
         let lines = make_lines(ancestors, descendants, ticket, out, text);
         let page = lines.page;
@@ -118,7 +128,7 @@ fn print_pairs(ancestors: &[u32], descendants: &[u32], out: &mut [u32], text: &m
         if verdict.answer != TAKEN {
             return stopped(verdict.answer);
         }
-        if !write_all(STDOUT_FILENO, part_of(text, 0, lines.bytes)) {
+        if !write_all(stdout, part_of(text, 0, lines.bytes)) {
             return stopped(TAKEN);
         }
         count += page.count as u64;
@@ -134,25 +144,31 @@ fn print_pairs(ancestors: &[u32], descendants: &[u32], out: &mut [u32], text: &m
 }
 
 // Prints the pairs of two lists and their number, or the refusal, and returns the answer.
-fn print_all(ancestors: &[u32], descendants: &[u32], out: &mut [u32], text: &mut [u8]) -> u32
+fn print_all(
+    stdout: Stdout,
+    ancestors: &[u32],
+    descendants: &[u32],
+    out: &mut [u32],
+    text: &mut [u8],
+) -> u32
     requires { (0 < room out.old) × (LINE_BYTES * room out.old ≤ length text.old) }
     ensures { result ≡ (check_two ancestors.now descendants.now).answer }
 {
-    let printed = print_pairs(ancestors, descendants, out, text);
+    let printed = print_pairs(stdout, ancestors, descendants, out, text);
     if printed.answer != TAKEN {
-        return print_refusal(printed.answer);
+        return print_refusal(stdout, printed.answer);
     }
     if printed.whole {
-        print_total(printed.count);
+        print_total(stdout, printed.count);
     }
     TAKEN
 }
 
 // Prints the pairs of two lists, or JOINT or another refusal of them, and returns the answer.
-pub(crate) fn print_pages(ancestors: &[u32], descendants: &[u32]) -> u32
+pub(crate) fn print_pages(stdout: Stdout, ancestors: &[u32], descendants: &[u32]) -> u32
     ensures { result ≡ (check_two ancestors.now descendants.now).answer }
 {
     let mut out = [0u32; PAIR_WORDS * PAGE_PAIRS];
     let mut text = [0u8; LINE_BYTES * PAGE_PAIRS];
-    print_all(ancestors, descendants, &mut out, &mut text)
+    print_all(stdout, ancestors, descendants, &mut out, &mut text)
 }

@@ -11,13 +11,14 @@ use answers::answer::{ABSENT, LONG, TAKEN};
 use books::book::check_book;
 use contents::entry::entry_at;
 use joins::copy::{LIST_WORDS, copy_lists};
+use std::io::Stdout;
 
 // The most bytes of the program's input.
 pub const MOST_BYTES: usize = 61440;
 
 // Prints the pairs of the first two lists of a checked book, or their refusal, and returns the
 // answer. The page call takes words, so the two lists are copied, each once.
-fn print_lists(book: &[u8], lists: u32) -> u32
+fn print_lists(stdout: Stdout, book: &[u8], lists: u32) -> u32
     requires { ((book_verdict book.now).answer ≡ TAKEN) × (lists ≡ lists_in book.now) × (1 < lists) }
     ensures { result ≡ (check_two (list_at book.now 0) (list_at book.now 1)).answer }
 {
@@ -28,25 +29,25 @@ fn print_lists(book: &[u8], lists: u32) -> u32
     let lengths = copy_lists(book, lists, ancestors, descendants, &mut first, &mut second);
     let words = lengths.ancestors;
     let more = lengths.descendants;
-    print_pages(&first[0..words], &second[0..more])
+    print_pages(stdout, &first[0..words], &second[0..more])
 }
 
 // Joins the first list of a book with the second, relation inside, in descendant order. Prints a
 // line for each pair on standard output and then their number, or on refusal the one line that says
 // why. Returns the answer.
-pub fn print_book(book: &[u8]) -> u32
+pub fn print_book(stdout: Stdout, book: &[u8]) -> u32
     ensures { result ≡ printed_answer book.now }
 {
     if MOST_BYTES < book.len() {
-        return print_refusal(LONG);
+        return print_refusal(stdout, LONG);
     }
     let opened = check_book(book);
     let verdict = opened.verdict;
     if verdict.answer != TAKEN {
-        return print_refusal(verdict.answer);
+        return print_refusal(stdout, verdict.answer);
     }
     if opened.lists < 2 {
-        return print_refusal(ABSENT);
+        return print_refusal(stdout, ABSENT);
     }
-    print_lists(book, opened.lists)
+    print_lists(stdout, book, opened.lists)
 }

@@ -3,7 +3,6 @@
 -- line of each.
 -- What would break it: A text too short for its page, or a page without room, would be caught at
 -- the call.
-use borrow.Author.Rules.{rules}
 use mathlib.Core.Path.{◌≡◌, refl}
 use mathlib.Core.List.{List}
 use Prim.Native.Nat.{ℕ, ◌*◌, ◌≤◌, ◌<◌}
@@ -12,8 +11,7 @@ use lib.ListN.{length, replicate, length-replicate}
 use Rattle.tickets.specs.PairWords.{PAIR_WORDS, room}
 use Rattle.lines.specs.Line.{LINE_BYTES}
 use Rattle.printing.specs.Print.{PAGE_PAIRS}
-use Rattle.printing.proofs.pages.print_pages.Statement.{statement}
-use Rattle.printing.proofs.pages.print_pages.Tie as tie
+use Rattle.printing.proofs.pages.print_pages.Goals as goal
 
 abbrev zeros : ℕ → List ℕ
 zeros n = replicate n 0
@@ -25,19 +23,5 @@ fitting words bytes p q =
     let m = length-replicate {A = ℕ} bytes 0 in
     (omega arith, omega arith)
 
-slice-aggregate-print-all : tie.Need-slice-aggregate-print-all
-slice-aggregate-print-all c = search rules
-
-slice-aggregate-print-all-2 : tie.Need-slice-aggregate-print-all-2
-slice-aggregate-print-all-2 c = search rules
-
-print-all-requires : tie.Need-print-all-requires
-print-all-requires c κs = fitting (PAIR_WORDS * PAGE_PAIRS) (LINE_BYTES * PAGE_PAIRS) refl refl
-
-returns : tie.Need-returns
-returns c = search rules
-
-pub print-pages-spec : {M : Type 1} → statement M
-print-pages-spec =
-    tie.close
-    (tie.spec slice-aggregate-print-all slice-aggregate-print-all-2 print-all-requires returns)
+pub print_all-requires : goal.print_all-requires
+print_all-requires c = fitting (PAIR_WORDS * PAGE_PAIRS) (LINE_BYTES * PAGE_PAIRS) refl refl

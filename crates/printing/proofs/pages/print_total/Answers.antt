@@ -1,0 +1,15 @@
+-- Function: `print_total` (src/pages.rt).
+-- Why it holds: The line is made in the buffer, whose length stays. As many of its bytes are
+-- written as the line has.
+-- What would break it: A part that reached beyond the buffer would be caught where the part is
+-- taken.
+use mathlib.Core.Path.{sym, subst}
+use mathlib.Core.List.{List}
+use Prim.Native.Nat.{ℕ, ◌≤◌}
+use lib.ListN.{length}
+use Rattle.lines.specs.Line.{total_line}
+use Rattle.answers.proofs.OutputLaws.{no_shorter}
+use Rattle.printing.proofs.pages.print_total.Goals as goal
+
+pub slice_bounds-part_of-end : goal.slice_bounds-part_of-end
+slice_bounds-part_of-end c = subst (λ (text : List ℕ). 32 ≤ length text) (sym c.put_total-bytes.ensures.text) (no_shorter (total_line _) _)
