@@ -10,24 +10,21 @@ use books::find::{Found, find_tag};
 use writing::write::write_book;
 
 // Checks `book` and returns what `check_book` returns.
-#[unsafe(no_mangle)]
-pub extern "C" fn belfry_book_check(book: &[u8]) -> Opened
+pub fn belfry_book_check(book: &[u8]) -> Opened
     ensures { result ≡ check_book book.now }
 {
     check_book(book)
 }
 
 // Returns where the body of the list with `tag` lies in `book`, as `find_tag` does.
-#[unsafe(no_mangle)]
-pub extern "C" fn belfry_book_body(book: &[u8], tag: u32) -> Found
+pub fn belfry_book_body(book: &[u8], tag: u32) -> Found
     ensures { result ≡ found_tag book.now tag }
 {
     find_tag(book, tag)
 }
 
 // Writes the book of `entries` and `nodes` into `out`, and returns what `write_book` returns.
-#[unsafe(no_mangle)]
-pub extern "C" fn belfry_book_write(entries: &[u32], nodes: &[u32], out: &mut [u8]) -> Counted
+pub fn belfry_book_write(entries: &[u32], nodes: &[u32], out: &mut [u8]) -> Counted
     ensures { record {
       answer : result ≡ written_of entries.now nodes.now out.old;
       output : out.new ≡ written_output entries.now nodes.now out.old;

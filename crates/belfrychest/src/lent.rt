@@ -12,16 +12,14 @@ use ticket_words::page::PageWords;
 use ticket_words::words::TicketWords;
 
 // Checks `links` against `list` and returns the verdict of `check_links`.
-#[unsafe(no_mangle)]
-pub extern "C" fn belfry_links_check(list: &[u32], links: &[u32]) -> Verdict
+pub fn belfry_links_check(list: &[u32], links: &[u32]) -> Verdict
     ensures { result ≡ check_links list.now links.now }
 {
     check_links(list, links)
 }
 
 // Writes a page into `out` and returns its answer, as `list_linked` does.
-#[unsafe(no_mangle)]
-pub extern "C" fn belfry_list_linked(
+pub fn belfry_list_linked(
     ancestors: &[u32],
     descendants: &[u32],
     links: &[u32],

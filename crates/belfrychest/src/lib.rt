@@ -1,5 +1,7 @@
-// The C interface: each function of the library under a name that C can call. Each returns what the
-// library's function returns, in a struct that C has too.
+// The C interface as a library: each function under the name that C calls it by. Each returns what
+// the function below it returns, in a struct that C has too. The crate belfrychest_c exports them.
+#![tactic(auto)]
+
 pub mod ask;
 pub mod book;
 pub mod lent;

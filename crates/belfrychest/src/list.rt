@@ -14,7 +14,7 @@ use repairs::part::faulty_part;
 // part is given by the index of its first word in that list and by its number of words. Both are 0
 // if the part is empty.
 #[repr(C)]
-#[derive(Drop)]
+#[derive(Clone, Copy)]
 pub struct BelfryPart {
     pub verdict: Verdict,
     pub from: usize,
@@ -22,16 +22,14 @@ pub struct BelfryPart {
 }
 
 // Checks `list` and returns the verdict of `check_list`.
-#[unsafe(no_mangle)]
-pub extern "C" fn belfry_check(list: &[u32]) -> Verdict
+pub fn belfry_check(list: &[u32]) -> Verdict
     ensures { result ≡ check_words list.now }
 {
     check_list(list)
 }
 
 // Checks `ancestors` and `descendants` together and returns the verdict of `check_two`.
-#[unsafe(no_mangle)]
-pub extern "C" fn belfry_check_two(ancestors: &[u32], descendants: &[u32]) -> Verdict
+pub fn belfry_check_two(ancestors: &[u32], descendants: &[u32]) -> Verdict
     ensures { result ≡ check_two ancestors.now descendants.now }
 {
     check_two(ancestors, descendants)
@@ -39,8 +37,7 @@ pub extern "C" fn belfry_check_two(ancestors: &[u32], descendants: &[u32]) -> Ve
 
 // Returns the verdict on `ancestors` and `descendants`, and the place of the part that
 // `faulty_part` returns.
-#[unsafe(no_mangle)]
-pub extern "C" fn belfry_faulty<'a>(ancestors: &'a [u32], descendants: &'a [u32]) -> BelfryPart
+pub fn belfry_faulty<'a>(ancestors: &'a [u32], descendants: &'a [u32]) -> BelfryPart
     ensures { result ≡ shown_part ancestors.now descendants.now }
 {
     let verdict = check_two(ancestors, descendants);

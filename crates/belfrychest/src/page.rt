@@ -8,8 +8,7 @@ use ticket_words::page::{PageWords, list_page};
 use ticket_words::words::TicketWords;
 
 // Writes a page into `out` and returns its answer, as `list_page` does.
-#[unsafe(no_mangle)]
-pub extern "C" fn belfry_list(
+pub fn belfry_list(
     ancestors: &[u32],
     descendants: &[u32],
     words: TicketWords,

@@ -10,7 +10,7 @@ use ranges::range::{ZoneRange, zone_range};
 // What a range call answers: the verdict, whether a reading is present, and the low and the high in
 // percent. `present` is 1 if the zone has a low and a high; otherwise it is 0 and so are they.
 #[repr(C)]
-#[derive(Drop)]
+#[derive(Clone, Copy)]
 pub struct BelfryRange {
     pub verdict: Verdict,
     pub present: u32,
@@ -47,13 +47,7 @@ fn shown_range(found: ZoneRange) -> BelfryRange
 }
 
 // Returns the low and the high of the readings in the zone at index `zone`, as `zone_range` does.
-#[unsafe(no_mangle)]
-pub extern "C" fn belfry_zone_range(
-    zones: &[u32],
-    samples: &[u32],
-    readings: &[u32],
-    zone: u32,
-) -> BelfryRange
+pub fn belfry_zone_range(zones: &[u32], samples: &[u32], readings: &[u32], zone: u32) -> BelfryRange
     ensures { result ≡ shown_range (zone_range zones.now samples.now readings.now zone) }
 {
     shown_range(zone_range(zones, samples, readings, zone))

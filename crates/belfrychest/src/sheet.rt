@@ -6,13 +6,7 @@ use answers::verdict::Counted;
 use sheets::sheet::write_sheet;
 
 // Writes the sheet of `zones`, `samples` and `hundredths` into `out`, as `write_sheet` does.
-#[unsafe(no_mangle)]
-pub extern "C" fn belfry_sheet(
-    zones: &[u32],
-    samples: &[u32],
-    hundredths: &[u32],
-    out: &mut [u32],
-) -> Counted
+pub fn belfry_sheet(zones: &[u32], samples: &[u32], hundredths: &[u32], out: &mut [u32]) -> Counted
     ensures { record {
       answer : result ≡ sheet_of zones.now samples.now hundredths.now out.old;
       output : out.new ≡ sheet_output zones.now samples.now hundredths.now out.old;

@@ -10,8 +10,7 @@ use marks::pick::pick;
 use marks::unnumber::{Unnumbered, unnumber};
 
 // Numbers `marks` as `document` and writes the table into `out`, as `number` does.
-#[unsafe(no_mangle)]
-pub extern "C" fn belfry_number(document: u32, marks: &[u32], out: &mut [u32]) -> Counted
+pub fn belfry_number(document: u32, marks: &[u32], out: &mut [u32]) -> Counted
     ensures { record {
       answer : result ≡ number_outcome document marks.now out.old;
       output : out.new ≡ number_output document marks.now out.old;
@@ -21,8 +20,7 @@ pub extern "C" fn belfry_number(document: u32, marks: &[u32], out: &mut [u32]) -
 }
 
 // Writes the marks of `table` into `out`, as `unnumber` does.
-#[unsafe(no_mangle)]
-pub extern "C" fn belfry_unnumber(table: &[u32], out: &mut [u32]) -> Unnumbered
+pub fn belfry_unnumber(table: &[u32], out: &mut [u32]) -> Unnumbered
     ensures { record {
       answer : result ≡ unnumber_outcome table.now out.old;
       output : out.new ≡ unnumber_output table.now out.old;
@@ -32,8 +30,7 @@ pub extern "C" fn belfry_unnumber(table: &[u32], out: &mut [u32]) -> Unnumbered
 }
 
 // Picks the nodes with `tag` out of `table` and writes them into `out`, as `pick` does.
-#[unsafe(no_mangle)]
-pub extern "C" fn belfry_pick(table: &[u32], tag: u32, out: &mut [u32]) -> Counted
+pub fn belfry_pick(table: &[u32], tag: u32, out: &mut [u32]) -> Counted
     ensures { record {
       answer : result ≡ pick_outcome table.now tag out.old;
       output : out.new ≡ pick_output table.now tag out.old;
@@ -43,8 +40,7 @@ pub extern "C" fn belfry_pick(table: &[u32], tag: u32, out: &mut [u32]) -> Count
 }
 
 // Links the nodes of `list` and writes the links into `out`, as `link_list` does.
-#[unsafe(no_mangle)]
-pub extern "C" fn belfry_links(list: &[u32], out: &mut [u32]) -> Counted
+pub fn belfry_links(list: &[u32], out: &mut [u32]) -> Counted
     ensures { record {
       answer : result ≡ linked_of list.now out.old;
       output : out.new ≡ links_output list.now out.old;

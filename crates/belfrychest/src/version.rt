@@ -7,8 +7,7 @@ ghost use Rattle.belfrychest.specs.Version.{VERSION};
 pub const VERSION: u32 = 6;
 
 // Returns the number of the interface that this archive was built with.
-#[unsafe(no_mangle)]
-pub extern "C" fn belfry_version() -> u32
+pub fn belfry_version() -> u32
     ensures { result ≡ VERSION }
 {
     VERSION

@@ -3,7 +3,6 @@
 -- verdict names, or at 0 where it is empty.
 -- What would break it: A part of another length, or one that begins at another node, would be
 -- caught at its return.
-use borrow.Author.Rules.{rules}
 use mathlib.Core.Path.{◌≡◌, sym, ap, ◌∙◌}
 use mathlib.Core.Bool.{cond}
 use mathlib.Core.List.{List}
@@ -17,8 +16,7 @@ use Rattle.lists.specs.Two.{check_two}
 use Rattle.repairs.specs.Part.{faulty_part}
 use Rattle.belfrychest.specs.declared.list.BelfryPart.{BelfryPart}
 use Rattle.belfrychest.specs.Shown.{shown_part}
-use Rattle.belfrychest.proofs.list.belfry_faulty.Statement.{statement}
-use Rattle.belfrychest.proofs.list.belfry_faulty.Tie as tie
+use Rattle.belfrychest.proofs.list.belfry_faulty.Goals as goal
 
 -- A verdict with a place and a length.
 abbrev part : Verdict → ℕ → ℕ → BelfryPart
@@ -37,23 +35,8 @@ module _ (ancestors descendants : List ℕ) (v : Verdict) (q : v ≡ check_two a
   empty : length words ≡ 0 → part v 0 (length words) ≡ shown_part ancestors descendants
   empty h = ap (λ b. part v (cond b 0 (NODE_WORDS * v.index)) (length words)) (sym (eq-eqb (length words) 0 h)) ∙ answered
 
-check-two-requires : tie.Need-check-two-requires
-check-two-requires c κs = search rules
+pub returns-then-words-ne0 : goal.returns-then-words-ne0
+returns-then-words-ne0 c = begun _ _ _ c.check_two-verdict.ensures _ c.faulty_part-words.ensures.contents c.if-words-ne0.true
 
-faulty-part-requires : tie.Need-faulty-part-requires
-faulty-part-requires c κs = search rules
-
-cast-from : tie.Need-overflow-cast-from
-cast-from c = search rules
-
-mul-from : tie.Need-overflow-mul-from
-mul-from c = search rules
-
-returns : tie.Need-returns
-returns c = let s = c.before.before in begun _ _ _ s.before.check-two.ensures _ s.faulty-part.ensures.contents c.before.if1.true
-
-returns-2 : tie.Need-returns-2
-returns-2 c = let s = c.before in empty _ _ _ s.before.check-two.ensures _ s.faulty-part.ensures.contents c.if1.false
-
-pub belfry-faulty-spec : {M : Type 1} → statement M
-belfry-faulty-spec = tie.close (tie.spec check-two-requires faulty-part-requires cast-from mul-from returns returns-2)
+pub returns-else-words-ne0 : goal.returns-else-words-ne0
+returns-else-words-ne0 c = empty _ _ _ c.check_two-verdict.ensures _ c.faulty_part-words.ensures.contents c.if-words-ne0.false

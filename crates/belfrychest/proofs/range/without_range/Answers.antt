@@ -6,14 +6,10 @@ use lib.Ieee.{Float}
 use Rattle.answers.specs.declared.verdict.Verdict.{Verdict}
 use Rattle.readings.proofs.FloatBits.{zero_bits}
 use Rattle.belfrychest.specs.declared.range.BelfryRange.{BelfryRange}
-use Rattle.belfrychest.proofs.range.without_range.Statement.{statement}
-use Rattle.belfrychest.proofs.range.without_range.Tie as tie
+use Rattle.belfrychest.proofs.range.without_range.Goals as goal
 
 abbrev empty : Verdict → Float → BelfryRange
 empty verdict x = record { verdict = verdict; present = 0; low = x; high = x }
 
-returns : tie.Need-returns
+pub returns : goal.returns
 returns c = ap (λ (x : Float). empty c.args.verdict x) zero_bits
-
-pub without-range-spec : {M : Type 1} → statement M
-without-range-spec = tie.close (tie.spec returns)
