@@ -1,9 +1,9 @@
 -- The demands on links that a caller lends (docs/SCOPE.md, "Links that are lent"). Each clause is a
 -- comment in words and, below it, the theorem that says it. `check_links` is what the contract of
--- `check_links` promises, and `linked_page` and `linked_output` are what that of `linked_page` does.
--- `links_in` has the links that `link_list` writes. A definition by which links changed a page, or
--- other words were taken for them, would be caught here. Code that passed over a zone in spite of a
--- sample would be caught in `pairs`, at `jumping_page`.
+-- `check_links` promises, and `linked_page` and `linked_output` are what that of `linked_page`
+-- does. `links_in` has the links that `link_list` writes. A definition by which links changed a
+-- page, or other words were taken for them, would be caught here. Code that passed over a zone in
+-- spite of a sample would be caught in `pairs`, at `jumping_page`.
 use mathlib.Core.Path.{◌≡◌, sym, ◌∙◌}
 use mathlib.Core.Logic.{◌↔◌, ◌⊎◌}
 use mathlib.Core.Bool.{true, false}

@@ -1,7 +1,7 @@
 -- Lists and books made for the stricter rule of what is inside, by which a node ends before the
 -- node around it ends (docs/SCOPE.md, "Order and size"). One that drew another answer, or got other
--- pairs or links, would be caught here. `check_two_by strictb` and the like are the library's checks,
--- listing and links with that rule for its own.
+-- pairs or links, would be caught here. `check_two_by strictb` and the like are the library's
+-- checks, listing and links with that rule for its own.
 use mathlib.Core.Path.{◌≡◌}
 use mathlib.Core.Logic.{◌↔◌}
 use mathlib.Core.Bool.{true}
