@@ -402,7 +402,7 @@ uint32_t belfry_version(void);
 /* Checks one list. It reads the list and writes nothing.
  * Answers: RAGGED, LONG, then LEVEL to DEPTH for the first node at which one applies, with its
  * index; the list is 0.
- * Takes at most 688 bytes of stack. */
+ * Takes at most 704 bytes of stack. */
 BELFRY_MUST_USE
 BELFRY_NONNULL
 belfry_verdict belfry_check(const uint32_t *list, size_t words);
@@ -410,7 +410,7 @@ belfry_verdict belfry_check(const uint32_t *list, size_t words);
 /* Checks two lists that are to be joined. It reads both and writes nothing.
  * Answers: those of belfry_check for the ancestors, then for the descendants, with the list at
  * fault; then JOINT.
- * Takes at most 768 bytes of stack. */
+ * Takes at most 752 bytes of stack. */
 BELFRY_MUST_USE
 BELFRY_NONNULL
 belfry_verdict belfry_check_two(const uint32_t *ancestors, size_t ancestor_words,
@@ -419,7 +419,7 @@ belfry_verdict belfry_check_two(const uint32_t *ancestors, size_t ancestor_words
 /* Checks two lists as belfry_check_two does, and says where to repair: the part of the list at
  * fault from the faulty node to its end. It reads both lists and writes nothing; the part is in the
  * caller's own list, from word `from` on. It is empty unless the answer is LEVEL to DEPTH.
- * Takes at most 880 bytes of stack. */
+ * Takes at most 832 bytes of stack. */
 BELFRY_MUST_USE
 BELFRY_NONNULL
 belfry_part belfry_faulty(const uint32_t *ancestors, size_t ancestor_words,
@@ -437,7 +437,7 @@ belfry_part belfry_faulty(const uint32_t *ancestors, size_t ancestor_words,
  * in all accepted calls has been handed out, once.
  * Answers: those of belfry_check_two, never ROOM. A refusal returns the ticket as it was and isn't
  * done, so a repaired list goes on from there.
- * Takes at most 1,552 bytes of stack. */
+ * Takes at most 1,520 bytes of stack. */
 BELFRY_MUST_USE
 BELFRY_NONNULL
 belfry_page belfry_list(const uint32_t *ancestors, size_t ancestor_words,
@@ -455,7 +455,7 @@ belfry_page belfry_list(const uint32_t *ancestors, size_t ancestor_words,
  * Answers: those of belfry_list. Then LINKS with list 0 and index 0, when the words aren't exactly
  * the links of the ancestors. A refusal with LINKS is one like the others: the ticket comes back as
  * it was, nothing is written, and the call isn't done.
- * Takes at most 1,664 bytes of stack. */
+ * Takes at most 1,552 bytes of stack. */
 BELFRY_MUST_USE
 BELFRY_NONNULL
 belfry_page belfry_list_linked(const uint32_t *ancestors, size_t ancestor_words,
@@ -491,7 +491,7 @@ belfry_range belfry_zone_range(const uint32_t *zones, size_t zone_words, const u
  * Answers: those of belfry_check_two. Then RAGGED with list 0, when there aren't as many hundredths
  * as samples. Then READING with list 0 and the sample's index, for the first faulty word of any
  * sample, in a zone or not. Then ROOM.
- * Takes at most 19,696 bytes of stack. */
+ * Takes at most 14,560 bytes of stack. */
 BELFRY_MUST_USE
 BELFRY_NONNULL
 belfry_result belfry_sheet(const uint32_t *zones, size_t zone_words, const uint32_t *samples,
@@ -502,7 +502,7 @@ belfry_result belfry_sheet(const uint32_t *zones, size_t zone_words, const uint3
  * start order; as many rows as there are marks are always enough.
  * Answers: LONG, then MARK, STRAY or DEEP for the first faulty mark, UNCLOSED, ROOM; list and index
  * are 0.
- * Takes at most 320 bytes of stack. */
+ * Takes at most 352 bytes of stack. */
 BELFRY_MUST_USE
 BELFRY_NONNULL
 belfry_result belfry_number(uint32_t document, const uint32_t *marks, size_t mark_words,
@@ -512,7 +512,7 @@ belfry_result belfry_number(uint32_t document, const uint32_t *marks, size_t mar
  * BELFRY_MOST_NODES words are always enough. The document's number is read from the table, and is 0
  * on refusal.
  * Answers: RAGGED, LONG, TABLE, ROOM.
- * Takes at most 448 bytes of stack. */
+ * Takes at most 464 bytes of stack. */
 BELFRY_MUST_USE
 BELFRY_NONNULL
 belfry_unnumbered belfry_unnumber(const uint32_t *table, size_t table_words, uint32_t *out,
@@ -521,7 +521,7 @@ belfry_unnumbered belfry_unnumber(const uint32_t *table, size_t table_words, uin
 /* Picks a tag's list out of a table. It reads the table and writes the node of every row that has
  * the tag, in the order of the rows. As many nodes as there are rows are always enough. It checks
  * nothing else of the table. Answers: RAGGED, LONG, ROOM; list and index are 0.
- * Takes at most 48 bytes of stack. */
+ * Takes at most 96 bytes of stack. */
 BELFRY_MUST_USE
 BELFRY_NONNULL
 belfry_result belfry_pick(const uint32_t *table, size_t table_words, uint32_t tag, uint32_t *out,
@@ -531,7 +531,7 @@ belfry_result belfry_pick(const uint32_t *table, size_t table_words, uint32_t ta
  * each node. A link has the index of the node's parent, which is the innermost node that contains
  * it, and of its first child. Its third index is that of the next node in its document that has the
  * same parent. BELFRY_NONE says that there is none. Answers: those of belfry_check, then ROOM.
- * Takes at most 736 bytes of stack. */
+ * Takes at most 768 bytes of stack. */
 BELFRY_MUST_USE
 BELFRY_NONNULL
 belfry_result belfry_links(const uint32_t *list, size_t words, uint32_t *out, size_t out_words);
@@ -549,7 +549,7 @@ belfry_verdict belfry_links_check(const uint32_t *list, size_t words, const uint
 /* Checks a book. It reads the book and writes nothing.
  * Answers: CONTENTS, then LEVEL to DEPTH for the first body at fault, with the list's place in the
  * book and the node's index in that list.
- * Takes at most 784 bytes of stack. */
+ * Takes at most 768 bytes of stack. */
 BELFRY_MUST_USE
 BELFRY_NONNULL
 belfry_book belfry_book_check(const uint8_t *book, size_t bytes);
@@ -557,7 +557,7 @@ belfry_book belfry_book_check(const uint8_t *book, size_t bytes);
 /* Finds the body of a tag's list. It reads the book, checks all of it, and writes nothing; the body
  * is in the caller's own bytes.
  * Answers: those of belfry_book_check, then ABSENT.
- * Takes at most 848 bytes of stack. */
+ * Takes at most 832 bytes of stack. */
 BELFRY_MUST_USE
 BELFRY_NONNULL
 belfry_body belfry_book_body(const uint8_t *book, size_t bytes, uint32_t tag);
@@ -567,7 +567,7 @@ belfry_body belfry_book_body(const uint8_t *book, size_t bytes, uint32_t tag);
  * most BELFRY_MOST_LISTS lists, their tags must ascend, and the numbers must add up to the nodes.
  * Answers: RAGGED, CONTENTS, then LEVEL to DEPTH for the first list at fault, with its place and
  * the node's index in that list, then ROOM.
- * Takes at most 800 bytes of stack. */
+ * Takes at most 864 bytes of stack. */
 BELFRY_MUST_USE
 BELFRY_NONNULL
 belfry_result belfry_book_write(const uint32_t *entries, size_t entry_words, const uint32_t *nodes,
@@ -590,7 +590,7 @@ belfry_result belfry_book_write(const uint32_t *entries, size_t entry_words, con
  * Answers of the whole call: RAGGED when the words don't make whole questions, then LONG. Each
  * whole question among the first BELFRY_MOST_QUESTIONS then has a page with that answer and its own
  * ticket, and nothing is written.
- * Takes at most 135,760 bytes of stack. */
+ * Takes at most 135,680 bytes of stack. */
 BELFRY_MUST_USE
 BELFRY_NONNULL
 belfry_pages belfry_ask(const uint8_t *book, size_t bytes, const uint32_t *questions,

@@ -1,5 +1,5 @@
 //! Links the archive: the one that BELFRYCHEST_ARCHIVE names, or the one that was installed with
-//! this crate, or the one that `rt staticlib belfrychest` writes in this repository. An archive
+//! this crate, or the one that `bin/build archive` writes in this repository. An archive
 //! that can't be linked is told here, before the linker complains of it in its own words.
 
 use std::env;
@@ -69,7 +69,7 @@ fn link(archive: &Path) -> Result<(), String> {
     let shown = archive.display();
     let bytes = fs::read(archive).map_err(|error| match error.kind() {
         ErrorKind::NotFound => format!(
-            "there is no archive at {shown}; `rt staticlib belfrychest` makes it in the \
+            "there is no archive at {shown}; `bin/build archive` makes it in the \
             repository, dist/ has it in lib/, and BELFRYCHEST_ARCHIVE names one that lies elsewhere"
         ),
         _ => format!("the archive {shown} can't be read: {error}"),
