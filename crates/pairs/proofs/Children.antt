@@ -6,7 +6,7 @@ use mathlib.Core.Path.{◌≡◌, refl, ap, sym, subst, ◌∙◌}
 use mathlib.Core.Logic.{inl, inr, ⊎_elim}
 use mathlib.Core.Bool.{true, false, Bool}
 use mathlib.Core.List.{List, [], ◌∷◌, ◌++◌, map-append}
-use Prim.Native.Nat.{ℕ, zero, suc, ◌+◌, ◌-◌, ◌/◌, ◌≤◌, ◌<◌}
+use Prim.Native.Nat.{ℕ, zero, suc, ◌+◌, ◌-◌, ◌/◌, ◌%◌, ◌≤◌, ◌<◌}
 use native.Mathlib.Omega.{arith}
 use lib.Dec.{ltb}
 use lib.ListN.{length, drop}
@@ -33,9 +33,9 @@ use Rattle.tickets.specs.Listing.{relatedb, pair_of}
 use Rattle.tickets.specs.Private.Group.{group, matches}
 use Rattle.tickets.specs.PairWords.{PAIR_WORDS, pair_words}
 use Rattle.tickets.specs.Ticket.{asked}
-use Rattle.pairs.specs.Private.Sweep.{Placed, stretch, Running, Further, run_end, served_group}
+use Rattle.pairs.specs.Private.Sweep.{Placed, stretch, Running, Further, runningb, run_end, served_group}
 use Rattle.pairs.proofs.Accepted.{Accepted, accepted}
-use Rattle.pairs.proofs.Running.{running_from, end_from, inside_run}
+use Rattle.pairs.proofs.Running.{running_from, end_from, inside_run, further_next}
 use Rattle.pairs.proofs.Stretches.{stretch_next, stretch_none}
 
 -- What holds of all nodes of the words, or of all pairs of them, holds at each index.
@@ -170,6 +170,10 @@ module _ (as' ws : List ℕ) (taken : (check_two as' ws).answer ≡ TAKEN) where
       (h : afterb d x ≡ true) where
     pub held_running : Running ws x ((k + 4) / 4)
     held_running = running_from ws x (k / 4) ((k + 4) / 4) (omega arith) (omega arith) (zone_running (zone / 4) (k / 4) x d l m p q h)
+
+    -- Where its run goes on there, it holds the next one too.
+    pub two_held : k % 4 ≡ 0 → runningb ws x ((k + 4) / 4) ≡ true → Further ws x (k + 4) (k + 4 + 4)
+    two_held e r = further_next ws x (k + 4) (k + 4) (k + 4 + 4) (omega (arith, e)) (omega (arith, e)) (omega arith) (omega arith) held_running r
 
     pub held : (r : ℕ) → Further ws x (k + 4) r → (j : ℕ) → k / 4 < j → j < r / 4
         → (zone / 4 < count as') × (insideb (node_at ws j) (node_at as' (zone / 4)) ≡ true)

@@ -9,8 +9,8 @@ use mathlib.Core.Bool.{true}
 use native.Mathlib.Omega.{arith}
 use Rattle.nodes.specs.Node.{afterb}
 use Rattle.pairs.specs.Private.Sweep.{Further}
-use Rattle.pairs.proofs.Children.{held_running, held}
-use Rattle.pairs.proofs.Running.{further_next, further_trans}
+use Rattle.pairs.proofs.Children.{two_held, held}
+use Rattle.pairs.proofs.Running.{further_trans}
 use Rattle.pairs.proofs.jumping.past_inner_zone.Goals as goal
 
 pub returns-then-ancestors-zone : goal.returns-then-ancestors-zone
@@ -48,39 +48,27 @@ returns-then-not-is_running c =
 
 pub past_held-requires : goal.past_held-requires
 past_held-requires c =
-    let after : afterb c.node_from.result c.node_from-inner.result ≡ true =
-    sym c.is_after.ensures ∙ c.if-not-is_after.false in
-    let two_held : let a = c.args in Further a.descendants.now c.node_from-inner.result (a.k + 4) (a.k + 4 + 4) =
     let a = c.args in
     let p = c.requires in
-    further_next a.descendants.now _ (a.k + 4) (a.k + 4) (a.k + 4 + 4) (omega (arith, p.2.1)) (omega (arith, p.2.1)) (omega arith) (omega arith)
-    (held_running a.ancestors.now a.descendants.now p.0 a.zone a.k _ _ (omega arith) (omega arith)
-    c.node_from-inner.ensures c.node_from.ensures after)
-    (sym c.is_running.ensures ∙ c.if-not-is_running.false) in
-    let f = two_held in
-    (f.0, c.requires.4.1, f.2)
+    let f = two_held a.ancestors.now a.descendants.now p.0 a.zone a.k _ _ (omega arith) (omega arith)
+        c.node_from-inner.ensures c.node_from.ensures (sym c.is_after.ensures ∙ c.if-not-is_after.false)
+        p.2.1 (sym c.is_running.ensures ∙ c.if-not-is_running.false) in
+    (f.0, p.4.1, f.2)
 
 pub returns : goal.returns
 returns c =
-    let after : afterb c.node_from.result c.node_from-inner.result ≡ true =
-    sym c.is_after.ensures ∙ c.if-not-is_after.false in
-    let two_held : let a = c.args in Further a.descendants.now c.node_from-inner.result (a.k + 4) (a.k + 4 + 4) =
     let a = c.args in
     let p = c.requires in
-    further_next a.descendants.now _ (a.k + 4) (a.k + 4) (a.k + 4 + 4) (omega (arith, p.2.1)) (omega (arith, p.2.1)) (omega arith) (omega arith)
-    (held_running a.ancestors.now a.descendants.now p.0 a.zone a.k _ _ (omega arith) (omega arith)
-    c.node_from-inner.ensures c.node_from.ensures after)
-    (sym c.is_running.ensures ∙ c.if-not-is_running.false) in
-    let a = c.args in
-    let p = c.requires in
-    let f = further_trans a.descendants.now _ (a.k + 4) (a.k + 4 + 4) _ two_held c.past_held.ensures in
+    let after = sym c.is_after.ensures ∙ c.if-not-is_after.false in
+    let two = two_held a.ancestors.now a.descendants.now p.0 a.zone a.k _ _ (omega arith) (omega arith)
+        c.node_from-inner.ensures c.node_from.ensures after p.2.1 (sym c.is_running.ensures ∙ c.if-not-is_running.false) in
+    let f = further_trans a.descendants.now _ (a.k + 4) (a.k + 4 + 4) _ two c.past_held.ensures in
     let i = f.2.from_in in
-    let h = held a.ancestors.now a.descendants.now p.0 a.zone a.k _ _ (omega arith) (omega arith)
-    c.node_from-inner.ensures c.node_from.ensures after _ f in
     record {
       zone_placed = (omega arith, omega arith, omega arith);
       zone_later = omega arith;
       next_placed = (p.2.0, f.0, omega arith);
       next_later = omega (arith, f.1);
-      held = h;
+      held = held a.ancestors.now a.descendants.now p.0 a.zone a.k _ _ (omega arith) (omega arith)
+          c.node_from-inner.ensures c.node_from.ensures after _ f;
     }
