@@ -58,7 +58,7 @@ past_strides-far-requires c =
     let a = c.args in
     let p = c.requires in
     let f = near_in a.descendants.now a.ancestor a.from p.0 p.2 (sym c.is_running.ensures ∙ c.if-not-is_running.false)
-        _ c.past_guess-near.ensures (sym c.is_running-2.ensures ∙ c.if-not-is_running-2.false) in
+    _ c.past_guess-near.ensures (sym c.is_running-2.ensures ∙ c.if-not-is_running-2.false) in
     (f.0, f.2)
 
 pub returns : goal.returns
@@ -66,7 +66,7 @@ returns c =
     let a = c.args in
     let p = c.requires in
     let f = near_in a.descendants.now a.ancestor a.from p.0 p.2 (sym c.is_running.ensures ∙ c.if-not-is_running.false)
-        _ c.past_guess-near.ensures (sym c.is_running-2.ensures ∙ c.if-not-is_running-2.false) in
+    _ c.past_guess-near.ensures (sym c.is_running-2.ensures ∙ c.if-not-is_running-2.false) in
     let g = c.past_strides-far.ensures in
     let e = c.past_run.ensures in
     record { aligned = e.aligned; index = e.index ∙ g.3 ∙ f.3 }

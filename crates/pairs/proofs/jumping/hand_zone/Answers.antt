@@ -4,16 +4,15 @@
 -- `Directly` its children are.
 -- What would break it: A run cut short, a start that is passed or swapped relations would be caught
 -- at a return.
-use Prim.Native.Nat.{ℕ, ◌+◌, ◌/◌, ◌≤◌}
+use Prim.Native.Nat.{ℕ, ◌+◌, ◌/◌}
 use mathlib.Core.Path.{◌≡◌, sym, subst, ap, ◌∙◌}
-use mathlib.Core.Bool.{Bool, true}
+use mathlib.Core.Bool.{true}
 use mathlib.Core.List.{List}
 use native.Mathlib.Omega.{arith}
 use Rattle.nodes.specs.declared.node.Node.{Node}
 use Rattle.nodes.specs.Words.{node_at}
 use Rattle.tickets.specs.declared.ticket.Order.TheVariants.{Ancestor}
-use Rattle.tickets.specs.declared.ticket.Relation.{Relation}
-use Rattle.pairs.specs.Private.Sweep.{Placed, Running, Further, runningb, run_end, matches_from, from_start, served_group}
+use Rattle.pairs.specs.Private.Sweep.{Placed, Running, Further, runningb, run_end}
 use Rattle.pairs.proofs.Running.{further_next, run_stretch}
 use Rattle.pairs.proofs.Stretches.{served_as}
 use Rattle.pairs.proofs.Zones.{end_placed, ahead_placed, serve_run}

@@ -8,10 +8,17 @@
 -- would be caught at a return or at the next turn.
 use mathlib.Core.Path.{◌≡◌, refl, ap, sym, ◌∙◌}
 use mathlib.Core.Bool.{true}
-use Prim.Native.Nat.{◌+◌, ◌*◌, ◌/◌, zero-le}
+use mathlib.Core.List.{List}
+use Prim.Native.Nat.{ℕ, ◌+◌, ◌*◌, ◌/◌, ◌%◌, ◌<◌, zero-le}
 use native.Mathlib.Omega.{arith}
+use lib.ListN.{length, drop}
+use Rattle.nodes.specs.declared.node.Node.{Node}
+use Rattle.answers.specs.Answer.{TAKEN}
+use Rattle.laws.specs.Choose.{first_at}
+use Rattle.nodes.specs.Node.{afterb}
 use Rattle.nodes.specs.Words.{nodes, node_at}
 use Rattle.laws.proofs.Tests.{not_read, not_none}
+use Rattle.lists.specs.Two.{check_two}
 use Rattle.paging.specs.Private.Serve.{serve}
 use Rattle.paging.proofs.Serving.{left_end}
 use Rattle.tickets.specs.declared.ticket.Order.TheVariants.{Ancestor}
@@ -21,8 +28,16 @@ use Rattle.pairs.specs.Private.Sweep.{Placed, Running, runningb}
 use Rattle.pairs.proofs.Jumps.{jump_rest, none_left}
 use Rattle.pairs.proofs.ListingGroups.{sweep_start, sweep_end}
 use Rattle.pairs.proofs.SweepStart.{tells_first, tells_later}
-use Rattle.pairs.proofs.Zones.{first_taken, sweep_running, sweep_next, sweep_on, sweep_stop}
+use Rattle.pairs.proofs.Zones.{Reached, first_taken, sweep_running, sweep_next, sweep_on, sweep_stop}
 use Rattle.pairs.proofs.jumping.jump_ancestors.Goals as goal
+
+-- From the first descendant after the ancestor on, all stand after it, and that one is a place.
+run_placed : (as' ws : List ℕ) → (check_two as' ws).answer ≡ TAKEN → (i from : ℕ) {to : ℕ} {a : Node} → Placed as' i → i < length as'
+    → a ≡ node_at as' (i / 4) → Placed ws from → Reached as' ws (i / 4) (from / 4) → to % 4 ≡ 0
+    → to / 4 ≡ first_at (λ d. afterb d a) (drop (from / 4) (nodes ws)) + from / 4 → Placed ws to × Running ws (node_at as' (i / 4)) (to / 4)
+run_placed as' ws taken i from i_at inside same from_at reached aligned found =
+    let r = sweep_running as' ws taken (i / 4) (from / 4) _ _ (omega (arith, i_at)) same reached found in
+    ((from_at.0, aligned, omega (arith, r.from_in, aligned, from_at.0)), r)
 
 pub loop-i-init : goal.loop-i-init
 unfolding leaders followers
@@ -70,21 +85,14 @@ is_running-requires c =
 
 pub hand_zone-handed-requires : goal.hand_zone-handed-requires
 hand_zone-handed-requires c =
-    let running : let a = c.args in Running a.descendants.now (node_at a.ancestors.now (c.loop-i.i / 4)) (c.first_after-from.result / 4) =
     let a = c.args in
     let l = c.loop-i in
     let i = l.invariant in
-    let t = c.loop-i-test.true in
-    sweep_running a.ancestors.now a.descendants.now c.requires.0 (l.i / 4) (l.from / 4) _ _ (omega (arith, i.1)) c.node_from.ensures i.3 c.first_after-from.ensures.index in
-    let placed : let a = c.args in Placed a.descendants.now c.first_after-from.result =
-    let i = c.loop-i.invariant in
     let f = c.first_after-from.ensures in
-    (i.2.0, f.aligned, omega (arith, running.from_in, f.aligned, i.2.0)) in
-    let a = c.args in
-    let l = c.loop-i in
+    let next = run_placed a.ancestors.now a.descendants.now c.requires.0 l.i l.from i.1 c.loop-i-test.true c.node_from.ensures i.2 i.3 f.aligned f.index in
     let runs = ap (λ n. runningb a.descendants.now n (c.first_after-from.result / 4)) (sym c.node_from-in-loop-i.ensures)
     ∙ sym c.is_running.ensures ∙ c.if-is_running.true in
-    (c.requires.0, l.invariant.1, c.loop-i-test.true, placed, running, runs)
+    (c.requires.0, l.invariant.1, c.loop-i-test.true, next.0, next.1, runs)
 
 pub shape_of-out-then-not-handed : goal.shape_of-out-then-not-handed
 shape_of-out-then-not-handed c =
@@ -120,26 +128,17 @@ loop-i-smaller-else-not-handed c =
 
 pub loop-i-preserved-else-not-handed : goal.loop-i-preserved-else-not-handed
 loop-i-preserved-else-not-handed c =
-    let running : let a = c.args in Running a.descendants.now (node_at a.ancestors.now (c.loop-i.i / 4)) (c.first_after-from.result / 4) =
-    let a = c.args in
-    let l = c.loop-i in
-    let i = l.invariant in
-    let t = c.loop-i-test.true in
-    sweep_running a.ancestors.now a.descendants.now c.requires.0 (l.i / 4) (l.from / 4) _ _ (omega (arith, i.1)) c.node_from.ensures i.3 c.first_after-from.ensures.index in
-    let placed : let a = c.args in Placed a.descendants.now c.first_after-from.result =
-    let i = c.loop-i.invariant in
-    let f = c.first_after-from.ensures in
-    (i.2.0, f.aligned, omega (arith, running.from_in, f.aligned, i.2.0)) in
     let a = c.args in
     let l = c.loop-i in
     let i = l.invariant in
     let t = c.loop-i-test.true in
     let done : c.hand_zone-handed.result.done ≡ true = not_none _ c.if-not-handed.false in
     let n = c.node_from.ensures in
-    let f = c.first_after-from.ensures.index in (
+    let f = c.first_after-from.ensures.index in
+    let next = run_placed a.ancestors.now a.descendants.now c.requires.0 l.i l.from i.1 t n i.2 i.3 c.first_after-from.ensures.aligned f in (
       omega (arith, i.0),
       (i.1.0, omega (arith, i.1), omega (arith, i.1)),
-      placed,
+      next.0,
       sweep_next a.ancestors.now a.descendants.now c.requires.0 (l.i / 4) (l.from / 4) _ _ (omega (arith, i.1)) n i.3 f ((l.i + 4) / 4) (omega arith),
       done,
       λ place s.
@@ -158,16 +157,6 @@ loop-i-smaller c =
 
 pub loop-i-preserved : goal.loop-i-preserved
 loop-i-preserved c =
-    let running : let a = c.args in Running a.descendants.now (node_at a.ancestors.now (c.loop-i.i / 4)) (c.first_after-from.result / 4) =
-    let a = c.args in
-    let l = c.loop-i in
-    let i = l.invariant in
-    let t = c.loop-i-test.true in
-    sweep_running a.ancestors.now a.descendants.now c.requires.0 (l.i / 4) (l.from / 4) _ _ (omega (arith, i.1)) c.node_from.ensures i.3 c.first_after-from.ensures.index in
-    let placed : let a = c.args in Placed a.descendants.now c.first_after-from.result =
-    let i = c.loop-i.invariant in
-    let f = c.first_after-from.ensures in
-    (i.2.0, f.aligned, omega (arith, running.from_in, f.aligned, i.2.0)) in
     let a = c.args in
     let l = c.loop-i in
     let i = l.invariant in
@@ -175,10 +164,11 @@ loop-i-preserved c =
     let r = c.past_zone-i.result in
     let jumped = c.past_zone-i.ensures in
     let n = c.node_from.ensures in
-    let f = c.first_after-from.ensures.index in (
+    let f = c.first_after-from.ensures.index in
+    let next = run_placed a.ancestors.now a.descendants.now c.requires.0 l.i l.from i.1 t n i.2 i.3 c.first_after-from.ensures.aligned f in (
       i.0,
       jumped.placed,
-      placed,
+      next.0,
       sweep_next a.ancestors.now a.descendants.now c.requires.0 (l.i / 4) (l.from / 4) _ _ (omega (arith, i.1)) n i.3 f (r / 4) (omega (arith, jumped.later, jumped.placed, i.1)),
       i.4,
       λ place s.

@@ -7,29 +7,49 @@
 -- would be caught at a return or at the next turn. So would a stretch that leaves out an open
 -- ancestor.
 use mathlib.Core.Path.{◌≡◌, refl, ap, sym, subst, ◌∙◌}
-use mathlib.Core.Bool.{true}
-use mathlib.Core.List.{reverse}
-use Prim.Native.Nat.{◌+◌, ◌*◌, ◌/◌}
+use mathlib.Core.Bool.{Bool, true, false}
+use mathlib.Core.List.{List, reverse}
+use Prim.Native.Nat.{ℕ, ◌+◌, ◌*◌, ◌/◌, ◌<◌}
 use native.Mathlib.Omega.{arith}
-use lib.ListN.{length}
+use lib.ListN.{length, drop}
+use Rattle.nodes.specs.declared.node.Node.{Node}
+use Rattle.answers.specs.Answer.{TAKEN}
+use Rattle.laws.specs.Choose.{All, first_at}
+use Rattle.nodes.specs.Node.{afterb, openb}
 use Rattle.nodes.specs.Words.{nodes, node_at}
 use Rattle.laws.proofs.Tests.{not_read, not_none}
+use Rattle.lists.specs.Two.{check_two}
 use Rattle.lists.specs.Private.Walk.{Upon}
 use Rattle.paging.specs.Private.Serve.{serve}
 use Rattle.paging.proofs.Serving.{left_end}
 use Rattle.tickets.specs.declared.ticket.Order.TheVariants.{Descendant}
+use Rattle.tickets.specs.declared.ticket.Relation.{Relation}
 use Rattle.tickets.specs.Listing.{leaders, followers}
 use Rattle.tickets.specs.PairWords.{PAIR_WORDS, pair_words}
 use Rattle.tickets.specs.Private.Group.{matches}
 use Rattle.tickets.specs.Ticket.{asked}
 use Rattle.pairs.specs.Private.Stack.{opened}
-use Rattle.pairs.specs.Private.Sweep.{from_start, served_group}
+use Rattle.pairs.specs.Private.Sweep.{Opening, starts_from, stretch, from_start, served_group}
 use Rattle.pairs.proofs.Descending.{At, ready_start, ready_next, taken_as, taken_ds, left_at, at_descendant, descend_on, descend_stop}
 use Rattle.pairs.proofs.ListingGroups.{sweep_start, sweep_end}
 use Rattle.pairs.proofs.StackMatches.{serve_ahead}
 use Rattle.pairs.proofs.Stretches.{ahead_in}
 use Rattle.pairs.proofs.SweepStart.{tells_first, tells_later}
 use Rattle.pairs.proofs.jumping.jump_descendants.Goals as goal
+
+module _ (as' ds : List ℕ) (taken : (check_two as' ds).answer ≡ TAKEN) (j : ℕ) (inside : j < length ds) where
+  -- The stack holds the ancestors that are open at the descendant.
+  at_here : {d : Node} {used passed : ℕ} {stack : List ℕ} → d ≡ node_at ds (j / 4) → Opening as' d used passed stack
+      → All (λ e. openb d e ≡ true) (opened used stack) → All (λ a. afterb d a ≡ false) (drop (passed / 4) (nodes as'))
+      → At as' ds (node_at ds (j / 4)) used passed stack
+  at_here same opening all_open rest = at_descendant as' ds taken j inside _ same _ _ _ opening all_open rest
+
+-- What matches the descendant is served.
+served : (stack : List ℕ) (from to ahead past : ℕ) (relation : Relation) {d e : Node} → ahead / 4 ≡ first_at (starts_from past) (stretch stack from to) + from / 4
+    → e ≡ d → reverse (matches (asked relation Descendant) e (opened to stack)) ≡ stretch stack from to
+    → (out : List ℕ) (written : ℕ) {r : List ℕ × ℕ × Bool} → r ≡ served_group Descendant out written d (stretch stack ahead to)
+    → r ≡ served_group Descendant out written d (from_start past (reverse (matches (asked relation Descendant) d (opened to stack))))
+served stack from to ahead past relation found same matching = serve_ahead stack from to ahead past found relation _ _ same matching
 
 pub loop-j-init : goal.loop-j-init
 unfolding leaders followers
@@ -63,71 +83,28 @@ open_jumping-opened-requires c =
     c.node_from-descendant.ensures _ _ _ _ l.invariant.1 s.fits s.left in
     (taken_as a.ancestors.now a.descendants.now c.requires.0, here.0, here.1)
 
-pub slice_bounds-first_match-end : goal.slice_bounds-first_match-end
-slice_bounds-first_match-end c =
-    let long : length c.open_jumping-opened.new.stack ≡ 256 =
-    c.open_jumping-opened.ensures.long ∙ c.loop-j.invariant.3 in
-    sym long
-
 pub first_match-from-requires : goal.first_match-from-requires
 first_match-from-requires c =
-    let long : length c.open_jumping-opened.new.stack ≡ 256 =
-    c.open_jumping-opened.ensures.long ∙ c.loop-j.invariant.3 in
-    let at_here : let a = c.args in At a.ancestors.now a.descendants.now (node_at a.descendants.now (c.loop-j.j / 4)) c.open_jumping-opened.result.used c.open_jumping-opened.result.passed c.open_jumping-opened.new.stack =
     let a = c.args in
-    let l = c.loop-j in
     let o = c.open_jumping-opened.ensures in
-    at_descendant a.ancestors.now a.descendants.now c.requires.0 l.j c.loop-j-test.true _
-    c.node_from-descendant.ensures _ _ _ o.opening o.all_open o.rest in
-    let t = at_here in
-    let f = t.opening.used_in in
-    let n = long in (
+    let f = o.opening.used_in in
+    let t = at_here a.ancestors.now a.descendants.now c.requires.0 c.loop-j.j c.loop-j-test.true c.node_from-descendant.ensures o.opening o.all_open o.rest in (
       (omega arith, f.0, omega arith),
-      t.opening.held.stands.chain,
+      o.opening.held.stands.chain,
       subst (λ d. Upon d (opened c.open_jumping-opened.result.used c.open_jumping-opened.new.stack)) (sym c.node_from-descendant.ensures) t.upon,
     )
 
-pub slice_bounds-first_from-end : goal.slice_bounds-first_from-end
-slice_bounds-first_from-end c =
-    let long : length c.open_jumping-opened.new.stack ≡ 256 =
-    c.open_jumping-opened.ensures.long ∙ c.loop-j.invariant.3 in
-    sym long
-
 pub first_from-ahead-requires : goal.first_from-ahead-requires
 first_from-ahead-requires c =
-    let long : length c.open_jumping-opened.new.stack ≡ 256 =
-    c.open_jumping-opened.ensures.long ∙ c.loop-j.invariant.3 in
-    let at_here : let a = c.args in At a.ancestors.now a.descendants.now (node_at a.descendants.now (c.loop-j.j / 4)) c.open_jumping-opened.result.used c.open_jumping-opened.result.passed c.open_jumping-opened.new.stack =
-    let a = c.args in
-    let l = c.loop-j in
-    let o = c.open_jumping-opened.ensures in
-    at_descendant a.ancestors.now a.descendants.now c.requires.0 l.j c.loop-j-test.true _
-    c.node_from-descendant.ensures _ _ _ o.opening o.all_open o.rest in
-    let f = at_here.opening.used_in in
-    let n = long in
+    let f = c.open_jumping-opened.ensures.opening.used_in in
     let m = c.first_match-from.ensures in
     let within = m.within in
     ((omega arith, m.aligned, omega arith), (omega arith, f.0, omega arith), within)
 
-pub slice_bounds-pair_with_ancestors-end : goal.slice_bounds-pair_with_ancestors-end
-slice_bounds-pair_with_ancestors-end c =
-    let long : length c.open_jumping-opened.new.stack ≡ 256 =
-    c.open_jumping-opened.ensures.long ∙ c.loop-j.invariant.3 in
-    sym long
-
 pub pair_with_ancestors-handed-requires : goal.pair_with_ancestors-handed-requires
 pair_with_ancestors-handed-requires c =
-    let long : length c.open_jumping-opened.new.stack ≡ 256 =
-    c.open_jumping-opened.ensures.long ∙ c.loop-j.invariant.3 in
-    let at_here : let a = c.args in At a.ancestors.now a.descendants.now (node_at a.descendants.now (c.loop-j.j / 4)) c.open_jumping-opened.result.used c.open_jumping-opened.result.passed c.open_jumping-opened.new.stack =
-    let a = c.args in
     let l = c.loop-j in
-    let o = c.open_jumping-opened.ensures in
-    at_descendant a.ancestors.now a.descendants.now c.requires.0 l.j c.loop-j-test.true _
-    c.node_from-descendant.ensures _ _ _ o.opening o.all_open o.rest in
-    let l = c.loop-j in
-    let u = at_here.opening.used_in in
-    let n = long in
+    let u = c.open_jumping-opened.ensures.opening.used_in in
     let m = c.first_match-from.ensures in
     let f = c.first_from-ahead.ensures in
     let h = ahead_in c.open_jumping-opened.new.stack _ c.open_jumping-opened.result.used _ l.least f.index m.within u.0 f.aligned in
@@ -140,24 +117,17 @@ shape_of-out-then-not-handed c =
 
 pub returns-then-not-handed : goal.returns-then-not-handed
 returns-then-not-handed c =
-    let at_here : let a = c.args in At a.ancestors.now a.descendants.now (node_at a.descendants.now (c.loop-j.j / 4)) c.open_jumping-opened.result.used c.open_jumping-opened.result.passed c.open_jumping-opened.new.stack =
-    let a = c.args in
-    let l = c.loop-j in
-    let o = c.open_jumping-opened.ensures in
-    at_descendant a.ancestors.now a.descendants.now c.requires.0 l.j c.loop-j-test.true _
-    c.node_from-descendant.ensures _ _ _ o.opening o.all_open o.rest in
-    let served : let l = c.loop-j in let a = c.args in let d = node_at a.descendants.now (l.j / 4) in (c.pair_with_ancestors-handed.new.out, c.pair_with_ancestors-handed.result.count, c.pair_with_ancestors-handed.result.done) ≡ served_group Descendant l.out l.handed.count d (from_start l.least (reverse (matches (asked a.relation Descendant) d (opened c.open_jumping-opened.result.used c.open_jumping-opened.new.stack)))) =
-    let a = c.args in
-    let l = c.loop-j in
-    serve_ahead c.open_jumping-opened.new.stack _ c.open_jumping-opened.result.used _ l.least c.first_from-ahead.ensures.index a.relation (node_at a.descendants.now (l.j / 4)) _
-    c.node_from-descendant.ensures c.first_match-from.ensures.matches l.out l.handed.count c.pair_with_ancestors-handed.ensures in
     let a = c.args in
     let l = c.loop-j in
     let test = c.loop-j-test.true in
+    let o = c.open_jumping-opened.ensures in
+    let here = at_here a.ancestors.now a.descendants.now c.requires.0 l.j test c.node_from-descendant.ensures o.opening o.all_open o.rest in
+    let given = served c.open_jumping-opened.new.stack _ c.open_jumping-opened.result.used _ l.least a.relation c.first_from-ahead.ensures.index
+    c.node_from-descendant.ensures c.first_match-from.ensures.matches l.out l.handed.count c.pair_with_ancestors-handed.ensures in
     λ place s.
     let left = l.invariant.4 place s in
-    descend_stop a.ancestors.now a.descendants.now c.requires.0 l.j test _ _ _ at_here a.relation place _ left.0 _ _
-    served (not_read _ c.if-not-handed.true) left.1
+    descend_stop a.ancestors.now a.descendants.now c.requires.0 l.j test _ _ _ here a.relation place _ left.0 _ _
+    given (not_read _ c.if-not-handed.true) left.1
 
 pub overflow_add-j : goal.overflow_add-j
 overflow_add-j c =
@@ -172,32 +142,23 @@ loop-j-smaller c =
 
 pub loop-j-preserved : goal.loop-j-preserved
 loop-j-preserved c =
-    let long : length c.open_jumping-opened.new.stack ≡ 256 =
-    c.open_jumping-opened.ensures.long ∙ c.loop-j.invariant.3 in
-    let at_here : let a = c.args in At a.ancestors.now a.descendants.now (node_at a.descendants.now (c.loop-j.j / 4)) c.open_jumping-opened.result.used c.open_jumping-opened.result.passed c.open_jumping-opened.new.stack =
-    let a = c.args in
-    let l = c.loop-j in
-    let o = c.open_jumping-opened.ensures in
-    at_descendant a.ancestors.now a.descendants.now c.requires.0 l.j c.loop-j-test.true _
-    c.node_from-descendant.ensures _ _ _ o.opening o.all_open o.rest in
-    let served : let l = c.loop-j in let a = c.args in let d = node_at a.descendants.now (l.j / 4) in (c.pair_with_ancestors-handed.new.out, c.pair_with_ancestors-handed.result.count, c.pair_with_ancestors-handed.result.done) ≡ served_group Descendant l.out l.handed.count d (from_start l.least (reverse (matches (asked a.relation Descendant) d (opened c.open_jumping-opened.result.used c.open_jumping-opened.new.stack)))) =
-    let a = c.args in
-    let l = c.loop-j in
-    serve_ahead c.open_jumping-opened.new.stack _ c.open_jumping-opened.result.used _ l.least c.first_from-ahead.ensures.index a.relation (node_at a.descendants.now (l.j / 4)) _
-    c.node_from-descendant.ensures c.first_match-from.ensures.matches l.out l.handed.count c.pair_with_ancestors-handed.ensures in
     let a = c.args in
     let l = c.loop-j in
     let test = c.loop-j-test.true in
+    let o = c.open_jumping-opened.ensures in
+    let here = at_here a.ancestors.now a.descendants.now c.requires.0 l.j test c.node_from-descendant.ensures o.opening o.all_open o.rest in
+    let given = served c.open_jumping-opened.new.stack _ c.open_jumping-opened.result.used _ l.least a.relation c.first_from-ahead.ensures.index
+    c.node_from-descendant.ensures c.first_match-from.ensures.matches l.out l.handed.count c.pair_with_ancestors-handed.ensures in
     let done : c.pair_with_ancestors-handed.result.done ≡ true = not_none _ c.if-not-handed.false in (
       omega (arith, l.invariant.0),
-      ready_next a.ancestors.now a.descendants.now c.requires.0 l.j test _ _ _ at_here l.invariant.1.at,
+      ready_next a.ancestors.now a.descendants.now c.requires.0 l.j test _ _ _ here l.invariant.1.at,
       done,
-      long,
+      c.open_jumping-opened.ensures.long ∙ c.loop-j.invariant.3,
       λ place s.
           let left = l.invariant.4 place s in (
             tells_later place a.descendants.now (taken_ds a.ancestors.now a.descendants.now c.requires.0) _ l.j (l.j + 4) (omega arith) left.0,
-            descend_on a.ancestors.now a.descendants.now c.requires.0 l.j test _ _ _ at_here a.relation place _ left.0 _ _
-                served done left.1,
+            descend_on a.ancestors.now a.descendants.now c.requires.0 l.j test _ _ _ here a.relation place _ left.0 _ _
+                given done left.1,
           ),
     )
 

@@ -6,13 +6,18 @@
 -- What would break it: An open ancestor that is passed over would be caught at the next turn or at
 -- the return.
 use mathlib.Core.Path.{◌≡◌, refl, sym, ap, ◌∙◌}
-use mathlib.Core.Bool.{true}
+use mathlib.Core.Bool.{Bool, true}
 use Prim.Native.Nat.{◌/◌}
 use native.Mathlib.Omega.{arith}
+use Rattle.nodes.specs.declared.node.Node.{Node}
 use Rattle.nodes.specs.Node.{afterb}
 use Rattle.pairs.proofs.Jumps.{jump_passed}
 use Rattle.pairs.proofs.OpenStack.{next_fits, next_passed, passing_ends, passing_done}
 use Rattle.pairs.proofs.jumping.open_jumping.Goals as goal
+
+-- The ancestor stands before the descendant.
+before : (d : Node) {x y n : Node} {r : Bool} → x ≡ n → y ≡ n → r ≡ afterb d x → r ≡ true → afterb d y ≡ true
+before d x_at y_at tested holds = ap (afterb d) (y_at ∙ sym x_at) ∙ sym tested ∙ holds
 
 pub loop-i-init : goal.loop-i-init
 loop-i-init c = (c.requires.1, c.requires.2, refl)
@@ -36,13 +41,10 @@ node_from-requires-in-loop-i c = (c.loop-i.invariant.0.passed_in, c.loop-i-test.
 
 pub open_next-grown-requires : goal.open_next-grown-requires
 open_next-grown-requires c =
-    let before : afterb c.args.descendant c.node_from-in-loop-i.result ≡ true =
-    let same = c.node_from-in-loop-i.ensures ∙ sym c.node_from.ensures in
-    ap (afterb c.args.descendant) same
-    ∙ sym c.is_after.ensures ∙ c.if-not-is_after.false in
     let a = c.args in
+    let earlier = before a.descendant c.node_from.ensures c.node_from-in-loop-i.ensures c.is_after.ensures c.if-not-is_after.false in
     let l = c.loop-i in
-    next_fits a.ancestors.now a.descendant c.requires.0 _ _ _ _ l.invariant.0 l.invariant.1 (omega arith) c.node_from-in-loop-i.ensures before
+    next_fits a.ancestors.now a.descendant c.requires.0 _ _ _ _ l.invariant.0 l.invariant.1 (omega arith) c.node_from-in-loop-i.ensures earlier
 
 pub past_zone-i-requires : goal.past_zone-i-requires
 past_zone-i-requires c =
@@ -57,27 +59,21 @@ loop-i-smaller-then-grown-reached c =
 
 pub loop-i-preserved-then-grown-reached : goal.loop-i-preserved-then-grown-reached
 loop-i-preserved-then-grown-reached c =
-    let before : afterb c.args.descendant c.node_from-in-loop-i.result ≡ true =
-    let same = c.node_from-in-loop-i.ensures ∙ sym c.node_from.ensures in
-    ap (afterb c.args.descendant) same
-    ∙ sym c.is_after.ensures ∙ c.if-not-is_after.false in
     let a = c.args in
+    let earlier = before a.descendant c.node_from.ensures c.node_from-in-loop-i.ensures c.is_after.ensures c.if-not-is_after.false in
     let l = c.loop-i in
     let e = c.open_next-grown.ensures in
-    let jumped = jump_passed a.ancestors.now c.requires.0 a.descendant _ _ _ _ l.invariant.0 l.invariant.1 c.node_from-in-loop-i.ensures before
+    let jumped = jump_passed a.ancestors.now c.requires.0 a.descendant _ _ _ _ l.invariant.0 l.invariant.1 c.node_from-in-loop-i.ensures earlier
     _ _ _ e.fits c.if-grown-reached.true e.stack c.past_zone-i.ensures in
     (jumped.0, jumped.1, e.long ∙ l.invariant.2)
 
 pub loop-i-preserved : goal.loop-i-preserved
 loop-i-preserved c =
-    let before : afterb c.args.descendant c.node_from-in-loop-i.result ≡ true =
-    let same = c.node_from-in-loop-i.ensures ∙ sym c.node_from.ensures in
-    ap (afterb c.args.descendant) same
-    ∙ sym c.is_after.ensures ∙ c.if-not-is_after.false in
     let a = c.args in
+    let earlier = before a.descendant c.node_from.ensures c.node_from-in-loop-i.ensures c.is_after.ensures c.if-not-is_after.false in
     let l = c.loop-i in
     let e = c.open_next-grown.ensures in
-    let passed = next_passed a.ancestors.now a.descendant c.requires.0 _ _ _ _ l.invariant.0 l.invariant.1 (omega arith) c.node_from-in-loop-i.ensures before
+    let passed = next_passed a.ancestors.now a.descendant c.requires.0 _ _ _ _ l.invariant.0 l.invariant.1 (omega arith) c.node_from-in-loop-i.ensures earlier
     _ _ e.fits e.stack in
     (passed.0, passed.1, e.long ∙ l.invariant.2)
 

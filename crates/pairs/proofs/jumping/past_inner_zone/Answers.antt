@@ -4,11 +4,8 @@
 -- What would break it: A descendant that is passed although the zone doesn't hold it would be
 -- caught at its return. A zone left early would only cost time.
 use Prim.Native.Nat.{◌+◌}
-use mathlib.Core.Path.{◌≡◌, sym, ◌∙◌}
-use mathlib.Core.Bool.{true}
+use mathlib.Core.Path.{sym, ◌∙◌}
 use native.Mathlib.Omega.{arith}
-use Rattle.nodes.specs.Node.{afterb}
-use Rattle.pairs.specs.Private.Sweep.{Further}
 use Rattle.pairs.proofs.Children.{two_held, held}
 use Rattle.pairs.proofs.Running.{further_trans}
 use Rattle.pairs.proofs.jumping.past_inner_zone.Goals as goal
@@ -51,8 +48,8 @@ past_held-requires c =
     let a = c.args in
     let p = c.requires in
     let f = two_held a.ancestors.now a.descendants.now p.0 a.zone a.k _ _ (omega arith) (omega arith)
-        c.node_from-inner.ensures c.node_from.ensures (sym c.is_after.ensures ∙ c.if-not-is_after.false)
-        p.2.1 (sym c.is_running.ensures ∙ c.if-not-is_running.false) in
+    c.node_from-inner.ensures c.node_from.ensures (sym c.is_after.ensures ∙ c.if-not-is_after.false)
+    p.2.1 (sym c.is_running.ensures ∙ c.if-not-is_running.false) in
     (f.0, p.4.1, f.2)
 
 pub returns : goal.returns
@@ -61,7 +58,7 @@ returns c =
     let p = c.requires in
     let after = sym c.is_after.ensures ∙ c.if-not-is_after.false in
     let two = two_held a.ancestors.now a.descendants.now p.0 a.zone a.k _ _ (omega arith) (omega arith)
-        c.node_from-inner.ensures c.node_from.ensures after p.2.1 (sym c.is_running.ensures ∙ c.if-not-is_running.false) in
+    c.node_from-inner.ensures c.node_from.ensures after p.2.1 (sym c.is_running.ensures ∙ c.if-not-is_running.false) in
     let f = further_trans a.descendants.now _ (a.k + 4) (a.k + 4 + 4) _ two c.past_held.ensures in
     let i = f.2.from_in in
     record {
