@@ -402,7 +402,7 @@ uint32_t belfry_version(void);
 /* Checks one list. It reads the list and writes nothing.
  * Answers: RAGGED, LONG, then LEVEL to DEPTH for the first node at which one applies, with its
  * index; the list is 0.
- * Takes at most 704 bytes of stack. */
+ * Takes at most 720 bytes of stack. */
 BELFRY_MUST_USE
 BELFRY_NONNULL
 belfry_verdict belfry_check(const uint32_t *list, size_t words);
@@ -419,7 +419,7 @@ belfry_verdict belfry_check_two(const uint32_t *ancestors, size_t ancestor_words
 /* Checks two lists as belfry_check_two does, and says where to repair: the part of the list at
  * fault from the faulty node to its end. It reads both lists and writes nothing; the part is in the
  * caller's own list, from word `from` on. It is empty unless the answer is LEVEL to DEPTH.
- * Takes at most 832 bytes of stack. */
+ * Takes at most 864 bytes of stack. */
 BELFRY_MUST_USE
 BELFRY_NONNULL
 belfry_part belfry_faulty(const uint32_t *ancestors, size_t ancestor_words,
@@ -437,7 +437,7 @@ belfry_part belfry_faulty(const uint32_t *ancestors, size_t ancestor_words,
  * in all accepted calls has been handed out, once.
  * Answers: those of belfry_check_two, never ROOM. A refusal returns the ticket as it was and isn't
  * done, so a repaired list goes on from there.
- * Takes at most 1,520 bytes of stack. */
+ * Takes at most 1,536 bytes of stack. */
 BELFRY_MUST_USE
 BELFRY_NONNULL
 belfry_page belfry_list(const uint32_t *ancestors, size_t ancestor_words,
@@ -455,7 +455,7 @@ belfry_page belfry_list(const uint32_t *ancestors, size_t ancestor_words,
  * Answers: those of belfry_list. Then LINKS with list 0 and index 0, when the words aren't exactly
  * the links of the ancestors. A refusal with LINKS is one like the others: the ticket comes back as
  * it was, nothing is written, and the call isn't done.
- * Takes at most 1,552 bytes of stack. */
+ * Takes at most 1,584 bytes of stack. */
 BELFRY_MUST_USE
 BELFRY_NONNULL
 belfry_page belfry_list_linked(const uint32_t *ancestors, size_t ancestor_words,
@@ -512,7 +512,7 @@ belfry_result belfry_number(uint32_t document, const uint32_t *marks, size_t mar
  * BELFRY_MOST_NODES words are always enough. The document's number is read from the table, and is 0
  * on refusal.
  * Answers: RAGGED, LONG, TABLE, ROOM.
- * Takes at most 464 bytes of stack. */
+ * Takes at most 480 bytes of stack. */
 BELFRY_MUST_USE
 BELFRY_NONNULL
 belfry_unnumbered belfry_unnumber(const uint32_t *table, size_t table_words, uint32_t *out,
@@ -540,7 +540,7 @@ belfry_result belfry_links(const uint32_t *list, size_t words, uint32_t *out, si
  * answer is TAKEN exactly when the links are those that belfry_links writes for the list, word for
  * word and no word more.
  * Answers: those of belfry_check, then LINKS with list 0 and index 0.
- * Takes at most 720 bytes of stack. */
+ * Takes at most 736 bytes of stack. */
 BELFRY_MUST_USE
 BELFRY_NONNULL
 belfry_verdict belfry_links_check(const uint32_t *list, size_t words, const uint32_t *links,
@@ -590,7 +590,7 @@ belfry_result belfry_book_write(const uint32_t *entries, size_t entry_words, con
  * Answers of the whole call: RAGGED when the words don't make whole questions, then LONG. Each
  * whole question among the first BELFRY_MOST_QUESTIONS then has a page with that answer and its own
  * ticket, and nothing is written.
- * Takes at most 135,680 bytes of stack. */
+ * Takes at most 135,712 bytes of stack. */
 BELFRY_MUST_USE
 BELFRY_NONNULL
 belfry_pages belfry_ask(const uint8_t *book, size_t bytes, const uint32_t *questions,
@@ -598,7 +598,7 @@ belfry_pages belfry_ask(const uint8_t *book, size_t bytes, const uint32_t *quest
 
 /* Writes an answer's name into all eight bytes, padded with blanks; eight blanks for a number above
  * BELFRY_LINKS. It is never refused.
- * Takes at most 160 bytes of stack. */
+ * Takes at most 8 bytes of stack. */
 BELFRY_NONNULL
 void belfry_name(uint32_t answer, uint8_t out[BELFRY_NAME_BYTES]);
 

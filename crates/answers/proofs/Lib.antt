@@ -2,4 +2,5 @@
 -- which verdicts are refusals. `Only` says that no second answer satisfies a public contract.
 pub mod Only
 pub mod OutputLaws
+pub mod RefusalLaws
 pub mod VerdictLaws

@@ -1,6 +1,6 @@
-// What a call answers: a number and its name, and the verdict that says which list and which node.
+// What a call answers: why it refuses, at which node of which list, and the structs that C gets.
 #![tactic(auto)]
 
 pub mod answer;
-pub mod outcome;
+pub mod refusal;
 pub mod verdict;

@@ -1,6 +1,9 @@
 // What a check answers, and what a call answers that counts what it wrote.
 ghost use Rattle.std.specs.Prelude.{◌≡◌};
-ghost use Rattle.answers.specs.Verdict.{ANCESTORS, verdict};
+ghost use Rattle.answers.specs.Refusal.{verdict_of, verdict_in, counted_in};
+
+use crate::answer::TAKEN;
+use crate::refusal::Fault;
 
 // The lists that an answer may name.
 pub const ANCESTORS: u32 = 0;
@@ -25,13 +28,46 @@ pub struct Counted {
     pub count: usize,
 }
 
-// Returns `answer` as a verdict that points at no node: it names list 0 and index 0.
-pub fn without_node(answer: u32) -> Verdict
-    ensures { result ≡ verdict answer ANCESTORS 0 }
-{
-    Verdict {
-        answer: answer,
-        list: ANCESTORS,
-        index: 0,
+impl From<Fault> for Verdict {
+    ghost from_gives = { λ fault verdict. verdict ≡ verdict_of fault };
+
+    fn from(fault: Fault) -> Verdict {
+        Verdict {
+            answer: fault.refusal.into(),
+            list: fault.list,
+            index: fault.index,
+        }
+    }
+}
+
+impl From<Result<(), Fault>> for Verdict {
+    ghost from_gives = { λ checked verdict. verdict ≡ verdict_in checked };
+
+    fn from(checked: Result<(), Fault>) -> Verdict {
+        match checked {
+            Ok(()) => Verdict {
+                answer: TAKEN,
+                list: ANCESTORS,
+                index: 0,
+            },
+            Err(fault) => fault.into(),
+        }
+    }
+}
+
+impl From<Result<usize, Fault>> for Counted {
+    ghost from_gives = { λ wrote counted. counted ≡ counted_in wrote };
+
+    fn from(wrote: Result<usize, Fault>) -> Counted {
+        match wrote {
+            Ok(count) => Counted {
+                verdict: Ok(()).into(),
+                count: count,
+            },
+            Err(fault) => Counted {
+                verdict: fault.into(),
+                count: 0,
+            },
+        }
     }
 }

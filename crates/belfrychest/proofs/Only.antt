@@ -15,6 +15,7 @@ use Rattle.belfrychest.proofs.list.belfry_check_two.Reads as check-two
 use Rattle.belfrychest.proofs.list.belfry_faulty.Reads as faulty
 use Rattle.belfrychest.proofs.name.belfry_name.Reads as name
 use Rattle.belfrychest.proofs.page.belfry_list.Reads as list
+use Rattle.belfrychest.proofs.range.BelfryRangeFromResultOptionRangeFault.from.Reads as range-from
 use Rattle.belfrychest.proofs.range.belfry_zone_range.Reads as zone-range
 use Rattle.belfrychest.proofs.sheet.belfry_sheet.Reads as sheet
 use Rattle.belfrychest.proofs.table.belfry_links.Reads as links
@@ -85,3 +86,6 @@ sheet_only κs a r r' s s' p q = (only p.output q.output, only p.answer q.answer
 pub ask_only : (κs : _) (a : _) (r r' : _) (s s' : _) → asking.Post κs a r s → asking.Post κs a r' s'
     → (s.1.1.0.now ≡ s'.1.1.0.now) × (r ≡ r')
 ask_only κs a r r' s s' p q = (only p.output q.output, only p.answer q.answer)
+
+pub range_from_only : (κs : _) (a : _) (r r' : _) (s s' : _) → range-from.Post κs a r s → range-from.Post κs a r' s' → r ≡ r'
+range_from_only κs a r r' s s' p q = only p q

@@ -1,13 +1,12 @@
 -- What C gets where its struct isn't the library's own: the place of the part at fault, and the
 -- range of a zone.
-use Rattle.std.specs.Prelude.{ℕ, ◌*◌, cond, List, eqb, length}
+use Rattle.std.specs.Prelude.{ℕ, ◌*◌, cond, List, Some, None, Ok, Err, eqb, length}
 use Rattle.nodes.specs.Words.{NODE_WORDS}
 use Rattle.answers.specs.declared.verdict.Verdict.{Verdict}
 use Rattle.answers.specs.Verdict.{taken}
 use Rattle.lists.specs.Two.{check_two}
 use Rattle.readings.specs.Reading.{float}
-use Rattle.ranges.specs.declared.range.ZoneRange.{ZoneRange}
-use Rattle.ranges.specs.declared.range.ZoneRange.TheVariants.{Found, NoReading, Refused}
+use Rattle.ranges.specs.Range.{ZoneRange}
 use Rattle.repairs.specs.Part.{faulty_part}
 use Rattle.belfrychest.specs.declared.list.BelfryPart.{BelfryPart}
 use Rattle.belfrychest.specs.declared.range.BelfryRange.{BelfryRange}
@@ -26,6 +25,6 @@ without_range v = record { verdict = v; present = 0; low = float 0; high = float
 
 -- The range of a zone as C gets it: a low and a high, no present reading, or a refusal.
 abbrev pub shown_range : ZoneRange → BelfryRange
-shown_range (Found range) = record { verdict = taken; present = 1; low = range.low; high = range.high }
-shown_range NoReading = without_range taken
-shown_range (Refused refusal) = without_range refusal
+shown_range (Ok (Some range)) = record { verdict = taken; present = 1; low = range.low; high = range.high }
+shown_range (Ok None) = without_range taken
+shown_range (Err refusal) = without_range refusal

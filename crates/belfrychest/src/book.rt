@@ -13,14 +13,14 @@ use writing::write::write_book;
 pub fn belfry_book_check(book: &[u8]) -> Opened
     ensures { result ≡ check_book book.now }
 {
-    check_book(book)
+    check_book(book).into()
 }
 
 // Returns where the body of the list with `tag` lies in `book`, as `find_tag` does.
 pub fn belfry_book_body(book: &[u8], tag: u32) -> Found
     ensures { result ≡ found_tag book.now tag }
 {
-    find_tag(book, tag)
+    find_tag(book, tag).into()
 }
 
 // Writes the book of `entries` and `nodes` into `out`, and returns what `write_book` returns.
@@ -30,5 +30,5 @@ pub fn belfry_book_write(entries: &[u32], nodes: &[u32], out: &mut [u8]) -> Coun
       output : out.new ≡ written_output entries.now nodes.now out.old;
     } }
 {
-    write_book(entries, nodes, out)
+    write_book(entries, nodes, out).into()
 }

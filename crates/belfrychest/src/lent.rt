@@ -15,7 +15,7 @@ use ticket_words::words::TicketWords;
 pub fn belfry_links_check(list: &[u32], links: &[u32]) -> Verdict
     ensures { result ≡ check_links list.now links.now }
 {
-    check_links(list, links)
+    check_links(list, links).into()
 }
 
 // Writes a page into `out` and returns its answer, as `list_linked` does.

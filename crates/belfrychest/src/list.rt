@@ -25,14 +25,14 @@ pub struct BelfryPart {
 pub fn belfry_check(list: &[u32]) -> Verdict
     ensures { result ≡ check_words list.now }
 {
-    check_list(list)
+    check_list(list).into()
 }
 
 // Checks `ancestors` and `descendants` together and returns the verdict of `check_two`.
 pub fn belfry_check_two(ancestors: &[u32], descendants: &[u32]) -> Verdict
     ensures { result ≡ check_two ancestors.now descendants.now }
 {
-    check_two(ancestors, descendants)
+    check_two(ancestors, descendants).into()
 }
 
 // Returns the verdict on `ancestors` and `descendants`, and the place of the part that
@@ -40,15 +40,16 @@ pub fn belfry_check_two(ancestors: &[u32], descendants: &[u32]) -> Verdict
 pub fn belfry_faulty<'a>(ancestors: &'a [u32], descendants: &'a [u32]) -> BelfryPart
     ensures { result ≡ shown_part ancestors.now descendants.now }
 {
-    let verdict = check_two(ancestors, descendants);
+    let verdict = Verdict::from(check_two(ancestors, descendants));
     let words = faulty_part(ancestors, descendants).len();
-    let mut from = 0;
-    if words != 0 {
-        from = NODE_WORDS * verdict.index as usize;
-    }
+    let from = if words == 0 {
+        0
+    } else {
+        NODE_WORDS * verdict.index as usize
+    };
     BelfryPart {
-        verdict: verdict,
-        from: from,
-        words: words,
+        verdict,
+        from,
+        words,
     }
 }

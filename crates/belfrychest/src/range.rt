@@ -1,11 +1,11 @@
 // The low and the high of a zone's lab readings.
 ghost use Rattle.std.specs.Prelude.{◌≡◌};
-ghost use Rattle.ranges.specs.Range.{zone_range};
+ghost use Rattle.ranges.specs.Range.{range_in, zone_range};
 ghost use Rattle.belfrychest.specs.Shown.{without_range, shown_range};
 
-use answers::answer::TAKEN;
-use answers::verdict::{Verdict, without_node};
-use ranges::range::{ZoneRange, zone_range};
+use answers::refusal::Fault;
+use answers::verdict::Verdict;
+use ranges::range::{Range, zone_range};
 
 // What a range call answers: the verdict, whether a reading is present, and the low and the high in
 // percent. `present` is 1 if the zone has a low and a high; otherwise it is 0 and so are they.
@@ -23,26 +23,27 @@ fn without_range(verdict: Verdict) -> BelfryRange
     ensures { result ≡ without_range verdict }
 {
     BelfryRange {
-        verdict: verdict,
+        verdict,
         present: 0,
         low: 0.0,
         high: 0.0,
     }
 }
 
-// Returns `found` as C gets it.
-fn shown_range(found: ZoneRange) -> BelfryRange
-    ensures { result ≡ shown_range found }
-{
-    match found {
-        ZoneRange::Found(range) => BelfryRange {
-            verdict: without_node(TAKEN),
-            present: 1,
-            low: range.low,
-            high: range.high,
-        },
-        ZoneRange::NoReading => without_range(without_node(TAKEN)),
-        ZoneRange::Refused(verdict) => without_range(verdict),
+impl From<Result<Option<Range>, Fault>> for BelfryRange {
+    ghost from_gives = { λ found shown. shown ≡ shown_range (range_in found) };
+
+    fn from(found: Result<Option<Range>, Fault>) -> BelfryRange {
+        match found {
+            Ok(Some(range)) => BelfryRange {
+                verdict: Ok(()).into(),
+                present: 1,
+                low: range.low,
+                high: range.high,
+            },
+            Ok(None) => without_range(Ok(()).into()),
+            Err(fault) => without_range(fault.into()),
+        }
     }
 }
 
@@ -50,5 +51,5 @@ fn shown_range(found: ZoneRange) -> BelfryRange
 pub fn belfry_zone_range(zones: &[u32], samples: &[u32], readings: &[u32], zone: u32) -> BelfryRange
     ensures { result ≡ shown_range (zone_range zones.now samples.now readings.now zone) }
 {
-    shown_range(zone_range(zones, samples, readings, zone))
+    zone_range(zones, samples, readings, zone).into()
 }

@@ -12,5 +12,5 @@ pub fn belfry_sheet(zones: &[u32], samples: &[u32], hundredths: &[u32], out: &mu
       output : out.new ≡ sheet_output zones.now samples.now hundredths.now out.old;
     } }
 {
-    write_sheet(zones, samples, hundredths, out)
+    write_sheet(zones, samples, hundredths, out).into()
 }

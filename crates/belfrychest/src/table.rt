@@ -16,7 +16,7 @@ pub fn belfry_number(document: u32, marks: &[u32], out: &mut [u32]) -> Counted
       output : out.new ≡ number_output document marks.now out.old;
     } }
 {
-    number(document, marks, out)
+    number(document, marks, out).into()
 }
 
 // Writes the marks of `table` into `out`, as `unnumber` does.
@@ -26,7 +26,7 @@ pub fn belfry_unnumber(table: &[u32], out: &mut [u32]) -> Unnumbered
       output : out.new ≡ unnumber_output table.now out.old;
     } }
 {
-    unnumber(table, out)
+    unnumber(table, out).into()
 }
 
 // Picks the nodes with `tag` out of `table` and writes them into `out`, as `pick` does.
@@ -36,7 +36,7 @@ pub fn belfry_pick(table: &[u32], tag: u32, out: &mut [u32]) -> Counted
       output : out.new ≡ pick_output table.now tag out.old;
     } }
 {
-    pick(table, tag, out)
+    pick(table, tag, out).into()
 }
 
 // Links the nodes of `list` and writes the links into `out`, as `link_list` does.
@@ -46,5 +46,5 @@ pub fn belfry_links(list: &[u32], out: &mut [u32]) -> Counted
       output : out.new ≡ links_output list.now out.old;
     } }
 {
-    link_list(list, out)
+    link_list(list, out).into()
 }

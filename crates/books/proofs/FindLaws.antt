@@ -4,27 +4,33 @@
 -- same tag would be caught here.
 use mathlib.Core.Path.{◌≡◌, refl, sym, ap, ◌∙◌}
 use mathlib.Core.Bool.{true, false}
+use mathlib.Core.Logic.{inl, inr}
 use mathlib.Core.List.{List, [], ◌∷◌, map}
 use Prim.Native.Nat.{ℕ, zero, suc, ◌*◌, ◌≤◌, ◌<◌}
 use native.Mathlib.Omega.{arith}
 use lib.Dec.{ltb, eqb}
-use lib.ListN.{length, get_or}
-use borrow.Author.Tests.{lt-ltb, le-ltb, ltb-true, eq-eqb, ne_eqb}
+use lib.ListN.{length, get_or, take}
+use borrow.Author.Tests.{lt-ltb, le-ltb, ltb-true, ltb-false, eq-eqb, ne_eqb}
+use Rattle.std.specs.Prelude.{Ok, Err, None, Some}
+use Rattle.std.specs.Option.{MatchOption}
 use Rattle.answers.specs.Answer.{TAKEN, ABSENT}
+use Rattle.answers.specs.declared.refusal.Fault.{Fault}
+use Rattle.answers.specs.declared.refusal.Refusal.TheVariants.{Absent}
+use Rattle.answers.specs.Refusal.{at_no_node}
 use Rattle.laws.specs.Choose.{first_at}
-use Rattle.laws.proofs.Tests.{and_read}
+use Rattle.laws.proofs.Tests.{either, and_read}
 use Rattle.numbers.specs.Little.{NODE_BYTES}
 use Rattle.contents.specs.declared.entry.Entry.{Entry}
-use Rattle.contents.specs.Contents.{entry, lists_in, contents_of, entry_at, ascendb, contents_fault}
+use Rattle.contents.specs.Contents.{entry, lists_in, entries_in, contents_of, entry_at, ascendb, contents_fault}
 use Rattle.contents.proofs.ContentLaws.{tags_ascend, count_contents, entry_of}
 use Rattle.answers.specs.declared.verdict.Verdict.{Verdict}
 use Rattle.answers.specs.Verdict.{refusedb, ANCESTORS, verdict, taken}
 use Rattle.answers.proofs.VerdictLaws.{refuses, accepts}
 use Rattle.laws.proofs.First.{first_there}
-use Rattle.books.specs.Book.{body_of, nodes_of, book_verdict_up_to, book_verdict}
-use Rattle.books.specs.Find.{tag_at, found, verdict_at_up_to, verdict_at, found_at_up_to, found_at, found_tag_up_to, found_tag, has_tag, tag_entry, tag_body}
+use Rattle.books.specs.Book.{body_of, nodes_of, book_verdict_up_to, book_verdict, check_book, opened_in}
+use Rattle.books.specs.Find.{tag_at, tag_index, body_at, found, found_in, verdict_at_up_to, verdict_at, found_at_up_to, found_at, found_tag_up_to, found_tag, has_tag, tag_entry, tag_body}
 use Rattle.books.proofs.Answers.{parts_faultless}
-use Rattle.books.proofs.BookLaws.{book_taken}
+use Rattle.books.proofs.BookLaws.{book_taken, opened_ok, opened_err}
 
 module _ (book : List ℕ) (position : ℕ) where
   nowhere : (v : Verdict) → verdict_at book position ≡ v → refusedb v ≡ true → found_at book position ≡ found v 0 0
@@ -58,10 +64,73 @@ module _ (book : List ℕ) (position : ℕ) where
       → found_at book position ≡ found (book_verdict book) (entry_at book position).offset (NODE_BYTES * (entry_at book position).count)
   list_found t h = rw (book_taken book t) (there taken (taken_at t h) (accepts taken refl))
 
+-- What a caller knows who looks for a list after opening the book: a refused book is the answer.
+module _ (book : List ℕ) where
+  pub nothing_found : (f : Fault) → opened_in (Err f) ≡ check_book book → (position : ℕ) → found_in (Err f) ≡ found_at book position
+  nothing_found f e position =
+      let r = opened_err book f e in
+      ap (λ v. found v 0 0) r.0 ∙ sym (book_refused book position r.1)
+
+  pub no_tag_found : (f : Fault) → opened_in (Err f) ≡ check_book book → (tag : ℕ) → found_in (Err f) ≡ found_tag book tag
+  unfolding found_tag_up_to
+  no_tag_found f e tag = nothing_found f e (tag_at tag (contents_of book))
+
+  -- In a book that is taken, the list is there where the position is below the number of lists.
+  module _ (lists : ℕ) (e : opened_in (Ok lists) ≡ check_book book) (position : ℕ) where
+    pub none_there : lists ≤ position → found_in (Err (at_no_node Absent)) ≡ found_at book position
+    none_there h = let o = opened_ok book lists e in sym (list_absent book position o.0 (omega (arith, o.1)))
+
+    pub body_there : position < lists → found_in (Ok (body_at book position)) ≡ found_at book position
+    body_there h =
+        let o = opened_ok book lists e in
+        ap (λ v. found v (entry_at book position).offset (NODE_BYTES * (entry_at book position).count)) (sym (book_taken book o.0))
+        ∙ sym (list_found book position o.0 (omega (arith, o.1)))
+
 -- The contents of a book that is taken keep the rules.
 pub book_faultless : (book : List ℕ) → (book_verdict book).answer ≡ TAKEN → contents_fault book ≡ TAKEN
 unfolding book_verdict_up_to
 book_faultless book t = parts_faultless (contents_fault book) (map (nodes_of book) (contents_of book)) t
+
+-- What the index of a tag's list says, where there is one and where there is none.
+module _ (tag : ℕ) (es : List Entry) where
+  by_index : MatchOption (tag_index tag es) (length es ≤ tag_at tag es) (λ i. (i ≡ tag_at tag es) × (i < length es))
+  unfolding tag_index
+  by_index =
+      elim (either (ltb (tag_at tag es) (length es))) [
+        | inl h ↦ rw h (refl, ltb-true (tag_at tag es) (length es) h)
+        | inr h ↦ rw h (ltb-false (tag_at tag es) (length es) h)
+      ]
+
+  pub index_some : (i : ℕ) → Some i ≡ tag_index tag es → (i ≡ tag_at tag es) × (i < length es)
+  index_some i q = rw (← q) at by_index
+
+  pub index_none : None ≡ tag_index tag es → length es ≤ tag_at tag es
+  index_none q = rw (← q) at by_index
+
+-- So the index of a tag's list says where its body lies.
+module _ (book : List ℕ) (lists : ℕ) (e : opened_in (Ok lists) ≡ check_book book) (tag : ℕ) where
+  abbrev looked : List Entry
+  looked = take lists (entries_in book)
+
+  all_looked : (looked ≡ contents_of book) × (length looked ≡ lists)
+  unfolding contents_of
+  all_looked =
+      let o = opened_ok book lists e in
+      (ap (λ n. take n (entries_in book)) o.1, ap (λ n. length (take n (entries_in book))) o.1 ∙ count_contents book (book_faultless book o.0) ∙ sym o.1)
+
+  pub tag_absent : None ≡ tag_index tag looked → found_in (Err (at_no_node Absent)) ≡ found_tag book tag
+  unfolding found_tag_up_to
+  tag_absent q =
+      none_there book lists e (tag_at tag looked) (omega (arith, index_none tag looked q, all_looked.1))
+      ∙ ap (λ es. found_at book (tag_at tag es)) all_looked.0
+
+  pub tag_present : (i : ℕ) → Some i ≡ tag_index tag looked → found_in (Ok (body_at book i)) ≡ found_tag book tag
+  unfolding found_tag_up_to
+  tag_present i q =
+      let s = index_some tag looked i q in
+      body_there book lists e i (omega (arith, s.1, all_looked.1))
+      ∙ ap (found_at book) s.0
+      ∙ ap (λ es. found_at book (tag_at tag es)) all_looked.0
 
 -- Where tags strictly ascend, a list's tag is below all later ones, so each list is the first of
 -- its own tag.

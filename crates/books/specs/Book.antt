@@ -1,5 +1,5 @@
 -- docs/SCOPE.md, "The field book": its bodies, and the answer for a book.
-use Rattle.std.specs.Prelude.{ℕ, suc, ◌*◌, cond, List, [], ◌∷◌, map, eqb, length}
+use Rattle.std.specs.Prelude.{ℕ, suc, ◌*◌, cond, List, [], ◌∷◌, Result, Ok, Err, map, eqb, length}
 use Rattle.nodes.specs.declared.node.Node.{Node}
 use Rattle.answers.specs.Answer.{TAKEN}
 use Rattle.nodes.specs.Words.{nodes}
@@ -7,8 +7,10 @@ use Rattle.numbers.specs.Little.{NODE_BYTES, numbers}
 use Rattle.numbers.specs.Part.{part_of, place_in}
 use Rattle.contents.specs.declared.entry.Entry.{Entry}
 use Rattle.contents.specs.Contents.{MOST_LISTS, lists_in, contents_of, contents_fault_up_to, entry_at}
+use Rattle.answers.specs.declared.refusal.Fault.{Fault}
 use Rattle.answers.specs.declared.verdict.Verdict.{Verdict}
 use Rattle.lists.specs.Check.{check_nodes}
+use Rattle.answers.specs.Refusal.{verdict_of}
 use Rattle.answers.specs.Verdict.{refusedb, in_list, ANCESTORS, verdict, taken}
 use Rattle.books.specs.declared.book.Opened.{Opened}
 
@@ -50,6 +52,11 @@ book_verdict book = book_verdict_up_to MOST_LISTS book
 -- What opening a book answers: the verdict, and the number of its lists, 0 when it is refused.
 abbrev pub opened : Verdict → ℕ → Opened
 opened v lists = record { verdict = v; lists = lists }
+
+-- The same for a check that returns the number of lists, or a fault.
+abbrev pub opened_in : Result ℕ Fault → Opened
+opened_in (Ok lists) = opened taken lists
+opened_in (Err f) = opened (verdict_of f) 0
 
 -- What opening these bytes answers where a book may have up to `most` lists.
 unfoldable pub check_book_up_to : ℕ → List ℕ → Opened

@@ -1,12 +1,15 @@
 -- docs/SCOPE.md, "The field book": a list of a book by its tag or by its position, or ABSENT.
-use Rattle.std.specs.Prelude.{ℕ, ◌*◌, Bool, cond, List, ltb, eqb, get_or, take}
+use Rattle.std.specs.Prelude.{ℕ, ◌*◌, Bool, cond, List, Option, None, Some, Result, Ok, Err, ltb, eqb, length, get_or, take}
 use Rattle.answers.specs.Answer.{ABSENT}
 use Rattle.laws.specs.Choose.{any, first_at}
 use Rattle.numbers.specs.Little.{NODE_BYTES}
 use Rattle.contents.specs.declared.entry.Entry.{Entry}
 use Rattle.contents.specs.Contents.{MOST_LISTS, entry, lists_in, entries_in, contents_of, entry_at}
+use Rattle.answers.specs.declared.refusal.Fault.{Fault}
 use Rattle.answers.specs.declared.verdict.Verdict.{Verdict}
+use Rattle.answers.specs.Refusal.{verdict_of}
 use Rattle.answers.specs.Verdict.{refusedb, ANCESTORS, verdict, taken}
+use Rattle.books.specs.declared.find.Body.{Body}
 use Rattle.books.specs.declared.find.Found.{Found}
 use Rattle.books.specs.Book.{body_of, body_place, book_verdict_up_to}
 
@@ -14,10 +17,23 @@ use Rattle.books.specs.Book.{body_of, body_place, book_verdict_up_to}
 unfoldable pub tag_at : ℕ → List Entry → ℕ
 tag_at tag es = first_at (λ e. eqb e.tag tag) es
 
+-- The same index, or None where no list has the tag.
+unfoldable pub tag_index : ℕ → List Entry → Option ℕ
+tag_index tag es = cond (ltb (tag_at tag es) (length es)) (Some (tag_at tag es)) None
+
 -- What looking for a list answers: the verdict, the body's first byte in the book and its number of
 -- bytes.
 abbrev pub found : Verdict → ℕ → ℕ → Found
 found v from bytes = record { verdict = v; from = from; bytes = bytes }
+
+-- The same for a search that returns where the body lies, or a fault.
+abbrev pub found_in : Result Body Fault → Found
+found_in (Ok b) = found taken b.from b.bytes
+found_in (Err f) = found (verdict_of f) 0 0
+
+-- Where the body lies that the entry at a position names.
+abbrev pub body_at : List ℕ → ℕ → Body
+body_at book position = let e = entry_at book position in record { from = e.offset; bytes = NODE_BYTES * e.count }
 
 -- Looking for a list where a book may have up to `most` lists.
 module _ (most : ℕ) (book : List ℕ) where

@@ -1,13 +1,13 @@
 // The check of a book.
 ghost use Rattle.std.specs.Prelude.{◌≡◌, map};
 ghost use Rattle.answers.specs.Answer.{TAKEN};
+ghost use Rattle.answers.specs.Refusal.{verdict_in};
 ghost use Rattle.contents.specs.Contents.{contents_of, contents_fault};
-ghost use Rattle.answers.specs.Verdict.{in_list};
-ghost use Rattle.books.specs.Book.{body_of, body_place, nodes_of, check_bodies, book_verdict, check_book};
+ghost use Rattle.books.specs.Book.{body_of, body_place, nodes_of, check_bodies, check_book, opened_in};
 
-use answers::answer::TAKEN;
-use answers::verdict::{Verdict, without_node};
-use contents::check::contents_fault;
+use answers::refusal::Fault;
+use answers::verdict::Verdict;
+use contents::check::check_contents;
 use contents::entry::{Entry, entry_at};
 use lists::bytes::check_bytes;
 use numbers::little::{NODE_BYTES, number_at};
@@ -19,6 +19,23 @@ use numbers::part::part_of;
 pub struct Opened {
     pub verdict: Verdict,
     pub lists: u32,
+}
+
+impl From<Result<u32, Fault>> for Opened {
+    ghost from_gives = { λ checked opened. opened ≡ opened_in checked };
+
+    fn from(checked: Result<u32, Fault>) -> Opened {
+        match checked {
+            Ok(lists) => Opened {
+                verdict: Ok(()).into(),
+                lists,
+            },
+            Err(fault) => Opened {
+                verdict: fault.into(),
+                lists: 0,
+            },
+        }
+    }
 }
 
 // Returns the body that `entry` names, as far as the book goes.
@@ -35,62 +52,26 @@ pub(crate) fn body_of(book: &[u8], entry: Entry) -> &[u8]
     )
 }
 
-// Returns `verdict`, which a check of one list gave, with the number `list` in it.
-fn in_list(verdict: Verdict, list: u32) -> Verdict
-    ensures { result ≡ in_list list verdict }
-{
-    Verdict {
-        answer: verdict.answer,
-        list: list,
-        index: verdict.index,
-    }
-}
-
-// Checks the bodies of a book whose contents keep the rules, and returns the verdict on the first
-// one that isn't accepted, or TAKEN.
-fn check_bodies(book: &[u8]) -> Verdict
+// Checks the bodies of a book whose contents keep the rules, and returns the fault of the first one
+// that isn't accepted.
+fn check_bodies(book: &[u8]) -> Result<(), Fault>
     requires { contents_fault book.now ≡ TAKEN }
-    ensures { result ≡ check_bodies 0 (map (nodes_of book.now) (contents_of book.now)) }
+    ensures { verdict_in result ≡ check_bodies 0 (map (nodes_of book.now) (contents_of book.now)) }
 {
-    let lists = number_at(book, 0);
-    let mut list = 0;
     // Rests on BookLaws: bodies_on, bodies_stop, bodies_end.
-    while list < lists {
-        let entry = entry_at(book, list as usize);
-        let verdict = check_bytes(body_of(book, entry));
-        if verdict.answer != TAKEN {
-            return in_list(verdict, list);
-        }
-        list += 1;
+    for list in 0..number_at(book, 0) {
+        let body = body_of(book, entry_at(book, list as usize));
+        check_bytes(body).map_err(|fault| Fault { list, ..fault })?;
     }
-    without_node(TAKEN)
-}
-
-// Returns the verdict on a book: first on its contents, then on its bodies.
-fn verdict_on(book: &[u8]) -> Verdict
-    ensures { result ≡ book_verdict book.now }
-{
-    let fault = contents_fault(book);
-    if fault != TAKEN {
-        return without_node(fault);
-    }
-    check_bodies(book)
+    Ok(())
 }
 
 // Checks whether the bytes are a book and returns how many lists it has. Where they aren't one, the
-// verdict says why, and which node of which list is at fault.
-pub fn check_book(book: &[u8]) -> Opened
-    ensures { result ≡ check_book book.now }
+// fault says why, and which node of which list it is.
+pub fn check_book(book: &[u8]) -> Result<u32, Fault>
+    ensures { opened_in result ≡ check_book book.now }
 {
-    let verdict = verdict_on(book);
-    if verdict.answer != TAKEN {
-        return Opened {
-            verdict: verdict,
-            lists: 0,
-        };
-    }
-    Opened {
-        verdict: verdict,
-        lists: number_at(book, 0),
-    }
+    check_contents(book)?;
+    check_bodies(book)?;
+    Ok(number_at(book, 0))
 }

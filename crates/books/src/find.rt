@@ -1,14 +1,20 @@
 // A book's lists, by tag and by position.
 ghost use Rattle.std.specs.Prelude.{◌≡◌, take};
 ghost use Rattle.contents.specs.Contents.{entries_in};
-ghost use Rattle.books.specs.Book.{check_book};
-ghost use Rattle.books.specs.Find.{tag_at, found, found_at, found_tag, has_tag, tag_body, tag_place};
+ghost use Rattle.books.specs.Find.{tag_index, body_at, found_in, found_at, found_tag, has_tag, tag_body, tag_place};
 
-use crate::book::{Opened, body_of, check_book};
-use answers::answer::{ABSENT, TAKEN};
-use answers::verdict::{Verdict, without_node};
+use crate::book::{body_of, check_book};
+use answers::refusal::{Fault, Refusal};
+use answers::verdict::Verdict;
 use contents::entry::{entry_at, entry_count};
 use numbers::little::NODE_BYTES;
+
+// Where a list's body lies in the book: its first byte and its number of bytes.
+#[derive(Clone, Copy)]
+pub struct Body {
+    pub from: usize,
+    pub bytes: usize,
+}
 
 // What looking for a list answers: the verdict, and where the list's body lies in the book. That is
 // its first byte and its number of bytes, both 0 on refusal.
@@ -20,68 +26,70 @@ pub struct Found {
     pub bytes: usize,
 }
 
-// Returns that nothing is found, for the reason that `verdict` gives.
-fn nowhere(verdict: Verdict) -> Found
-    ensures { result ≡ found verdict 0 0 }
-{
-    Found {
-        verdict: verdict,
-        from: 0,
-        bytes: 0,
-    }
-}
+impl From<Result<Body, Fault>> for Found {
+    ghost from_gives = { λ sought found. found ≡ found_in sought };
 
-// Returns the index of the list of `tag` among the first `lists` entries, or the number of these
-// entries where there is none.
-fn tag_at(book: &[u8], lists: u32, tag: u32) -> usize
-    ensures { result ≡ tag_at tag (take lists (entries_in book.now)) }
-{
-    let mut index = 0;
-    // Rests on contents: ContentLaws: entry_from, none_from.
-    while index < lists as usize && index < entry_count(book) {
-        let entry = entry_at(book, index);
-        if entry.tag == tag {
-            return index;
+    fn from(sought: Result<Body, Fault>) -> Found {
+        match sought {
+            Ok(body) => Found {
+                verdict: Ok(()).into(),
+                from: body.from,
+                bytes: body.bytes,
+            },
+            Err(fault) => Found {
+                verdict: fault.into(),
+                from: 0,
+                bytes: 0,
+            },
         }
-        index += 1;
     }
-    index
 }
 
-// Returns where the list at `position` of a book that was just opened lies.
-fn found_at(book: &[u8], opened: Opened, position: usize) -> Found
-    requires { opened ≡ check_book book.now }
-    ensures { result ≡ found_at book.now position }
+// Returns the index of the list of `tag` among the first `lists` entries, or None where there is
+// none.
+fn tag_at(book: &[u8], lists: u32, tag: u32) -> Option<usize>
+    ensures { result ≡ tag_index tag (take lists (entries_in book.now)) }
 {
-    let verdict = opened.verdict;
-    if verdict.answer != TAKEN {
-        return nowhere(verdict);
+    let count = entry_count(book).min(lists as usize);
+    // Rests on contents: ContentLaws: entry_from.
+    for index in 0..count {
+        if entry_at(book, index).tag == tag {
+            return Some(index);
+        }
     }
+    None
+}
+
+// Returns where the body of the entry at `position` lies.
+fn body_at(book: &[u8], position: usize) -> Body
+    ensures { result ≡ body_at book.now position }
+{
     let entry = entry_at(book, position);
-    if opened.lists as usize <= position {
-        return nowhere(without_node(ABSENT));
-    }
-    Found {
-        verdict: verdict,
+    Body {
         from: entry.offset as usize,
         bytes: NODE_BYTES * entry.count as usize,
     }
 }
 
 // Returns where the body of the list at `position` lies, the first list having position 0; or the
-// book's refusal, or ABSENT.
-pub fn find_list(book: &[u8], position: usize) -> Found
-    ensures { result ≡ found_at book.now position }
+// book's refusal, or Absent.
+pub fn find_list(book: &[u8], position: usize) -> Result<Body, Fault>
+    ensures { found_in result ≡ found_at book.now position }
 {
-    found_at(book, check_book(book), position)
+    let lists = check_book(book)?;
+    if lists as usize <= position {
+        return Err(Refusal::Absent.into());
+    }
+    Ok(body_at(book, position))
 }
 
-// Returns where the body of the list of `tag` lies; or the book's refusal, or ABSENT.
-pub fn find_tag(book: &[u8], tag: u32) -> Found
-    ensures { result ≡ found_tag book.now tag }
+// Returns where the body of the list of `tag` lies; or the book's refusal, or Absent.
+pub fn find_tag(book: &[u8], tag: u32) -> Result<Body, Fault>
+    ensures { found_in result ≡ found_tag book.now tag }
 {
-    let opened = check_book(book);
-    found_at(book, opened, tag_at(book, opened.lists, tag))
+    let lists = check_book(book)?;
+    let position = tag_at(book, lists, tag).ok_or(Refusal::Absent)?;
+    Ok(body_at(book, position))
 }
 
 // Returns whether one of the `lists` lists of a book that was opened before has `tag`. Nothing is
@@ -89,11 +97,7 @@ pub fn find_tag(book: &[u8], tag: u32) -> Found
 pub fn has_tag(book: &[u8], lists: u32, tag: u32) -> bool
     ensures { result ≡ has_tag book.now lists tag }
 {
-    let position = tag_at(book, lists, tag);
-    if entry_count(book) <= position {
-        return false;
-    }
-    position < lists as usize
+    tag_at(book, lists, tag).is_some()
 }
 
 // Returns the body of `tag` out of a book that was opened before and has `lists` lists, as a part
@@ -105,9 +109,8 @@ pub fn tag_body(book: &[u8], lists: u32, tag: u32) -> &[u8]
       place : result.ref_ptr ≡ tag_place book.entry.ref_ptr book.now lists tag;
     } }
 {
-    let position = tag_at(book, lists, tag);
-    if lists as usize <= position {
-        return &book[..0];
+    match tag_at(book, lists, tag) {
+        Some(position) => body_of(book, entry_at(book, position)),
+        None => &book[..0],
     }
-    body_of(book, entry_at(book, position))
 }

@@ -14,6 +14,8 @@ use lib.Dec.{ltb, leb, eqb}
 use lib.ListN.{length, get_or, take, drop, length-drop, drop_of_length-le, get_or-eq_default}
 use lib.Seq.{length-take-le, get_or-take, get_or-drop}
 use borrow.Author.Tests.{lt-ltb, le-ltb, ne_eqb, le-leb, lt-leb, ltb-true, ltb-false, eqb-true}
+use Rattle.std.specs.Prelude.{Option, None, Some, Result, Ok, Err}
+use Rattle.answers.specs.declared.refusal.Refusal.{Refusal}
 use Rattle.answers.specs.Answer.{TAKEN, CONTENTS}
 use Rattle.laws.specs.Choose.{All, any}
 use Rattle.nodes.specs.Words.{MOST_NODES}
@@ -24,10 +26,8 @@ use Rattle.numbers.specs.Little.{NODE_BYTES, numbers, number_at}
 use Rattle.numbers.proofs.LittleLaws.{length_numbers}
 use Rattle.contents.specs.declared.entry.Entry.{Entry}
 use Rattle.contents.specs.declared.step.ContentsPlace.{ContentsPlace}
-use Rattle.contents.specs.declared.step.Step.{Step}
-use Rattle.contents.specs.declared.step.Step.TheVariants.{Reached, Refused}
 use Rattle.contents.specs.Contents.{MOST_LISTS, entry, entries, entry_numbers, lists_in, entries_in, entry_count, entry_at, contents_of, contents_end, ascendb, laidb, brokenb, contents_fault_up_to, contents_fault}
-use Rattle.contents.specs.Passing.{start_of, passesb, after_entry, step_of, step_answer}
+use Rattle.contents.specs.Passing.{start_of, aboveb, passesb, after_entry, step_of, step_answer}
 use Rattle.contents.specs.Private.Walk.{keepsb, Kept}
 
 pub length_entries : (ns : List ℕ) → length (entries ns) ≡ length ns / 3
@@ -125,20 +125,20 @@ up_to n most =
       | inr h ↦ rw h (le-leb n most (ltb-false most n h))
     ]
 
--- The tags of the lists ascend, and the first is above `tag`, where a list was already passed.
-ascend_from : Bool → ℕ → List Entry → Bool
-ascend_from begun tag [] = true
-ascend_from begun tag (e ∷ es) = (not begun || ltb tag e.tag) && ascend_from true e.tag es
+-- The tags of the lists ascend, and the first is above that of the list passed last, if any.
+ascend_from : Option ℕ → List Entry → Bool
+ascend_from last [] = true
+ascend_from last (e ∷ es) = aboveb last e.tag && ascend_from (Some e.tag) es
 
-ascend_on : (e : Entry) (es : List Entry) → ascend_from true e.tag es ≡ ascendb (e ∷ es)
+ascend_on : (e : Entry) (es : List Entry) → ascend_from (Some e.tag) es ≡ ascendb (e ∷ es)
 unfolding ascend_from ascendb
 ascend_on e [] = refl
 ascend_on e (f ∷ es) = ap (λ b. ltb e.tag f.tag && b) (ascend_on f es)
 
-ascend_all : (tag : ℕ) (es : List Entry) → ascend_from false tag es ≡ ascendb es
+ascend_all : (es : List Entry) → ascend_from None es ≡ ascendb es
 unfolding ascend_from ascendb
-ascend_all tag [] = refl
-ascend_all tag (e ∷ es) = ascend_on e es
+ascend_all [] = refl
+ascend_all (e ∷ es) = ascend_on e es
 
 -- The three rules of the first list and those of the later lists, sorted by rule.
 regroup : (a b c x y z : Bool) → (a && (not b && c)) && (not x && (y && z)) ≡ not (b || x) && ((c && y) && (a && z))
@@ -153,12 +153,12 @@ regroup false false true false false z = refl
 regroup false false false false y z = refl
 
 rules_from : (p : ContentsPlace) (es : List Entry) (size : ℕ)
-    → keepsb p es size ≡ not (any (λ e. ltb MOST_NODES e.count) es) && (ascend_from p.begun p.tag es && laidb p.end es size)
+    → keepsb p es size ≡ not (any (λ e. ltb MOST_NODES e.count) es) && (ascend_from p.tag es && laidb p.end es size)
 unfolding keepsb passesb after_entry any ascend_from laidb
 rules_from p [] size = refl
 rules_from p (e ∷ es) size =
     rw (rules_from (after_entry p e) es size, up_to e.count MOST_NODES)
-    (regroup (eqb e.offset p.end) (ltb MOST_NODES e.count) (not p.begun || ltb p.tag e.tag) _ _ _)
+    (regroup (eqb e.offset p.end) (ltb MOST_NODES e.count) (aboveb p.tag e.tag) _ _ _)
 
 one_broken : (x y z : Bool) → x || (not y || not z) ≡ not (not x && (y && z))
 one_broken true y z = refl
@@ -169,7 +169,7 @@ one_broken false false z = refl
 keeps_rules : (most lists : ℕ) (es : List Entry) (size : ℕ) → lists ≤ most → brokenb most lists es size ≡ not (keepsb (start_of lists) es size)
 unfolding brokenb start_of
 keeps_rules most lists es size h =
-    rw (le-ltb most lists h, rules_from (start_of lists) es size, ascend_all 0 es)
+    rw (le-ltb most lists h, rules_from (start_of lists) es size, ascend_all es)
     (one_broken (any (λ e. ltb MOST_NODES e.count) es) (ascendb es) (laidb (contents_end lists) es size))
 
 -- What the walk has still to find out at a place decides the whole: the lists left keep the rules
@@ -178,9 +178,9 @@ abbrev pub Left : ContentsPlace → List Entry → ContentsPlace → List Entry 
 Left p rest start all = (size : ℕ) → keepsb p rest size ≡ keepsb start all size
 
 -- What a step's answer says: at a place reached the rest decides, and a refusal decides at once.
-Steps : List Entry → ContentsPlace → List Entry → Step → Type 0
-Steps rest start all (Reached q) = Left q rest start all
-Steps rest start all (Refused answer) = Kept start all (Refused answer)
+Steps : List Entry → ContentsPlace → List Entry → Result ContentsPlace Refusal → Type 0
+Steps rest start all (Ok q) = Left q rest start all
+Steps rest start all (Err refusal) = Kept start all (Err refusal)
 
 module _ (start : ContentsPlace) (all : List Entry) (p : ContentsPlace) (e : Entry) (rest : List Entry) (l : Left p (e ∷ rest) start all) where
   steps : Steps rest start all (step_of p e)
@@ -191,21 +191,21 @@ module _ (start : ContentsPlace) (all : List Entry) (p : ContentsPlace) (e : Ent
         | inr h ↦ rw h (λ size. ap (λ b. cond b TAKEN CONTENTS) (rw h at (sym (l size))))
       ]
 
-  module _ (r : Step) (s : r ≡ step_of p e) where
-    pub kept_on : (q : ContentsPlace) → r ≡ Reached q → Left q rest start all
+  module _ (r : Result ContentsPlace Refusal) (s : r ≡ step_of p e) where
+    pub kept_on : (q : ContentsPlace) → r ≡ Ok q → Left q rest start all
     unfolding Steps
     kept_on q h = subst (Steps rest start all) (sym s ∙ h) steps
 
-    pub kept_stop : (answer : ℕ) → r ≡ Refused answer → Kept start all r
+    pub kept_stop : (refusal : Refusal) → r ≡ Err refusal → Kept start all r
     unfolding Steps
-    kept_stop answer h = subst (Kept start all) (sym h) (subst (Steps rest start all) (sym s ∙ h) steps)
+    kept_stop refusal h = subst (Kept start all) (sym h) (subst (Steps rest start all) (sym s ∙ h) steps)
 
-pub kept_end : (start : ContentsPlace) (all : List Entry) (q : ContentsPlace) → Left q [] start all → Kept start all (Reached q)
+pub kept_end : (start : ContentsPlace) (all : List Entry) (q : ContentsPlace) → Left q [] start all → Kept start all (Ok q)
 unfolding keepsb
 kept_end start all q l = λ size. ap (λ b. cond b TAKEN CONTENTS) (sym (l size))
 
 -- The last step's answer is CONTENTS exactly where a rule is broken.
-pub walk_answers : (most lists : ℕ) (es : List Entry) (size : ℕ) → lists ≤ most → (r : Step) → Kept (start_of lists) es r
+pub walk_answers : (most lists : ℕ) (es : List Entry) (size : ℕ) → lists ≤ most → (r : Result ContentsPlace Refusal) → Kept (start_of lists) es r
     → step_answer r size ≡ cond (brokenb most lists es size) CONTENTS TAKEN
 walk_answers most lists es size few r k =
     sym (k size) ∙ sym (turned (keepsb (start_of lists) es size)) ∙ ap (λ b. cond b CONTENTS TAKEN) (sym (keeps_rules most lists es size few))

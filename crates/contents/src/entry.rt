@@ -12,7 +12,7 @@ pub const ENTRY_NUMBERS: usize = 3;
 
 // What the contents say of a list: its tag, where its body starts in the book, and how many nodes
 // it has.
-#[derive(Clone, Copy)]
+#[derive(Clone, Copy, Default)]
 pub struct Entry {
     pub tag: u32,
     pub offset: u32,
@@ -30,10 +30,7 @@ pub fn contents_end(lists: u32) -> usize
 pub fn entry_count(book: &[u8]) -> usize
     ensures { result ≡ entry_count book.now }
 {
-    if book.len() < NUMBER_BYTES {
-        return 0;
-    }
-    (book.len() / NUMBER_BYTES - 1) / ENTRY_NUMBERS
+    (book.len() / NUMBER_BYTES).saturating_sub(1) / ENTRY_NUMBERS
 }
 
 // Returns the entry at `index` of the book's contents, or an entry of zeros where there could be
@@ -42,11 +39,7 @@ pub fn entry_at(book: &[u8], index: usize) -> Entry
     ensures { result ≡ entry_at book.now index }
 {
     if entry_count(book) <= index {
-        return Entry {
-            tag: 0,
-            offset: 0,
-            count: 0,
-        };
+        return Entry::default();
     }
     let at = 1 + ENTRY_NUMBERS * index;
     Entry {

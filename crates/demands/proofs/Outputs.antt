@@ -5,15 +5,18 @@
 use mathlib.Core.Path.{◌≡◌, refl}
 use mathlib.Core.List.{List}
 use mathlib.Core.Logic.{inl, inr}
-use mathlib.Core.Bool.{◌&&◌}
+use mathlib.Core.Bool.{true, false}
 use Prim.Native.Nat.{ℕ, ◌*◌, ◌≤◌}
 use native.Mathlib.Omega.{arith}
 use lib.ListN.{length, drop, length-append, length-drop}
-use lib.Dec.{eqb, leb}
+use lib.Dec.{leb}
 use lib.Seq.{drop-append_seam}
-use borrow.Author.Tests.{eqb-true, leb-true}
-use Rattle.answers.specs.Answer.{TAKEN, ROOM, ABSENT}
+use borrow.Author.Tests.{leb-true}
+use Rattle.answers.specs.Answer.{TAKEN}
+use Rattle.std.specs.Prelude.{Result}
+use Rattle.answers.specs.declared.refusal.Refusal.{Refusal}
 use Rattle.answers.specs.declared.verdict.Counted.{Counted}
+use Rattle.answers.specs.Refusal.{answer_in}
 use Rattle.answers.proofs.OutputLaws.{refused_alters_nothing, beyond_unaltered, output_length}
 use Rattle.answers.specs.Output.{written}
 use Rattle.laws.proofs.Tests.{either, and_read}
@@ -36,7 +39,7 @@ use Rattle.sheets.specs.Sheet.{SUBTOTAL_WORDS, sheet_in, check_sheet, sheet_of, 
 use Rattle.sheets.proofs.Answered.{sheet_length}
 use Rattle.writing.specs.WriteCall.{check_wanted, bytes_for, written_of_up_to, written_of, written_output_up_to, written_output}
 use Rattle.joins.specs.declared.copy.Lengths.{Lengths}
-use Rattle.joins.specs.Join.{tag_words, thereb, fitb, copy_answer, lengths_of, first_after, second_after}
+use Rattle.joins.specs.Join.{tag_words, ancestors_in, descendants_in, thereb, fitb, copy_answer, lengths_of, first_after, second_after}
 use Rattle.questions.specs.declared.ask.Pages.{Pages}
 use Rattle.questions.specs.Ask.{ask_of, ask_output}
 use Rattle.questions.specs.Demanded.{count_in}
@@ -179,7 +182,7 @@ kept words out l = (
 
 -- Copying the lists under two tags of a book into two outputs:
 module _ (book : List ℕ) (lists ancestors descendants : ℕ) (first second : List ℕ) where
-  abbrev copying : Lengths
+  abbrev copying : Result Lengths Refusal
   copying = lengths_of book lists ancestors descendants first second
 
   abbrev first_copy : List ℕ
@@ -188,55 +191,46 @@ module _ (book : List ℕ) (lists ancestors descendants : ℕ) (first second : L
   abbrev second_copy : List ℕ
   second_copy = second_after book lists ancestors descendants first second
 
-  -- a refusal counts no word and alters none of the first output,
-  pub refused_copy_keeps_the_first : AltersNothing copying.verdict.answer copying.ancestors first first_copy
-  unfolding lengths_of first_after
-  refused_copy_keeps_the_first r =
-      elim (either (eqb (copy_answer book lists ancestors descendants first second) TAKEN)) [
-        | inl h ↦ absurd (r (rw h refl))
-        | inr h ↦ rw h (refl, refl)
+  -- Both lists are copied, or they don't fit, or one isn't there.
+  by_copy : {P : Type 0} → (thereb book lists ancestors descendants ≡ true → fitb book lists ancestors descendants first second ≡ true → P)
+      → (thereb book lists ancestors descendants ≡ true → fitb book lists ancestors descendants first second ≡ false → P)
+      → (thereb book lists ancestors descendants ≡ false → P) → P
+  by_copy copied full absent =
+      elim (either (thereb book lists ancestors descendants)) [
+        | inl t ↦ elim (either (fitb book lists ancestors descendants first second)) [ inl f ↦ copied t f | inr f ↦ full t f ]
+        | inr t ↦ absent t
       ]
+
+  -- a refusal counts no word and alters none of the first output,
+  pub refused_copy_keeps_the_first : AltersNothing (answer_in copying) (ancestors_in copying) first first_copy
+  unfolding lengths_of first_after copy_answer
+  refused_copy_keeps_the_first r =
+      by_copy (λ t f. absurd (r (rw (t, f) refl))) (λ t f. rw (t, f) (refl, refl)) (λ t. rw t (refl, refl))
 
   -- nor of the second;
-  pub refused_copy_keeps_the_second : AltersNothing copying.verdict.answer copying.descendants second second_copy
-  unfolding lengths_of second_after
+  pub refused_copy_keeps_the_second : AltersNothing (answer_in copying) (descendants_in copying) second second_copy
+  unfolding lengths_of second_after copy_answer
   refused_copy_keeps_the_second r =
-      elim (either (eqb (copy_answer book lists ancestors descendants first second) TAKEN)) [
-        | inl h ↦ absurd (r (rw h refl))
-        | inr h ↦ rw h (refl, refl)
-      ]
+      by_copy (λ t f. absurd (r (rw (t, f) refl))) (λ t f. rw (t, f) (refl, refl)) (λ t. rw t (refl, refl))
 
-  fits : copy_answer book lists ancestors descendants first second ≡ TAKEN
+  fits : fitb book lists ancestors descendants first second ≡ true
       → (length (tag_words book lists ancestors) ≤ length first) × (length (tag_words book lists descendants) ≤ length second)
-  unfolding copy_answer fitb
-  fits h =
-      let one = leb (length (tag_words book lists ancestors)) (length first) in
-      let two = leb (length (tag_words book lists descendants)) (length second) in
-      elim (either (thereb book lists ancestors descendants)) [
-        | inl t ↦ elim (either (one && two)) [
-          | inl f ↦ let p = and_read one f in (leb-true _ _ p.0, leb-true _ _ p.1)
-          | inr f ↦ let e : ROOM ≡ TAKEN = rw (t, f) at h in absurd (omega arith)
-        ]
-        | inr t ↦ let e : ABSENT ≡ TAKEN = rw t at h in absurd (omega arith)
-      ]
+  unfolding fitb
+  fits f =
+      let p = and_read (leb (length (tag_words book lists ancestors)) (length first)) f in
+      (leb-true _ _ p.0, leb-true _ _ p.1)
 
   -- no word of the first output after those that it counts is altered,
-  pub copy_keeps_beyond_the_first : KeepsBeyond copying.ancestors first first_copy
-  unfolding lengths_of first_after
+  pub copy_keeps_beyond_the_first : KeepsBeyond (ancestors_in copying) first first_copy
+  unfolding lengths_of first_after copy_answer
   copy_keeps_beyond_the_first =
-      elim (either (eqb (copy_answer book lists ancestors descendants first second) TAKEN)) [
-        | inl h ↦ rw h (kept (tag_words book lists ancestors) first (fits (eqb-true _ _ h)).0)
-        | inr h ↦ rw h (refl, refl)
-      ]
+      by_copy (λ t f. rw (t, f) (kept (tag_words book lists ancestors) first (fits f).0)) (λ t f. rw (t, f) (refl, refl)) (λ t. rw t (refl, refl))
 
   -- nor of the second.
-  pub copy_keeps_beyond_the_second : KeepsBeyond copying.descendants second second_copy
-  unfolding lengths_of second_after
+  pub copy_keeps_beyond_the_second : KeepsBeyond (descendants_in copying) second second_copy
+  unfolding lengths_of second_after copy_answer
   copy_keeps_beyond_the_second =
-      elim (either (eqb (copy_answer book lists ancestors descendants first second) TAKEN)) [
-        | inl h ↦ rw h (kept (tag_words book lists descendants) second (fits (eqb-true _ _ h)).1)
-        | inr h ↦ rw h (refl, refl)
-      ]
+      by_copy (λ t f. rw (t, f) (kept (tag_words book lists descendants) second (fits f).1)) (λ t f. rw (t, f) (refl, refl)) (λ t. rw t (refl, refl))
 
 -- Asking a book several questions:
 module _ (book words out : List ℕ) where

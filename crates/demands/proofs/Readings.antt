@@ -9,6 +9,7 @@ use mathlib.Core.Bool.{true, false}
 use mathlib.Core.List.{List}
 use Prim.Native.Nat.{ℕ, ◌≤◌, ◌<◌}
 use lib.Ieee.{binary32, to_bits, of_int, le}
+use Rattle.std.specs.Prelude.{None, Some, Ok, Err}
 use Rattle.answers.specs.Answer.{TAKEN, RAGGED, READING, ABSENT}
 use Rattle.answers.specs.declared.verdict.Verdict.{Verdict}
 use Rattle.answers.specs.Verdict.{ANCESTORS, verdict, taken}
@@ -22,10 +23,8 @@ use Rattle.readings.specs.Refusal.{Unread}
 use Rattle.readings.specs.Sample.{Sample, samples_in, pairedb, faultyb, in_zone}
 use Rattle.readings.proofs.Refused.{faulty_iff}
 use Rattle.ranges.specs.declared.range.Range.{Range}
-use Rattle.ranges.specs.declared.range.ZoneRange.{ZoneRange}
-use Rattle.ranges.specs.declared.range.ZoneRange.TheVariants.{Found, NoReading, Refused}
 use Rattle.ranges.specs.Demanded.{AcceptedRange, not_missing, sample_words, reading_words, GivesNone, Extreme, FirstFaulty}
-use Rattle.ranges.specs.Range.{below, above, zone_range}
+use Rattle.ranges.specs.Range.{ZoneRange, below, above, zone_range}
 use Rattle.ranges.proofs.Answered.{accepted_iff, refusal_not_taken, lists_told, ragged_iff, reading_iff, faulty_drawn, reading_named, absent_iff}
 use Rattle.ranges.proofs.Found.{found_low, found_high, extreme_bounds, no_reading_iff, same_inside, without_outside}
 use Rattle.ranges.proofs.Without.{without_missing}
@@ -57,36 +56,36 @@ module _ (zones samples readings : List ℕ) (zone : ℕ) where
   range_accepted_exactly_when = accepted_iff zones samples readings zone
 
   -- What the check of the two lists refuses is refused with its answer, whatever else is wrong.
-  pub lists_come_first : ((check_two zones samples).answer ≡ TAKEN → ⊥) → answer ≡ Refused (check_two zones samples)
+  pub lists_come_first : ((check_two zones samples).answer ≡ TAKEN → ⊥) → answer ≡ Err (check_two zones samples)
   lists_come_first = lists_told zones samples readings zone
 
   -- Where the lists pass, RAGGED is answered exactly when the readings aren't as many as the
   -- samples.
-  pub ragged_exactly_when : (check_two zones samples).answer ≡ TAKEN → (answer ≡ Refused (verdict RAGGED ANCESTORS 0)) ↔ (pairedb samples readings ≡ false)
+  pub ragged_exactly_when : (check_two zones samples).answer ≡ TAKEN → (answer ≡ Err (verdict RAGGED ANCESTORS 0)) ↔ (pairedb samples readings ≡ false)
   ragged_exactly_when = ragged_iff zones samples readings zone
 
   -- Where there is a reading for each sample too, READING at the index i is answered exactly when
   -- the sample at i is the first whose reading is faulty.
-  pub reading_exactly_when : (i : ℕ) → (answer ≡ Refused (verdict READING ANCESTORS i))
+  pub reading_exactly_when : (i : ℕ) → (answer ≡ Err (verdict READING ANCESTORS i))
       ↔ (((check_two zones samples).answer ≡ TAKEN) × (pairedb samples readings ≡ true) × FirstFaulty ss i)
   reading_exactly_when = reading_iff zones samples readings zone
 
   -- So a faulty reading of any sample, in the zone or not, draws READING at some index.
   pub a_faulty_reading_is_refused : (check_two zones samples).answer ≡ TAKEN → pairedb samples readings ≡ true → (s : Sample) → In s ss
-      → faultyb s ≡ true → (i : ℕ) × (answer ≡ Refused (verdict READING ANCESTORS i))
+      → faultyb s ≡ true → (i : ℕ) × (answer ≡ Err (verdict READING ANCESTORS i))
   a_faulty_reading_is_refused = faulty_drawn zones samples readings zone
 
   -- No other refusal has the answer READING.
-  pub no_other_reading : (v : Verdict) → answer ≡ Refused v → v.answer ≡ READING → v ≡ verdict READING ANCESTORS v.index
+  pub no_other_reading : (v : Verdict) → answer ≡ Err v → v.answer ≡ READING → v ≡ verdict READING ANCESTORS v.index
   no_other_reading = reading_named zones samples readings zone
 
   -- ABSENT is answered exactly when nothing else is wrong and no zone has the index.
-  pub absent_exactly_when : (answer ≡ Refused (verdict ABSENT ANCESTORS 0)) ↔ (((check_two zones samples).answer ≡ TAKEN)
+  pub absent_exactly_when : (answer ≡ Err (verdict ABSENT ANCESTORS 0)) ↔ (((check_two zones samples).answer ≡ TAKEN)
       × (pairedb samples readings ≡ true) × All (λ s. faultyb s ≡ false) ss × (count zones ≤ zone))
   absent_exactly_when = absent_iff zones samples readings zone
 
   -- A refusal never has the answer TAKEN.
-  pub refusal_is_not_taken : (v : Verdict) → answer ≡ Refused v → v.answer ≡ TAKEN → ⊥
+  pub refusal_is_not_taken : (v : Verdict) → answer ≡ Err v → v.answer ≡ TAKEN → ⊥
   refusal_is_not_taken = refusal_not_taken zones samples readings zone
 
   -- Where it is accepted:
@@ -97,7 +96,7 @@ module _ (zones samples readings : List ℕ) (zone : ℕ) where
     missing_is_never_a_number = without_missing zones samples readings zone accepted
 
     -- That no reading counts is answered exactly when no sample inside the zone has one.
-    pub no_reading_exactly_when : (answer ≡ NoReading) ↔ All (λ s. insideb s.node asked ≡ true → GivesNone s) ss
+    pub no_reading_exactly_when : (answer ≡ Ok None) ↔ All (λ s. insideb s.node asked ≡ true → GivesNone s) ss
     no_reading_exactly_when = no_reading_iff zones samples readings zone accepted
 
     -- Other samples change nothing. Leave out all that aren't inside the zone: the answer stays.
@@ -105,7 +104,7 @@ module _ (zones samples readings : List ℕ) (zone : ℕ) where
     outside_changes_nothing = without_outside zones samples readings zone accepted
 
   -- Where it answers a low and a high:
-  module _ (range : Range) (found : answer ≡ Found range) where
+  module _ (range : Range) (found : answer ≡ Ok (Some range)) where
     -- The low comes from a sample inside the zone: it is that sample's reading in percent. No
     -- reading inside the zone lies below it, and none of an earlier sample equals it.
     pub low_is_the_first_lowest : Extreme below asked ss range.low
@@ -140,16 +139,16 @@ module _ (zones samples readings : List ℕ) (zone : ℕ) where
   to_c = shown_range (zone_range zones samples readings zone)
 
   -- Where no reading is present, C gets no number,
-  pub c_gets_no_number_of_none : zone_range zones samples readings zone ≡ NoReading → (to_c.verdict ≡ taken) × NoNumber to_c
+  pub c_gets_no_number_of_none : zone_range zones samples readings zone ≡ Ok None → (to_c.verdict ≡ taken) × NoNumber to_c
   unfolding to_bits of_int
   c_gets_no_number_of_none h = rw h (refl, (refl, refl, refl))
 
   -- and none where the call is refused.
-  pub c_gets_no_number_of_a_refusal : (v : Verdict) → zone_range zones samples readings zone ≡ Refused v → (to_c.verdict ≡ v) × NoNumber to_c
+  pub c_gets_no_number_of_a_refusal : (v : Verdict) → zone_range zones samples readings zone ≡ Err v → (to_c.verdict ≡ v) × NoNumber to_c
   unfolding to_bits of_int
   c_gets_no_number_of_a_refusal v h = rw h (refl, (refl, refl, refl))
 
   -- A low and a high reach C as they are, and as present.
-  pub c_gets_the_range : (range : Range) → zone_range zones samples readings zone ≡ Found range
+  pub c_gets_the_range : (range : Range) → zone_range zones samples readings zone ≡ Ok (Some range)
       → to_c ≡ record { verdict = taken; present = 1; low = range.low; high = range.high }
   c_gets_the_range range h = rw h refl

@@ -1,6 +1,6 @@
 -- docs/SCOPE.md, "Figures to hold against it": the cases marked [P] and some of our own, as rows of
 -- one table. Each row has its number above it.
-use Rattle.std.specs.Prelude.{ℕ, zero, suc, ◌+◌, ◌*◌, ◌/◌, ◌%◌, Bool, true, cond, ◌&&◌, length, replicate, take, drop, set}
+use Rattle.std.specs.Prelude.{ℕ, zero, suc, ◌+◌, ◌*◌, ◌/◌, ◌%◌, Bool, true, cond, ◌&&◌, length, replicate, take, drop, set, Float, Option, None, Some, Ok, Err}
 use mathlib.Core.List.{List, [], ◌∷◌, ◌++◌, map, flat_map}
 use Rattle.std.specs.Float.{binary32}
 use Rattle.std.specs.Float.Ieee.{to_bits}
@@ -11,14 +11,9 @@ use Rattle.answers.specs.declared.verdict.Verdict.{Verdict}
 use Rattle.lists.specs.Check.{check_words}
 use Rattle.lists.specs.Two.{check_two}
 use Rattle.answers.specs.Verdict.{ANCESTORS, DESCENDANTS}
-use Rattle.readings.specs.declared.reading.Decoded.{Decoded}
-use Rattle.readings.specs.declared.reading.Decoded.TheVariants.{Read, Faulty}
-use Rattle.readings.specs.declared.reading.Percentage.{Percentage}
-use Rattle.readings.specs.declared.reading.Percentage.TheVariants.{Of, Missing}
+use Rattle.readings.specs.declared.reading.Reading.{Reading}
 use Rattle.readings.specs.Reading.{MISSING, PERCENT, GRAMS, decode, percent_of}
-use Rattle.ranges.specs.declared.range.ZoneRange.{ZoneRange}
-use Rattle.ranges.specs.declared.range.ZoneRange.TheVariants.{Found, NoReading, Refused}
-use Rattle.ranges.specs.Range.{zone_range}
+use Rattle.ranges.specs.Range.{ZoneRange, zone_range}
 use Rattle.tickets.specs.declared.ticket.Order.{Order}
 use Rattle.tickets.specs.declared.ticket.Order.TheVariants.{Descendant, Ancestor}
 use Rattle.tickets.specs.declared.ticket.Place.{Place}
@@ -218,14 +213,14 @@ abbrev pub six_rows : List (ℕ × ℕ × ℕ × ℕ)
 six_rows = (1, 11, 1, 1) ∷ (2, 10, 2, 2) ∷ (3, 7, 3, 2) ∷ (4, 6, 4, 3) ∷ (5, 5, 5, TEXT) ∷ (8, 9, 3, 3) ∷ []
 
 -- A percentage as numbers: 1 and the bits of its value, or 1 alone where it is missing.
-abbrev pub percent_numbers : Percentage → List ℕ
-percent_numbers (Of p) = 1 ∷ to_bits binary32 p ∷ []
-percent_numbers Missing = 1 ∷ []
+abbrev pub percent_numbers : Option Float → List ℕ
+percent_numbers (Some p) = 1 ∷ to_bits binary32 p ∷ []
+percent_numbers None = 1 ∷ []
 
 -- What two words stand for, as numbers: the percentage, or 0 for a fault.
-abbrev pub decoded_numbers : Decoded → List ℕ
-decoded_numbers (Read reading) = percent_numbers (percent_of reading)
-decoded_numbers Faulty = 0 ∷ []
+abbrev pub decoded_numbers : Option Reading → List ℕ
+decoded_numbers (Some reading) = percent_numbers (percent_of reading)
+decoded_numbers None = 0 ∷ []
 
 -- A figure of a reading in percent or in grams that is taken: the bits of its value in percent.
 abbrev pub value : ℕ → ℕ → ℕ → Figure
@@ -242,9 +237,9 @@ unread pairs = record { found = flat_map (λ p. decoded_numbers (decode p.0 p.1)
 -- What a zone's range shows, as numbers: the verdict, then 1 with the bits of low and high, or 0
 -- where there is neither.
 abbrev pub range_numbers : ZoneRange → List ℕ
-range_numbers (Found r) = TAKEN ∷ ANCESTORS ∷ 0 ∷ 1 ∷ to_bits binary32 r.low ∷ to_bits binary32 r.high ∷ []
-range_numbers NoReading = TAKEN ∷ ANCESTORS ∷ 0 ∷ 0 ∷ []
-range_numbers (Refused v) = verdict_numbers v ++ (0 ∷ [])
+range_numbers (Ok (Some r)) = TAKEN ∷ ANCESTORS ∷ 0 ∷ 1 ∷ to_bits binary32 r.low ∷ to_bits binary32 r.high ∷ []
+range_numbers (Ok None) = TAKEN ∷ ANCESTORS ∷ 0 ∷ 0 ∷ []
+range_numbers (Err v) = verdict_numbers v ++ (0 ∷ [])
 
 -- What a zone shows whose readings go from one value to another, both given by their bits.
 abbrev pub from_to : ℕ → ℕ → List ℕ

@@ -9,8 +9,8 @@ mod say;
 ghost use Rattle.std.specs.Prelude.{◌≤◌, length};
 
 use crate::again::{write_odd, write_parts};
-use crate::say::{say, say_number, say_verdict, say_word};
-use books::book::check_book;
+use crate::say::Printed;
+use books::book::{Opened, check_book};
 use books::find::{Found, find_list, find_tag};
 use contents::entry::entry_at;
 use numbers::part::part_of;
@@ -19,7 +19,7 @@ use readers::reader::body_in;
 use std::env::FillError;
 use std::io::{Read, Stdout};
 use std::rt::{Env, Files};
-use std::{fs, str};
+use std::{fs, io, str};
 
 // The number of bytes of a book that there is room for.
 const MOST_BYTES: usize = 65600;
@@ -27,57 +27,46 @@ const MOST_BYTES: usize = 65600;
 // Returns whether `by_tag` and `by_place` name the same part of `book`, and the reader shows it for
 // `tag`.
 fn is_agreed(book: &[u8], tag: u32, by_tag: Found, by_place: Found) -> bool {
-    if by_tag.from != by_place.from {
-        return false;
-    }
-    if by_tag.bytes != by_place.bytes {
-        return false;
-    }
-    body_in(book, tag) == part_of(book, by_tag.from, by_tag.bytes)
+    (by_tag.from, by_tag.bytes) == (by_place.from, by_place.bytes)
+        && body_in(book, tag) == part_of(book, by_tag.from, by_tag.bytes)
 }
 
 // Prints where the list at `position` lies when it is looked for by its tag. Says so if it lies
 // elsewhere by its place or in the reader.
-fn say_list(stdout: Stdout, book: &[u8], position: usize) {
-    let entry = entry_at(book, position);
-    let tag = entry.tag;
-    let found = find_tag(book, tag);
-    say_word(stdout, b"tag ", tag);
-    say_number(stdout, b" from ", found.from);
-    say_number(stdout, b" bytes ", found.bytes);
-    if !is_agreed(book, tag, found, find_list(book, position)) {
-        say(stdout, b", elsewhere by its place");
+fn say_list(stdout: Stdout, book: &[u8], position: usize) -> io::Result<()> {
+    let tag = entry_at(book, position).tag;
+    let by_tag = Found::from(find_tag(book, tag));
+    let by_place = Found::from(find_list(book, position));
+    print!(stdout; "tag {tag} from {} bytes {}", by_tag.from, by_tag.bytes)?;
+    if !is_agreed(book, tag, by_tag, by_place) {
+        print!(stdout; ", elsewhere by its place")?;
     }
-    say(stdout, b"\n");
+    println!(stdout; "")
 }
 
 // Prints where each of the `lists` of `book` lies.
-fn say_lists(stdout: Stdout, book: &[u8], lists: u32) {
-    let mut position = 0;
-    // Rests on arithmetic alone: `position` rises to `lists`.
-    while position < lists as usize {
-        say_list(stdout, book, position);
-        position += 1;
+fn say_lists(stdout: Stdout, book: &[u8], lists: u32) -> io::Result<()> {
+    for position in 0..lists as usize {
+        say_list(stdout, book, position)?;
     }
+    Ok(())
 }
 
 // Runs the case of `book`, which the file `name` holds.
-fn run_case(stdout: Stdout, name: &[u8], book: &[u8]) {
-    say(stdout, b"== ");
-    say(stdout, name);
-    say_number(stdout, b": ", book.len());
-    say(stdout, b" bytes\n");
-    let opened = check_book(book);
-    say_verdict(stdout, b"read ", opened.verdict);
-    say_word(stdout, b" lists ", opened.lists);
-    say(stdout, b"\n");
-    say_lists(stdout, book, opened.lists);
-    write_parts(stdout, book);
-    print_book(stdout, book);
+fn run_case(stdout: Stdout, name: &str, book: &[u8]) -> io::Result<()> {
+    println!(stdout; "== {name}: {} bytes", book.len())?;
+    let Opened { verdict, lists } = check_book(book).into();
+    let verdict = Printed(verdict);
+    println!(stdout; "read {verdict} lists {lists}")?;
+    say_lists(stdout, book, lists)?;
+    write_parts(stdout, book)?;
+    let _ = print_book(stdout, book);
+    Ok(())
 }
 
 // Reads until `buffer` is full, the input ends or a read fails, and returns how many bytes that
 // put at the start of `buffer`.
+// By hand: `read_to_end` wants a heap, and `read_exact` doesn't tell how many bytes came.
 fn read_full(input: &mut impl Read, buffer: &mut [u8]) -> usize
     ensures { result ≤ length buffer.new }
 {
@@ -94,34 +83,33 @@ fn read_full(input: &mut impl Read, buffer: &mut [u8]) -> usize
 }
 
 // Runs the case of the book `name`, which `input` reads.
-fn read_case(stdout: Stdout, input: &mut impl Read, name: &[u8]) {
+fn read_case(stdout: Stdout, input: &mut impl Read, name: &str) -> io::Result<()> {
     let mut book = [0u8; MOST_BYTES];
     let length = read_full(input, &mut book);
-    run_case(stdout, name, &book[0..length]);
+    run_case(stdout, name, &book[..length])
 }
 
 // Runs the case of the book that the file `name` holds, or says on standard error why it can't be
 // opened.
-fn run_file(rt: &(impl Eprint + Files), stdout: Stdout, name: &str) {
+fn run_file(rt: &(impl Eprint + Files), stdout: Stdout, name: &str) -> io::Result<()> {
     match fs::open(rt, name) {
-        Ok(mut file) => read_case(stdout, &mut file, name.as_bytes()),
-        Err(error) => {
-            let _ = eprintln!(rt; "{name}: {error}");
-        }
+        Ok(mut file) => read_case(stdout, &mut file, name),
+        Err(error) => eprintln!(rt; "{name}: {error}"),
     }
 }
 
 // Runs the case of the book that the argument at `index` names. Returns whether there is such an
-// argument.
+// argument. Where standard output can't be written, the next case is run all the same.
+// By hand: `env::args` makes a String of each argument, which wants a heap.
 fn run_argument(rt: &(impl Env + Eprint + Files), stdout: Stdout, index: usize) -> bool {
     let mut path = [0u8; 4096];
     match rt.arg(index, &mut path) {
         Ok(length) => {
-            run_file(rt, stdout, str::from_utf8(&path[0..length]).unwrap_or(""));
+            let _ = run_file(rt, stdout, str::from_utf8(&path[..length]).unwrap_or(""));
             true
         }
         Err(FillError::TooLong) => {
-            run_file(rt, stdout, "");
+            let _ = run_file(rt, stdout, "");
             true
         }
         Err(FillError::NotPresent) => false,
@@ -135,5 +123,5 @@ fn main(rt: HostRuntime) {
             break;
         }
     }
-    write_odd(rt.stdout());
+    let _ = write_odd(rt.stdout());
 }

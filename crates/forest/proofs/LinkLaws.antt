@@ -5,23 +5,44 @@ use mathlib.Core.Path.{◌≡◌, refl, sym, ap, ◌∙◌}
 use mathlib.Core.Logic.{inl, inr}
 use mathlib.Core.Bool.{false}
 use mathlib.Core.List.{List, [], ◌∷◌, ◌++◌, map, flat_map, append_assoc}
-use Prim.Native.Nat.{ℕ, zero, suc, ◌+◌, ◌*◌, ◌/◌, ◌<◌}
+use Prim.Native.Nat.{ℕ, zero, suc, ◌+◌, ◌*◌, ◌/◌, ◌≤◌, ◌<◌}
 use native.Mathlib.Nat.{not-suc-le-zero, suc-add}
 use native.Mathlib.Numerals.{add-one}
 use native.Mathlib.Omega.{arith}
 use lib.ListN.{length, get_or, set, drop, length-append, get_or-append}
-use lib.Seq.{sets, sets-eq, set-append_left, get_or-append-add, get_or-take, take_at, drop-append-add, drop-drop}
+use lib.Seq.{sets, sets-eq, set-append_left, get_or-append-add, get_or-take, take_at}
+use lib.Dec.{eqb}
+use borrow.Author.Tests.{eqb-true, eqb-false}
+use Rattle.std.specs.Prelude.{Some, None}
+use Rattle.std.proofs.lemmas.Slice.{drop-append-drop}
+use Rattle.laws.proofs.Tests.{either}
 use Rattle.nodes.specs.declared.node.Node.{Node}
 use Rattle.nodes.specs.Words.{nodes, count}
 use Rattle.answers.specs.Output.{words_in, written}
 use Rattle.nodes.proofs.WordLaws.{length_nodes}
 use Rattle.forest.specs.declared.link.Link.{Link}
-use Rattle.forest.specs.Private.Climb.{Elder, Linking, link, child_to, next_to, link_to, links_to}
+use Rattle.forest.specs.Private.Climb.{index_in, word_of, Elder, Linking, link, child_to, next_to, link_to, links_to}
 use Rattle.forest.specs.Linked.{links_in}
 use Rattle.forest.specs.Links.{NONE, up_to, link_words, indices, parent_of, child_of, next_of, siblingb, link_of, links_of}
 use Rattle.forest.proofs.FirstAndLast.{last_or_below}
 use Rattle.forest.proofs.Containing.{AcceptedList}
 use Rattle.forest.proofs.OneMoreNode.{alone, elder_gets, elder_only, parent_only, parent_gets}
+
+-- An index read from a word is the word, and only NONE is read as no index. Written again, it is
+-- the same word.
+module _ (word : ℕ) where
+  pub index_read : (index : ℕ) → Some index ≡ index_in word → (index ≡ word) × (index ≡ NONE → ⊥)
+  index_read index s =
+      elim (either (eqb word NONE)) [
+        | inl h ↦ let t = rw h at s in cc
+        | inr h ↦ let t = rw h at s in let e : index ≡ word = cc in (e, λ z. eqb-false word NONE h (sym e ∙ z))
+      ]
+
+  pub index_none : None ≡ index_in word → word ≡ NONE
+  index_none s = elim (either (eqb word NONE)) [ inl h ↦ eqb-true word NONE h | inr h ↦ let t = rw h at s in cc ]
+
+  pub word_back : word_of (index_in word) ≡ word
+  word_back = elim (either (eqb word NONE)) [ inl h ↦ rw h (sym (eqb-true word NONE h)) | inr h ↦ rw h refl ]
 
 -- The words of the links of the first `k` nodes.
 abbrev words : (ℕ → Link) → ℕ → List ℕ
@@ -156,16 +177,19 @@ module _ (ns : List Node) where
   unfolding links_to written up_to words_in flat_map
   links_none out = refl
 
+  -- Links of more nodes cover those of fewer.
+  pub links_over : (k m : ℕ) (base out : List ℕ) → k ≤ m → out ≡ written (links_to ns k) base
+      → written (links_to ns m) out ≡ written (links_to ns m) base
+  unfolding links_to written
+  links_over k m base out l p =
+      let ws = words (link_to ns k) k in
+      let more = words (link_to ns m) m in
+      let covers : length ws ≤ length more = omega (arith, words_length (link_to ns k) k, words_length (link_to ns m) m) in
+      ap (λ zs. more ++ drop (length more) zs) p ∙ ap (λ zs. more ++ zs) (drop-append-drop (length ws) base ws (length more) covers refl)
+
   pub links_more : (k : ℕ) (base out after : List ℕ) → out ≡ written (links_to ns k) base → after ≡ written (links_to ns (k + 1)) out
       → after ≡ written (links_to ns (k + 1)) base
-  unfolding links_to written
-  links_more k base out after p q =
-      let ws = words (link_to ns k) k in
-      let more = words (link_to ns (k + 1)) (k + 1) in
-      let long : length more ≡ length ws + 3 = omega (arith, words_length (link_to ns k) k, words_length (link_to ns (k + 1)) (k + 1)) in
-      q ∙ ap (λ n. more ++ drop n out) long ∙ ap (λ zs. more ++ drop (length ws + 3) zs) p
-      ∙ ap (λ zs. more ++ zs) (drop-append-add ws (drop (length ws) base) 3 ∙ drop-drop 3 (length ws) base)
-      ∙ ap (λ n. more ++ drop n base) (sym long)
+  links_more k base out after p q = q ∙ links_over k (k + 1) base out (omega arith) p
 
 -- The links of all nodes.
 pub links_all : (list : List ℕ) (k : ℕ) → k ≡ count list → links_to (nodes list) k ≡ links_in list

@@ -4,8 +4,9 @@
 -- would be caught here.
 use mathlib.Core.Path.{◌≡◌}
 use Rattle.laws.proofs.Only.{only}
+use Rattle.answers.proofs.RefusalLaws.{counted_only}
 use Rattle.forest.proofs.forest.link_list.Reads as link-list
 
 pub link_list_only : (κs : _) (a : _) (r r' : _) (s s' : _) → link-list.Post κs a r s → link-list.Post κs a r' s'
     → (s.1.0.now ≡ s'.1.0.now) × (r ≡ r')
-link_list_only κs a r r' s s' p q = (only p.output q.output, only p.answer q.answer)
+link_list_only κs a r r' s s' p q = (only p.output q.output, counted_only r r' (only p.answer q.answer))

@@ -10,16 +10,15 @@ ghost use Rattle.lists.specs.Check.{check_words};
 ghost use Rattle.forest.specs.Private.Climb.{Linking, Ended, Elder, firstb};
 ghost use Rattle.forest.specs.Links.{LINK_WORDS};
 
-use crate::link::{NONE, parent_at};
+use crate::link::parent_at;
 use nodes::node::{NODE_WORDS, node_at};
 
-// Returns whether the node at `index` is the first one of its document in an accepted list.
+// Returns whether the node at `index`, which isn't the list's first one, is the first one of its
+// document in an accepted list.
 pub(crate) fn is_first(list: &[u32], index: usize) -> bool
+    requires { 0 < index }
     ensures { result ≡ firstb (nodes list.now) index }
 {
-    if index == 0 {
-        return true;
-    }
     node_at(list, index - 1).document != node_at(list, index).document
 }
 
@@ -41,14 +40,12 @@ pub(crate) fn elder_of(list: &[u32], links: &[u32], index: usize) -> usize
 {
     let start = node_at(list, index).start;
     let mut elder = index - 1;
-    let mut parent = parent_at(links, elder);
     // Rests on Climbing: pass_parent, elder_passed.
-    while parent != NONE {
+    while let Some(parent) = parent_at(links, elder) {
         if start <= end_at(list, parent as usize) {
             return elder;
         }
         elder = parent as usize;
-        parent = parent_at(links, elder);
     }
     elder
 }

@@ -1,10 +1,10 @@
 -- Two lists of a book by their tags, as words. The answer is ABSENT if one isn't there.
-use Rattle.std.specs.Prelude.{ℕ, Bool, cond, ◌&&◌, List, leb, eqb, length}
+use Rattle.std.specs.Prelude.{ℕ, Bool, cond, ◌&&◌, List, Result, Ok, Err, leb, eqb, length}
+use Rattle.answers.specs.declared.refusal.Refusal.{Refusal}
+use Rattle.answers.specs.declared.refusal.Refusal.TheVariants.{Absent, Room}
 use Rattle.answers.specs.Answer.{TAKEN, ROOM, ABSENT}
 use Rattle.answers.specs.Output.{written}
 use Rattle.numbers.specs.Little.{numbers}
-use Rattle.answers.specs.declared.verdict.Verdict.{Verdict}
-use Rattle.answers.specs.Verdict.{ANCESTORS, verdict, taken}
 use Rattle.books.specs.Find.{has_tag, tag_body}
 use Rattle.joins.specs.declared.copy.Lengths.{Lengths}
 
@@ -12,13 +12,23 @@ use Rattle.joins.specs.declared.copy.Lengths.{Lengths}
 unfoldable pub tag_words : List ℕ → ℕ → ℕ → List ℕ
 tag_words book lists tag = numbers (tag_body book lists tag)
 
--- The answer of copying, with its three fields.
-abbrev pub lengths : Verdict → ℕ → ℕ → Lengths
-lengths v ancestors descendants = record { verdict = v; ancestors = ancestors; descendants = descendants }
+-- How many words each of two copied lists has.
+abbrev pub lengths : ℕ → ℕ → Lengths
+lengths ancestors descendants = record { ancestors = ancestors; descendants = descendants }
 
--- A refusal names no list and no node, and has no words.
-abbrev pub refused : ℕ → Lengths
-refused answer = lengths (verdict answer ANCESTORS 0) 0 0
+-- A call that is refused, with the reason.
+abbrev pub refused : Refusal → Result Lengths Refusal
+refused refusal = Err refusal
+
+-- How many words of the ancestors, and of the descendants, a call copied that returns these
+-- lengths, or a refusal.
+abbrev pub ancestors_in : Result Lengths Refusal → ℕ
+ancestors_in (Ok l) = l.ancestors
+ancestors_in (Err _) = 0
+
+abbrev pub descendants_in : Result Lengths Refusal → ℕ
+descendants_in (Ok l) = l.descendants
+descendants_in (Err _) = 0
 
 -- Both tags are there, in a book that was opened before and has `lists` lists.
 unfoldable pub thereb : List ℕ → ℕ → ℕ → ℕ → Bool
@@ -34,11 +44,12 @@ module _ (book : List ℕ) (lists ancestors descendants : ℕ) (first second : L
   unfoldable pub copy_answer : ℕ
   copy_answer = cond (thereb book lists ancestors descendants) (cond fitb TAKEN ROOM) ABSENT
 
-  -- The verdict, and how many words each list has, none on refusal.
-  unfoldable pub lengths_of : Lengths
+  -- How many words each list has, or the refusal with that answer's number.
+  unfoldable pub lengths_of : Result Lengths Refusal
   lengths_of =
-      cond (eqb copy_answer TAKEN) (lengths taken (length (tag_words book lists ancestors)) (length (tag_words book lists descendants)))
-      (refused copy_answer)
+      cond (thereb book lists ancestors descendants)
+      (cond fitb (Ok (lengths (length (tag_words book lists ancestors)) (length (tag_words book lists descendants)))) (refused Room))
+      (refused Absent)
 
   -- The words lent for the ancestors on return: they begin with the list's words; on refusal they
   -- are as they were.

@@ -95,3 +95,6 @@ digits_32 n h = few_digits MOST_DIGITS n 10 (omega arith) (omega arith)
 pub digits_64 : (n : ℕ) → n < 18446744073709551616 → length (decimal n) ≤ 20
 unfolding decimal tens
 digits_64 n h = few_digits MOST_DIGITS n 20 (omega arith) (omega arith)
+
+-- For the tactics: how many digits a number has.
+pub ruleset digit_laws = (length_one, length_two, length_more, digits_32, digits_64)

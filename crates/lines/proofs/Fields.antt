@@ -9,8 +9,11 @@ use native.Mathlib.Omega.{arith}
 use lib.ListN.{length, length-append}
 use Rattle.nodes.specs.declared.node.Node.{Node}
 use Rattle.lines.specs.Line.{BLANK, LINE_FEED, LINE_BYTES, decimal, pair_with, pair_line}
+use Rattle.lines.proofs.Blanks.{unfilled_few}
 use Rattle.lines.proofs.Digits.{digits_32, digits_64}
-use Rattle.lines.proofs.Putting.{Put, Told, put_parted}
+use Rattle.lines.specs.declared.text.Writer.{Writer}
+use Rattle.lines.specs.Private.Puts.{Puts}
+use Rattle.lines.proofs.Putting.{put_parted}
 
 -- A 32-bit number and a byte take at most eleven bytes, a 64-bit one and a byte at most twenty-one.
 pub field_32 : (n b : ℕ) → n < 4294967296 → length (decimal n ++ b ∷ []) ≤ 11
@@ -37,8 +40,11 @@ line_few x y p q r =
     )
 
 -- A field is put after a byte that parts it from what was put before.
-pub put_field : {before : List ℕ} {at : ℕ} {after : List ℕ} {to : ℕ} (us : List ℕ) (a : ℕ) → Put before at (us ++ a ∷ []) after to
-    → {after' : List ℕ} {to' : ℕ} (n b : ℕ) → Told after to (decimal n ++ b ∷ []) after' to'
-    → Put before at (us ++ a ∷ decimal n ++ b ∷ []) after' to'
-put_field {before} {at} us a p {after'} {to'} n b e =
-    subst (λ ws. Put before at ws after' to') (sym (append_assoc us (a ∷ decimal n) (b ∷ []))) (put_parted us a p (decimal n ++ b ∷ []) e)
+pub put_field : {before after : Writer} (us : List ℕ) (a : ℕ) → Puts before (us ++ a ∷ []) after
+    → {later : Writer} (n b : ℕ) → Puts after (decimal n ++ b ∷ []) later
+    → Puts before (us ++ a ∷ decimal n ++ b ∷ []) later
+put_field {before} us a p {later} n b q =
+    subst (λ ws. Puts before ws later) (sym (append_assoc us (a ∷ decimal n) (b ∷ []))) (put_parted us a p (decimal n ++ b ∷ []) q)
+
+-- For the tactics: how long a line's parts are.
+pub ruleset field_laws = (digits_32, digits_64, field_32, field_64, unfilled_few)

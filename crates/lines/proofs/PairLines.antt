@@ -2,13 +2,17 @@
 -- lines grow pair by pair.
 -- What would break it: A pair of other nodes, or a line one pair off, would be caught here.
 use mathlib.Core.Path.{◌≡◌, refl, sym, ap, ◌∙◌}
+use mathlib.Core.Logic.{inl, inr}
 use mathlib.Core.List.{List, [], ◌∷◌, ◌++◌, flat_map}
-use Prim.Native.Nat.{ℕ, zero, suc, ◌+◌, ◌*◌, ◌/◌, ◌≤◌, ◌<◌}
+use Prim.Native.Nat.{ℕ, zero, suc, ◌+◌, ◌*◌, ◌/◌, ◌≤◌, ◌<◌, min}
 use native.Mathlib.Nat.{not-suc-le-zero}
 use native.Mathlib.Numerals.{add-one}
 use native.Mathlib.Omega.{arith}
+use lib.Dec.{ltb}
 use lib.ListN.{length, get_or, take}
 use lib.Seq.{take_all, take-suc}
+use borrow.Author.Tests.{ltb-true, ltb-false}
+use Rattle.laws.proofs.Tests.{either}
 use Rattle.nodes.specs.declared.node.Node.{Node}
 use Rattle.nodes.specs.Words.{node, nodes, count, node_at}
 use Rattle.answers.specs.Output.{words_in}
@@ -74,3 +78,12 @@ module _ (pairs text : List ℕ) (i : ℕ) where
       let l = length_nodes pairs in
       let m = length_pairs (nodes pairs) in
       ap (words_in pair_line) (take_all i ps (omega arith) ∙ sym (take_all (length text / LINE_BYTES) ps (omega arith)))
+
+  -- So are those up to the least of the two numbers.
+  pub lines_least : i ≡ min (length text / LINE_BYTES) (count pairs / 2) → first_lines pairs i ≡ lines_for pairs text
+  lines_least h =
+      let room = length text / LINE_BYTES in
+      elim (either (ltb room (count pairs / 2))) [
+        | inl l ↦ let less = ltb-true room (count pairs / 2) l in lines_fit (omega arith)
+        | inr l ↦ let less = ltb-false room (count pairs / 2) l in lines_all (omega arith) (omega arith)
+      ]

@@ -9,34 +9,27 @@ use lib.ListN.{length, set, length-append}
 use lib.Seq.{sets, set_comm, append_snoc}
 use Rattle.answers.specs.Output.{written}
 use Rattle.answers.proofs.OutputLaws.{sets_more, sets_written}
+use Rattle.lines.specs.declared.text.Writer.{Writer}
+use Rattle.lines.specs.Private.Puts.{Puts}
 
--- A text is put into a buffer at a place: what the buffer holds then, and the place after the text.
-pub record Put (before : List ℕ) (at : ℕ) (us after : List ℕ) (to : ℕ) : Type 0 where
-  pub place : to ≡ at + length us
-  pub shows : after ≡ sets before at us
-
--- The same as a contract says it, and back.
-abbrev pub Told : List ℕ → ℕ → List ℕ → List ℕ → ℕ → Type 0
-Told before at us after to = record { next : to ≡ at + length us; text : after ≡ sets before at us }
-
-pub put_first : (before : List ℕ) (at : ℕ) (us : List ℕ) {after : List ℕ} {to : ℕ} → Told before at us after to → Put before at us after to
-put_first before at us e = record { place = e.next; shows = e.text }
-
-pub put_told : {before : List ℕ} {at : ℕ} {us after : List ℕ} {to : ℕ} → Put before at us after to → Told before at us after to
-put_told p = record { next = p.place; text = p.shows }
+-- Nothing is put where nothing changes.
+pub puts_none : (w : Writer) → Puts w [] w
+puts_none w = record { same = refl; long = refl; next = omega arith; shows = refl }
 
 -- The next text is put right after it.
-pub put_next : {before : List ℕ} {at : ℕ} {us after : List ℕ} {to : ℕ} → Put before at us after to → (vs : List ℕ) {after' : List ℕ} {to' : ℕ}
-    → Told after to vs after' to' → Put before at (us ++ vs) after' to'
-put_next {before} {at} {us} p vs e = record {
-  place = e.next ∙ ap (λ k. k + length vs) p.place ∙ omega (arith, length-append us vs);
-  shows = e.text ∙ (λ k. sets (p.shows k) (p.place k) vs) ∙ sets_more us vs before at (at + length us) refl;
+pub put_next : {before after : Writer} {us : List ℕ} → Puts before us after → (vs : List ℕ) {later : Writer} → Puts after vs later
+    → Puts before (us ++ vs) later
+put_next {before} {us = us} p vs q = record {
+  same = q.same ∙ p.same;
+  long = q.long ∙ p.long;
+  next = q.next ∙ ap (λ k. k + length vs) p.next ∙ omega (arith, length-append us vs);
+  shows = q.shows ∙ (λ k. sets (p.shows k) (p.next k) vs) ∙ sets_more us vs before.text.now before.at (before.at + length us) refl;
 }
 
 -- The next text is put right after a byte that parts the two.
-pub put_parted : {before : List ℕ} {at : ℕ} {after : List ℕ} {to : ℕ} (us : List ℕ) (a : ℕ) → Put before at (us ++ a ∷ []) after to
-    → (vs : List ℕ) {after' : List ℕ} {to' : ℕ} → Told after to vs after' to' → Put before at (us ++ a ∷ vs) after' to'
-put_parted {before} {at} us a p vs {after'} {to'} e = subst (λ ws. Put before at ws after' to') (append_snoc us a vs) (put_next p vs e)
+pub put_parted : {before after : Writer} (us : List ℕ) (a : ℕ) → Puts before (us ++ a ∷ []) after
+    → (vs : List ℕ) {later : Writer} → Puts after vs later → Puts before (us ++ a ∷ vs) later
+put_parted {before} us a p vs {later} q = subst (λ ws. Puts before ws later) (append_snoc us a vs) (put_next p vs q)
 
 -- A text and what lies after it may be stored in either order.
 set_apart : (ws : List ℕ) (at : ℕ) (us : List ℕ) (next v : ℕ) → at + length us ≤ next → sets (set ws next v) at us ≡ set (sets ws at us) next v
@@ -59,7 +52,11 @@ sets_last_first ws at us next vs e = sets_apart ws at us next vs (omega arith) �
 abbrev pub Begins : List ℕ → List ℕ → List ℕ → ℕ → Type 0
 Begins before us after to = record { length : to ≡ length us; text : after ≡ written us before }
 
-pub put_written : (before us : List ℕ) {after : List ℕ} {to : ℕ} → to ≤ length before → Put before 0 us after to → Begins before us after to
-put_written before us h p =
-    let place = p.place in
-    record { length = omega arith; text = p.shows ∙ sets_written us before (omega arith) }
+pub put_written : {before after : Writer} (us : List ℕ) → before.at ≡ 0 → after.at ≤ length before.text.now → Puts before us after
+    → Begins before.text.now us after.text.now after.at
+put_written {before} us e h p =
+    let place = p.next in
+    record {
+      length = omega arith;
+      text = p.shows ∙ ap (λ k. sets before.text.now k us) e ∙ sets_written us before.text.now (omega arith);
+    }

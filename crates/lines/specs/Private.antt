@@ -1,3 +1,4 @@
 -- Words of the contracts of private functions. No public contract and no theorem for the reader
 -- cites a file of this folder.
+pub mod Puts
 pub mod DigitTable

@@ -1,23 +1,20 @@
 // The check of the links of one list.
 ghost use Rattle.std.specs.Prelude.{◌≡◌};
+ghost use Rattle.answers.specs.Refusal.{verdict_in};
 ghost use Rattle.linked.specs.Check.{check_links};
 
 use crate::told::are_links;
-use answers::answer::{LINKS, TAKEN};
-use answers::verdict::{Verdict, without_node};
+use answers::refusal::{Fault, Refusal};
 use lists::list::check_list;
 
-// Returns the verdict of `check_list` on `list` if that is a refusal. Otherwise returns TAKEN if
-// `links` are the links that `link_list` writes for it, and LINKS if they aren't.
-pub fn check_links(list: &[u32], links: &[u32]) -> Verdict
-    ensures { result ≡ check_links list.now links.now }
+// Checks `list` as `check_list` does, and then `links`: they are refused as LINKS unless they are
+// the links that `link_list` writes for it.
+pub fn check_links(list: &[u32], links: &[u32]) -> Result<(), Fault>
+    ensures { verdict_in result ≡ check_links list.now links.now }
 {
-    let verdict = check_list(list);
-    if verdict.answer != TAKEN {
-        return verdict;
-    }
+    check_list(list)?;
     if are_links(list, links) {
-        return verdict;
+        return Ok(());
     }
-    without_node(LINKS)
+    Err(Refusal::Links.into())
 }

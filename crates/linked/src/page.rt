@@ -1,5 +1,6 @@
 // A page of a listing, for a caller who lends the links of the ancestors.
 ghost use Rattle.std.specs.Prelude.{◌≡◌, cond};
+ghost use Rattle.answers.specs.Refusal.{verdict_of};
 ghost use Rattle.answers.specs.Verdict.{refusedb};
 ghost use Rattle.lists.specs.Two.{check_two};
 ghost use Rattle.ticket_words.specs.Page.{shown_page};
@@ -8,26 +9,24 @@ ghost use Rattle.linked.specs.Check.{unlinked};
 ghost use Rattle.linked.specs.Page.{linked_page, linked_output};
 
 use crate::told::are_links;
-use answers::answer::{LINKS, TAKEN};
-use answers::verdict::{Verdict, without_node};
+use answers::refusal::{Fault, Refusal};
 use lists::two::check_two;
 use pairs::jumping::jumping_page;
 use pairs::page::Page;
 use ticket_words::page::{PageWords, shown_page};
-use ticket_words::words::{TicketWords, ticket_of};
+use ticket_words::words::TicketWords;
 use tickets::ticket::Ticket;
 
-// Returns the refusal of a call whose links aren't those of the ancestors: that of the two lists,
-// or LINKS.
-fn refusal(ancestors: &[u32], descendants: &[u32]) -> Verdict
-    ensures { result ≡ cond (refusedb (check_two ancestors.now descendants.now))
+// Returns why a call is refused whose links aren't those of the ancestors: the fault of the two
+// lists, or LINKS.
+fn refusal(ancestors: &[u32], descendants: &[u32]) -> Fault
+    ensures { verdict_of result ≡ cond (refusedb (check_two ancestors.now descendants.now))
         (check_two ancestors.now descendants.now) unlinked }
 {
-    let verdict = check_two(ancestors, descendants);
-    if verdict.answer != TAKEN {
-        return verdict;
+    match check_two(ancestors, descendants) {
+        Err(fault) => fault,
+        Ok(()) => Refusal::Links.into(),
     }
-    without_node(LINKS)
 }
 
 // Returns the page that `next_page` returns, and writes what it writes, if `links` are the links of
@@ -50,7 +49,7 @@ pub fn linked_page(
         return jumping_page(ancestors, descendants, links, ticket, out);
     }
     Page {
-        verdict: refusal(ancestors, descendants),
+        verdict: refusal(ancestors, descendants).into(),
         count: 0,
         done: false,
         ticket: ticket,
@@ -71,7 +70,7 @@ pub fn list_linked(
       output : out.new ≡ linked_output ancestors.now descendants.now links.now (ticket_of words) out.old;
     } }
 {
-    let asked = ticket_of(words);
+    let asked = Ticket::from(words);
     shown_page(
         words,
         linked_page(ancestors, descendants, links, asked, out),

@@ -21,10 +21,8 @@ fn is_sibling_told(links: &[u32], elder: usize, index: usize) -> bool
     requires { (elder < length links.now / LINK_WORDS) × (index < length links.now / LINK_WORDS) }
     ensures { result ≡ sibling_toldb links.now elder index }
 {
-    if links[LINK_WORDS * elder + 2] as usize != index {
-        return false;
-    }
-    links[LINK_WORDS * index] == links[LINK_WORDS * elder]
+    links[LINK_WORDS * elder + 2] as usize == index
+        && links[LINK_WORDS * index] == links[LINK_WORDS * elder]
 }
 
 // Returns whether the links tell the elder of the node at `index`, and no next sibling of the other
@@ -86,21 +84,13 @@ fn is_node_told(list: &[u32], links: &[u32], index: usize) -> bool
 {
     let before = index - 1;
     if list[NODE_WORDS * before] != list[NODE_WORDS * index] {
-        if links[LINK_WORDS * index] != NONE {
-            return false;
-        }
-        return is_last_told(links, before);
+        return links[LINK_WORDS * index] == NONE && is_last_told(links, before);
     }
     if list[NODE_WORDS * index + 1] <= list[NODE_WORDS * before + 2] {
-        if links[LINK_WORDS * before + 1] as usize != index {
-            return false;
-        }
-        return links[LINK_WORDS * index] as usize == before;
+        return links[LINK_WORDS * before + 1] as usize == index
+            && links[LINK_WORDS * index] as usize == before;
     }
-    if links[LINK_WORDS * before + 1] != NONE {
-        return false;
-    }
-    is_elder_told(list, links, index)
+    links[LINK_WORDS * before + 1] == NONE && is_elder_told(list, links, index)
 }
 
 // Returns whether `links` are the links of `list`, if that is accepted. Of a list that isn't, the
@@ -109,10 +99,7 @@ pub(crate) fn are_links(list: &[u32], links: &[u32]) -> bool
     ensures { (check_words list.now).answer ≡ TAKEN → result ≡ linkedb list.now links.now }
 {
     let count = node_count(list);
-    if MOST_NODES < count {
-        return false;
-    }
-    if links.len() != LINK_WORDS * count {
+    if MOST_NODES < count || links.len() != LINK_WORDS * count {
         return false;
     }
     if count == 0 {
@@ -121,14 +108,12 @@ pub(crate) fn are_links(list: &[u32], links: &[u32]) -> bool
     if links[0] != NONE {
         return false;
     }
-    let mut index = 1;
     // Rests on InWords: all_linked, not_linked.
     // Rests on Telling: told_first.
-    while index < count {
+    for index in 1..count {
         if !is_node_told(list, links, index) {
             return false;
         }
-        index += 1;
     }
     is_last_told(links, count - 1)
 }

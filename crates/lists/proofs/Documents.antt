@@ -20,8 +20,7 @@ use Rattle.answers.specs.declared.verdict.Verdict.{Verdict}
 use Rattle.laws.proofs.Tests.{either, never}
 use Rattle.lists.specs.Check.{check_from, check_nodes}
 use Rattle.lists.specs.declared.both.RunPlace.{RunPlace}
-use Rattle.lists.specs.declared.both.RunStep.{RunStep}
-use Rattle.lists.specs.declared.both.RunStep.TheVariants.{Reached, Fault}
+use Rattle.std.specs.Prelude.{Option, None, Some}
 use Rattle.lists.specs.Private.Merge.{merge, Whole, Cut}
 use Rattle.lists.specs.Private.Open.{Laid}
 use Rattle.lists.specs.Private.Walk.{node_from}
@@ -65,14 +64,14 @@ module _ {first second : List ℕ} {d i x j y top : ℕ} {stack : List ℕ} (s :
 
 -- A run of the first list, up to where the second goes on.
 module _ {first second : List ℕ} {d j y : ℕ} {stack : List ℕ} (a : RunPlace)
-    (s : Standing first second d a.at a.start j y a.top stack) (r : RunStep) (us : List ℕ)
+    (s : Standing first second d a.at a.start j y a.top stack) (r : Option RunPlace) (us : List ℕ)
     (g : TakesAlong first d y a stack (λ rest whole. Ran d y rest whole r us)) where
   first_ran : Ran d y (λ i. rest_of first i second j) (whole_of first second) r us
   first_ran =
       g (λ i. rest_of first i second j) (whole_of first second) (draws_first first second d y j s.second_cut s.second_ahead)
       (λ h. ((merge_taken_iff (nodes first) (nodes second)).0 h).0) s.amid
 
-  pub first_run : RunTo first d a y r → (p : RunPlace) → r ≡ Reached p
+  pub first_run : RunTo first d a y r → (p : RunPlace) → r ≡ Some p
       → Standing first second d p.at p.start j y p.top us × RunPast a y p
   first_run m p q =
       let to = subst (RunTo first d a y) q m in (
@@ -86,12 +85,12 @@ module _ {first second : List ℕ} {d j y : ℕ} {stack : List ℕ} (a : RunPlac
         to.2,
       )
 
-  pub first_stop : r ≡ Fault → (whole_of first second).answer ≡ TAKEN → ⊥
+  pub first_stop : r ≡ None → (whole_of first second).answer ≡ TAKEN → ⊥
   first_stop q = subst (λ step. Ran d y (λ i. rest_of first i second j) (whole_of first second) step us) q first_ran
 
 -- The same of the second list.
 module _ {first second : List ℕ} {d i x : ℕ} {stack : List ℕ} (b : RunPlace)
-    (s : Standing first second d i x b.at b.start b.top stack) (r : RunStep) (us : List ℕ)
+    (s : Standing first second d i x b.at b.start b.top stack) (r : Option RunPlace) (us : List ℕ)
     (g : TakesAlong second d x b stack (λ rest whole. Ran d x rest whole r us)) where
   second_ran : Ran d x (λ j. rest_of first i second j) (whole_of first second) r us
   second_ran =
@@ -99,7 +98,7 @@ module _ {first second : List ℕ} {d i x : ℕ} {stack : List ℕ} (b : RunPlac
       (λ h. ((merge_taken_iff (nodes first) (nodes second)).0 h).1)
       (amid_turn s.amid)
 
-  pub second_run : RunTo second d b x r → (p : RunPlace) → r ≡ Reached p
+  pub second_run : RunTo second d b x r → (p : RunPlace) → r ≡ Some p
       → Standing first second d i x p.at p.start p.top us × RunPast b x p
   second_run m p q =
       let to = subst (RunTo second d b x) q m in (
@@ -113,7 +112,7 @@ module _ {first second : List ℕ} {d i x : ℕ} {stack : List ℕ} (b : RunPlac
         to.2,
       )
 
-  pub second_stop : r ≡ Fault → (whole_of first second).answer ≡ TAKEN → ⊥
+  pub second_stop : r ≡ None → (whole_of first second).answer ≡ TAKEN → ⊥
   second_stop q = subst (λ step. Ran d x (λ j. rest_of first i second j) (whole_of first second) step us) q second_ran
 
 -- The two lists' next nodes, of which the second's starts no later, are compared.
@@ -134,7 +133,7 @@ module _ {first second : List ℕ} {d : ℕ} {stack : List ℕ} (a b : RunPlace)
       let e = h.3 in
       after_start (node_from second k) (node_from second b.at) (h.2 ∙ sym second_stands.1) (omega arith)
 
-  pub same_on : b.start ≤ a.start → (p : RunPlace) → SameTo first a second b d (Reached p)
+  pub same_on : b.start ≤ a.start → (p : RunPlace) → SameTo first a second b d (Some p)
       → Standing first second d a.at a.start p.at p.start p.top stack × (b.at ≤ p.at) × ((b.at < p.at) ⊎ (p.start < a.start))
   same_on l p (inl h) =
       let q = h.0 in
@@ -177,7 +176,7 @@ module _ {first second : List ℕ} {d : ℕ} {stack : List ℕ} (a b : RunPlace)
         inl (omega arith),
       )
 
-  pub same_stop : SameTo first a second b d Fault → (whole_of first second).answer ≡ TAKEN → ⊥
+  pub same_stop : SameTo first a second b d None → (whole_of first second).answer ≡ TAKEN → ⊥
   same_stop h w =
       let t = first_stands h.0 in
       let u = second_stands in
@@ -200,7 +199,7 @@ begin_stop words at d l h =
     ]
 
 module _ {first second : List ℕ} {i j d : ℕ} {stack : List ℕ} (w : BetweenDocuments first i second j stack) (n : NextDocument first i second j d)
-    (a b : RunPlace) (f : ReachedAt first i d 0 0 (Reached a)) (g : ReachedAt second j d 0 0 (Reached b)) where
+    (a b : RunPlace) (f : ReachedAt first i d 0 0 (Some a)) (g : ReachedAt second j d 0 0 (Some b)) where
   pub document_begins : Standing first second d a.at a.start b.at b.start a.top stack
   document_begins =
       let made : Standing first second d i a.start j b.start 0 stack = record {

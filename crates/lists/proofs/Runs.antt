@@ -19,8 +19,7 @@ use Rattle.laws.specs.Choose.{All, EveryTwo}
 use Rattle.laws.proofs.Choices.{all_map, all_drop, every_two_drop}
 use Rattle.laws.proofs.Tests.{never}
 use Rattle.lists.specs.declared.both.RunPlace.{RunPlace}
-use Rattle.lists.specs.declared.both.RunStep.{RunStep}
-use Rattle.lists.specs.declared.both.RunStep.TheVariants.{Reached, Fault}
+use Rattle.std.specs.Prelude.{Option, None, Some}
 use Rattle.lists.specs.Check.{check_from, check_nodes}
 use Rattle.lists.specs.Private.Merge.{Cut}
 use Rattle.lists.specs.Private.Open.{LAST_END, Laid, Holds, Held}
@@ -51,11 +50,11 @@ pub same_words : (x y : Node) → x.document ≡ y.document → x.start ≡ y.st
 same_words x y d s e l = λ i. record { document = d i; start = s i; end = e i; level = l i }
 
 -- What a step past a node that stands in both lists says, where the second list goes on.
-pub same_to : (first second : List ℕ) (a b : RunPlace) (d : ℕ) (r : RunStep) → a.start ≡ b.start
+pub same_to : (first second : List ℕ) (a b : RunPlace) (d : ℕ) (r : Option RunPlace) → a.start ≡ b.start
     → node_from first a.at ≡ node_from second b.at → ReachedAt second (b.at + NODE_WORDS) d (b.start + 1) b.top r
     → SameTo first a second b d r
-same_to first second a b d (Reached p) q e h = inr (q, e, h)
-same_to first second a b d Fault q e h = (q, inr h)
+same_to first second a b d (Some p) q e h = inr (q, e, h)
+same_to first second a b d None q e h = (q, inr h)
 
 -- The node n comes next in document d, and starts at `start`. Of the open nodes s, which lie up to
 -- the word `top` of the stack, n leaves those that lie up to the word `left`.
@@ -106,14 +105,14 @@ module _ {d start top left : ℕ} {stack : List ℕ} {s : List Node} {n : Node} 
           (holds_push d left stack n a.same (unended n s) us left_holds (omega arith) room_upon u g))
 
 -- What a step past the node n says, where the list goes on.
-pub passed_next : (words : List ℕ) (d : ℕ) (place : RunPlace) (s : List Node) (top : ℕ) (r : RunStep) (us : List ℕ)
+pub passed_next : (words : List ℕ) (d : ℕ) (place : RunPlace) (s : List Node) (top : ℕ) (r : Option RunPlace) (us : List ℕ)
     → node_fault s (node_from words place.at) ≡ TAKEN
     → Holds d (place.start + 1) top us (node_from words place.at ∷ unended (node_from words place.at) s)
     → ReachedAt words (place.at + NODE_WORDS) d (place.start + 1) top r → PassedNext words d place s r us
-passed_next words d place s top (Reached p) us f h g =
+passed_next words d place s top (Some p) us f h g =
     let n = node_from words place.at in
     (f, subst (λ t. Holds d (place.start + 1) t us (n ∷ unended n s)) (sym g.1) h, (g.0, refl, g.2, g.3))
-passed_next words d place s top Fault us f h g = inr g
+passed_next words d place s top None us f h g = inr g
 
 -- Open nodes that all start before `from` start before anything later.
 holds_from : (d from from' top : ℕ) (stack : List ℕ) (s : List Node) → from ≤ from' → Holds d from top stack s → Holds d from' top stack s
@@ -187,7 +186,7 @@ module _ (words : List ℕ) (d limit : ℕ) (rest : ℕ → List Node) (whole : 
       subst (λ ns. check_from w.before w.index ns ≡ whole) (draws place.at there.0 there.1 (omega arith)) w.same
 
   -- The node is passed.
-  run_on : (p : RunPlace) (us : List ℕ) → PassedNext words d place w.chain (Reached p) us → Amid d p.start limit p.top us (rest p.at) whole
+  run_on : (p : RunPlace) (us : List ℕ) → PassedNext words d place w.chain (Some p) us → Amid d p.start limit p.top us (rest p.at) whole
   run_on p us g =
       let k : Kept (n ∷ w.before) (n ∷ unended n w.chain) n.document (n.start + 1) =
       kept_next w.before w.chain d w.from w.kept w.holds.within n comes_next g.0 in
@@ -208,7 +207,7 @@ module _ (words : List ℕ) (d limit : ℕ) (rest : ℕ → List Node) (whole : 
 
   -- The node has a fault, or the one after it isn't in order.
   run_stop : (us : List ℕ) → (whole.answer ≡ TAKEN → (check_nodes (nodes words)).answer ≡ TAKEN)
-      → PassedNext words d place w.chain Fault us → whole.answer ≡ TAKEN → ⊥
+      → PassedNext words d place w.chain None us → whole.answer ≡ TAKEN → ⊥
   run_stop us alone (inl f) h =
       let told = fault_told w.before w.chain d w.from n w.kept comes_next in
       let stop = stops_at w.before w.index n (rest (place.at + 4)) whole drawn (λ g. f (sym told ∙ g)) in
@@ -226,15 +225,15 @@ pub record RunAlong (words : List ℕ) (d limit : ℕ) (begun : RunPlace) (stack
   pub walked : TakesAlong words d limit begun stack₀ (λ rest whole. Amid d place.start limit place.top stack (rest place.at) whole)
 
 -- What a step of the run gives, whatever the chain.
-abbrev Stepped : List ℕ → ℕ → RunPlace → List ℕ → RunStep → List ℕ → Type 0
+abbrev Stepped : List ℕ → ℕ → RunPlace → List ℕ → Option RunPlace → List ℕ → Type 0
 Stepped words d place stack r us = (s : List Node) → Holds d place.start place.top stack s → PassedNext words d place s r us
 
 module _ (words : List ℕ) (d limit : ℕ) (begun : RunPlace) (stack₀ : List ℕ) (place : RunPlace) (stack : List ℕ)
     (i : RunAlong words d limit begun stack₀ place stack) where
-  module _ (less : place.start < limit) (r : RunStep) (us : List ℕ) (g : Stepped words d place stack r us) where
-    pub along_on : (p : RunPlace) → r ≡ Reached p → (place.at < p.at) × RunAlong words d limit begun stack₀ p us
+  module _ (less : place.start < limit) (r : Option RunPlace) (us : List ℕ) (g : Stepped words d place stack r us) where
+    pub along_on : (p : RunPlace) → r ≡ Some p → (place.at < p.at) × RunAlong words d limit begun stack₀ p us
     along_on p q =
-        let f : Stepped words d place stack (Reached p) us = subst (λ step. Stepped words d place stack step us) q g in
+        let f : Stepped words d place stack (Some p) us = subst (λ step. Stepped words d place stack step us) q g in
         let c = i.cut in
         let m = i.most in
         let o = i.on in
@@ -256,9 +255,9 @@ module _ (words : List ℕ) (d limit : ℕ) (begun : RunPlace) (stack₀ : List 
           },
         )
 
-    pub along_stop : r ≡ Fault → TakesAlong words d limit begun stack₀ (λ rest whole. whole.answer ≡ TAKEN → ⊥)
+    pub along_stop : r ≡ None → TakesAlong words d limit begun stack₀ (λ rest whole. whole.answer ≡ TAKEN → ⊥)
     along_stop q rest whole draws alone w =
-        let f : Stepped words d place stack Fault us = subst (λ step. Stepped words d place stack step us) q g in
+        let f : Stepped words d place stack None us = subst (λ step. Stepped words d place stack step us) q g in
         let v = i.walked rest whole draws alone w in
         run_stop words d limit rest whole draws place stack i.cut i.ahead less i.most v us alone
         (f v.chain (amid_holds v))

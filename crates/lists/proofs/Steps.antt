@@ -5,19 +5,23 @@
 use mathlib.Core.Path.{◌≡◌, refl, sym, ap, subst, ◌∙◌}
 use mathlib.Core.Bool.{true, false}
 use mathlib.Core.List.{List, [], ◌∷◌}
-use Prim.Native.Nat.{ℕ, suc, ◌+◌, ◌≤◌, ◌<◌}
+use Prim.Native.Nat.{ℕ, ◌+◌, ◌≤◌, ◌<◌}
 use native.Mathlib.Omega.{arith}
 use lib.ListN.{get_or}
 use borrow.Author.Tests.{eq-eqb, ne_eqb, lt-ltb}
-use Rattle.answers.specs.Answer.{TAKEN, LEVEL, SPAN, ORDER, CROSS, DEPTH}
+use Rattle.answers.specs.Answer.{TAKEN}
+use Rattle.std.specs.Prelude.{Result, Ok, Err}
+use Rattle.answers.specs.declared.refusal.Fault.{Fault}
+use Rattle.answers.specs.declared.refusal.Refusal.{Refusal}
+use Rattle.answers.specs.declared.refusal.Refusal.TheVariants.{Level, Span, Order, Cross, Depth}
+use Rattle.answers.specs.Refusal.{number_of, fault}
 use Rattle.answers.specs.Verdict.{ANCESTORS, verdict}
+use Rattle.answers.proofs.RefusalLaws.{never_taken}
 use Rattle.laws.specs.Choose.{All}
 use Rattle.laws.proofs.Choices.{all_map}
 use Rattle.nodes.specs.declared.node.Node.{Node}
 use Rattle.nodes.specs.Node.{MOST_LEVELS}
 use Rattle.lists.specs.declared.walk.ListPlace.{ListPlace}
-use Rattle.lists.specs.declared.walk.Step.{Step}
-use Rattle.lists.specs.declared.walk.Step.TheVariants.{Reached, Refused}
 use Rattle.lists.specs.Fault.{levelb, spanb}
 use Rattle.lists.specs.Private.Open.{LAST_END, Laid, Holds}
 use Rattle.lists.specs.Private.Stepping.{place_after, Passed, SteppedPast, SteppedOnto}
@@ -37,41 +41,41 @@ left_held place left stack n q l u s h g =
     (holds_left place.document place.from place.top left stack s n q l u h g)
 
 -- The step's answer r, where `wrong` is the fault at n over the nodes that are left.
-module _ (wrong : ℕ) (left : List Node) (n : Node) (i : ℕ) (ws : List ℕ) (r : Step) where
-  refuse : (f : ℕ) → wrong ≡ suc f → r ≡ Refused (verdict (suc f) ANCESTORS i) → Passed wrong left n i r ws
+module _ (wrong : ℕ) (left : List Node) (n : Node) (i : ℕ) (ws : List ℕ) (r : Result ListPlace Fault) where
+  refuse : (f : Refusal) → wrong ≡ number_of f → r ≡ Err (fault f ANCESTORS i) → Passed wrong left n i r ws
   refuse f q e =
-      subst (λ (step : Step). Passed wrong left n i step ws) (sym e)
-      ((λ t. let z : suc f ≡ 0 = sym q ∙ t in omega arith), ap (λ (k : ℕ). verdict k ANCESTORS i) (sym q))
+      subst (λ (step : Result ListPlace Fault). Passed wrong left n i step ws) (sym e)
+      ((λ t. never_taken f (sym q ∙ t)), ap (λ (k : ℕ). verdict k ANCESTORS i) (sym q))
 
-  go_on : (top : ℕ) → wrong ≡ TAKEN → r ≡ Reached (place_after n (i + 1) top) → Holds n.document (n.start + 1) top ws (n ∷ left)
+  go_on : (top : ℕ) → wrong ≡ TAKEN → r ≡ Ok (place_after n (i + 1) top) → Holds n.document (n.start + 1) top ws (n ∷ left)
       → Passed wrong left n i r ws
-  go_on top h e p = subst (λ (step : Step). Passed wrong left n i step ws) (sym e) (h, refl, p)
+  go_on top h e p = subst (λ (step : Result ListPlace Fault). Passed wrong left n i step ws) (sym e) (h, refl, p)
 
 -- The returns of `pass_node`, where s is the chain that was open at the node before.
-module _ (place : ListPlace) (s : List Node) (n : Node) (ws : List ℕ) (r : Step) where
+module _ (place : ListPlace) (s : List Node) (n : Node) (ws : List ℕ) (r : Result ListPlace Fault) where
   abbrev wrong : ℕ
   wrong = step_fault place.document place.from s n
 
-  pub passed_low : n.level ≡ 0 → r ≡ Refused (verdict LEVEL ANCESTORS place.index) → SteppedPast place s n r ws
+  pub passed_low : n.level ≡ 0 → r ≡ Err (fault Level ANCESTORS place.index) → SteppedPast place s n r ws
   unfolding levelb step_fault
-  passed_low h e = refuse wrong (unended n s) n place.index ws r 2 (rw (eq-eqb _ _ h) refl) e
+  passed_low h e = refuse wrong (unended n s) n place.index ws r Level (rw (eq-eqb _ _ h) refl) e
 
-  pub passed_high : 1 ≤ n.level → MOST_LEVELS < n.level → r ≡ Refused (verdict LEVEL ANCESTORS place.index) → SteppedPast place s n r ws
+  pub passed_high : 1 ≤ n.level → MOST_LEVELS < n.level → r ≡ Err (fault Level ANCESTORS place.index) → SteppedPast place s n r ws
   unfolding levelb step_fault
-  passed_high l h e = refuse wrong (unended n s) n place.index ws r 2 (rw (ne_eqb n.level 0 (omega arith), lt-ltb MOST_LEVELS n.level h) refl) e
+  passed_high l h e = refuse wrong (unended n s) n place.index ws r Level (rw (ne_eqb n.level 0 (omega arith), lt-ltb MOST_LEVELS n.level h) refl) e
 
-  pub passed_span : 1 ≤ n.level → n.level ≤ MOST_LEVELS → n.end < n.start → r ≡ Refused (verdict SPAN ANCESTORS place.index)
+  pub passed_span : 1 ≤ n.level → n.level ≤ MOST_LEVELS → n.end < n.start → r ≡ Err (fault Span ANCESTORS place.index)
       → SteppedPast place s n r ws
   unfolding spanb step_fault
   passed_span l h d e =
-      refuse wrong (unended n s) n place.index ws r 3 (rw ((level_sound n).1 (l, h), lt-ltb n.end n.start d) refl) e
+      refuse wrong (unended n s) n place.index ws r Span (rw ((level_sound n).1 (l, h), lt-ltb n.end n.start d) refl) e
 
   module _ (g : Sound n) where
-    pub passed_order : nextb place.document place.from n ≡ false → r ≡ Refused (verdict ORDER ANCESTORS place.index)
+    pub passed_order : nextb place.document place.from n ≡ false → r ≡ Err (fault Order ANCESTORS place.index)
         → SteppedPast place s n r ws
     unfolding step_fault
     passed_order o e =
-        refuse wrong (unended n s) n place.index ws r 4
+        refuse wrong (unended n s) n place.index ws r Order
         (rw ((level_sound n).1 (g.lowest, g.highest), (span_sound n).1 g.span, o) refl) e
 
     -- Nothing is wrong so far, and the head of those left tells the rest.
@@ -81,20 +85,20 @@ module _ (place : ListPlace) (s : List Node) (n : Node) (ws : List ℕ) (r : Ste
     passed_rest o left q h = rw ((level_sound n).1 (g.lowest, g.highest), (span_sound n).1 g.span, o, q) h
 
 -- The returns of `put_on_top`, and what `push` answers: n lies on what lay at word `left`.
-module _ (stack : List ℕ) (left : ℕ) (n : Node) (i : ℕ) (ws : List ℕ) (r : Step) where
+module _ (stack : List ℕ) (left : ℕ) (n : Node) (i : ℕ) (ws : List ℕ) (r : Result ListPlace Fault) where
   abbrev Pushed : Type 0
   Pushed = record {
-    answer : r ≡ Reached (place_after n (i + 1) (left + 2));
+    answer : r ≡ Ok (place_after n (i + 1) (left + 2));
     stack : (s : List Node) → Laid s left stack → Laid (n ∷ s) (left + 2) ws;
   }
 
   module _ (s : List Node) (h : Holds n.document n.start left stack s) where
-    pub onto_cross : n.end ≤ LAST_END → get_or stack left 0 < n.end → r ≡ Refused (verdict CROSS ANCESTORS i) → SteppedOnto s n i r ws
-    onto_cross most l e = refuse (head_fault s n) s n i ws r 5 (cross_told n.document left stack n refl s h most l) e
+    pub onto_cross : n.end ≤ LAST_END → get_or stack left 0 < n.end → r ≡ Err (fault Cross ANCESTORS i) → SteppedOnto s n i r ws
+    onto_cross most l e = refuse (head_fault s n) s n i ws r Cross (cross_told n.document left stack n refl s h most l) e
 
     module _ (within : n.end ≤ get_or stack left 0) (low : 1 ≤ n.level) where
-      pub onto_depth : n.level ≤ get_or stack (left + 1) 0 → r ≡ Refused (verdict DEPTH ANCESTORS i) → SteppedOnto s n i r ws
-      onto_depth l e = refuse (head_fault s n) s n i ws r 6 (depth_told n.document left stack n refl within s h low l) e
+      pub onto_depth : n.level ≤ get_or stack (left + 1) 0 → r ≡ Err (fault Depth ANCESTORS i) → SteppedOnto s n i r ws
+      onto_depth l e = refuse (head_fault s n) s n i ws r Depth (depth_told n.document left stack n refl within s h low l) e
 
       pub onto_head : get_or stack (left + 1) 0 < n.level → n.level ≤ MOST_LEVELS → Pushed → SteppedOnto s n i r ws
       onto_head l most p =
@@ -103,7 +107,7 @@ module _ (stack : List ℕ) (left : ℕ) (n : Node) (i : ℕ) (ws : List ℕ) (r
           (upon_head n.document left stack n refl within s h l) (p.stack s h.laid))
 
 -- The first node of a document becomes the only one on the stack.
-pub passed_first : (place : ListPlace) (s : List Node) (n : Node) (stack ws : List ℕ) (r : Step) → Sound n
+pub passed_first : (place : ListPlace) (s : List Node) (n : Node) (stack ws : List ℕ) (r : Result ListPlace Fault) → Sound n
     → Holds place.document place.from place.top stack s → place.document < n.document → Pushed stack 0 n place.index ws r
     → SteppedPast place s n r ws
 unfolding head_fault

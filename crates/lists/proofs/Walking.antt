@@ -11,17 +11,18 @@ use native.Mathlib.Omega.{arith}
 use lib.Dec.{ltb}
 use borrow.Author.Tests.{ltb-true, ltb-false}
 use Rattle.answers.specs.Answer.{TAKEN}
+use Rattle.std.specs.Prelude.{Result, Ok, Err}
+use Rattle.answers.specs.declared.refusal.Fault.{Fault}
 use Rattle.answers.specs.declared.verdict.Verdict.{Verdict}
+use Rattle.answers.specs.Refusal.{verdict_of as fault_verdict}
 use Rattle.answers.specs.Verdict.{ANCESTORS, verdict, taken}
 use Rattle.laws.proofs.Tests.{either, not_none}
 use Rattle.nodes.specs.declared.node.Node.{Node}
 use Rattle.lists.specs.declared.walk.ListPlace.{ListPlace}
-use Rattle.lists.specs.declared.walk.Step.{Step}
-use Rattle.lists.specs.declared.walk.Step.TheVariants.{Reached, Refused}
 use Rattle.lists.specs.Check.{check_from, check_nodes}
 use Rattle.lists.specs.Fault.{levelb, spanb, orderb, fault}
 use Rattle.lists.specs.Step.{verdict_of}
-use Rattle.lists.specs.Private.Open.{Laid, Holds}
+use Rattle.lists.specs.Private.Open.{Laid, Holds, Held}
 use Rattle.lists.specs.Private.Stepping.{first_place, SteppedPast}
 use Rattle.lists.specs.Private.Walk.{nextb, Kept, step_fault}
 use Rattle.lists.proofs.Faults.{skip}
@@ -84,7 +85,7 @@ module _ {place : ListPlace} {stack : List ℕ} {n : Node} {rest : List Node} {w
   comes h = not_none _ ((skip (not (nextb place.document place.from n)) _ _).0 ((skip (spanb n) _ _).0 ((skip (levelb n) _ _).0 h).1).1).0
 
   -- The check of the rest goes past such a node.
-  passed_on : (words : List ℕ) (p : ListPlace) → SteppedPast place w.chain n (Reached p) words → Walk p words rest whole
+  passed_on : (words : List ℕ) (p : ListPlace) → SteppedPast place w.chain n (Ok p) words → Walk p words rest whole
   unfolding orderb
   passed_on words p h =
       let next = comes h.0 in
@@ -100,19 +101,34 @@ module _ {place : ListPlace} {stack : List ℕ} {n : Node} {rest : List Node} {w
       })
 
   -- And it ends at the first node at which something is wrong.
-  stopped : (words : List ℕ) (v : Verdict) → SteppedPast place w.chain n (Refused v) words → v ≡ whole
-  stopped words v h =
+  stopped : (words : List ℕ) (f : Fault) → SteppedPast place w.chain n (Err f) words → fault_verdict f ≡ whole
+  stopped words f h =
       h.1 ∙ ap (λ (f : ℕ). verdict f ANCESTORS place.index) (sym told)
       ∙ stops_at w.before place.index n rest whole w.same (λ z. h.0 (sym told ∙ z))
 
   -- A place reached is the walk one node further; a refusal is the whole check's answer.
-  module _ (words : List ℕ) (r : Step)
+  module _ (words : List ℕ) (r : Result ListPlace Fault)
       (h : (s : List Node) → Holds place.document place.from place.top stack s → SteppedPast place s n r words) where
-    stepped : (step : Step) → r ≡ step → SteppedPast place w.chain n step words
-    stepped step e = subst (λ (x : Step). SteppedPast place w.chain n x words) e (h w.chain w.holds)
+    stepped : (step : Result ListPlace Fault) → r ≡ step → SteppedPast place w.chain n step words
+    stepped step e = subst (λ (x : Result ListPlace Fault). SteppedPast place w.chain n x words) e (h w.chain w.holds)
 
-    pub walk_on : (p : ListPlace) → r ≡ Reached p → (p.index ≡ place.index + 1) × Walk p words rest whole
-    walk_on p e = let g = stepped (Reached p) e in (ap (λ (q : ListPlace). q.index) g.1, passed_on words p g)
+    pub walk_on : (p : ListPlace) → r ≡ Ok p → (p.index ≡ place.index + 1) × Walk p words rest whole
+    walk_on p e = let g = stepped (Ok p) e in (ap (λ (q : ListPlace). q.index) g.1, passed_on words p g)
 
-    pub walk_stop : (v : Verdict) → r ≡ Refused v → verdict_of r ≡ whole
-    walk_stop v e = ap verdict_of e ∙ stopped words v (stepped (Refused v) e)
+    pub walk_stop : (f : Fault) → r ≡ Err f → verdict_of r ≡ whole
+    walk_stop f e = ap verdict_of e ∙ stopped words f (stepped (Err f) e)
+
+-- Whatever nodes come, some chain lies on the stack: an empty one before the first node,
+pub held_start : (stack : List ℕ) (place : ListPlace) → place ≡ first_place → Laid [] 0 stack → Held place.document place.from place.top stack
+held_start stack place q h =
+    subst (λ (p : ListPlace). Held p.document p.from p.top stack) (sym q)
+    (record { chain = []; holds = record { linked = tt; within = tt; laid = h; fits = zero-le } })
+
+-- and one more after each step.
+pub held_on : (place : ListPlace) (stack : List ℕ) (n : Node) (words : List ℕ) (r : Result ListPlace Fault)
+    → Held place.document place.from place.top stack
+    → ((s : List Node) → Holds place.document place.from place.top stack s → SteppedPast place s n r words)
+    → (p : ListPlace) → r ≡ Ok p → (p.index ≡ place.index + 1) × Held p.document p.from p.top words
+held_on place stack n words r k h p e =
+    let g : SteppedPast place k.chain n (Ok p) words = subst (λ (x : Result ListPlace Fault). SteppedPast place k.chain n x words) e (h k.chain k.holds) in
+    (ap (λ (q : ListPlace). q.index) g.1, subst (λ (q : ListPlace). Held q.document q.from q.top words) (sym g.1) (record { chain = _; holds = g.2 }))

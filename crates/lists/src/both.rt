@@ -12,24 +12,17 @@ use crate::stack::{OPEN_WORDS, STACK_WORDS, left_open, put_bottom, put_open};
 use nodes::node::{MOST_LEVELS, NODE_WORDS};
 
 // A number above every start. It is the start of the next node where a list has no more nodes of
-// the document.
+// the document. By hand: in the order of `Option<u32>` a `None` comes before all starts.
 const PAST: u64 = 4294967296;
 
 // Where a list stands in a document. `at` is the word of its next node, and `start` is where that
 // node starts, or PAST. `top` is the word of the stack at which the last node passed lies, or the
-// bottom where none was passed. If that node is of the other list, `on_top` brings `top` over.
+// bottom where none was passed. That node may be of the other list.
 #[derive(Clone, Copy)]
 struct RunPlace {
     at: usize,
     start: u64,
     top: usize,
-}
-
-// What a step along one list answers: the place that it reached, or that something is wrong.
-#[derive(Clone, Copy)]
-enum RunStep {
-    Reached(RunPlace),
-    Fault,
 }
 
 // The words at which both lists go on after a document.
@@ -39,16 +32,10 @@ struct BothPlace {
     second: usize,
 }
 
-// What a step along both lists answers: the place that it reached, or that something is wrong.
-#[derive(Clone, Copy)]
-enum BothStep {
-    Reached(BothPlace),
-    Fault,
-}
-
-// Returns the place at the word `at` of a list in `document`, with the word `top` of the stack. A
-// node of an earlier document is a fault, and so is one of `document` that starts before `from`.
-fn reach(words: &[u32], at: usize, document: u32, from: u64, top: usize) -> RunStep
+// Returns the place at the word `at` of a list in `document`, with the word `top` of the stack, or
+// None at a fault. A node of an earlier document is one, and so is one of `document` that starts
+// before `from`.
+fn reach(words: &[u32], at: usize, document: u32, from: u64, top: usize) -> Option<RunPlace>
     requires { Cut at words.now × (from ≤ PAST) }
     ensures { ReachedAt words.now at document from top result }
 {
@@ -58,19 +45,19 @@ fn reach(words: &[u32], at: usize, document: u32, from: u64, top: usize) -> RunS
         top: top,
     };
     if words.len() <= at {
-        return RunStep::Reached(none);
+        return Some(none);
     }
     if words[at] != document {
         if words[at] < document {
-            return RunStep::Fault;
+            return None;
         }
-        return RunStep::Reached(none);
+        return Some(none);
     }
     let start = words[at + 1] as u64;
     if start < from {
-        return RunStep::Fault;
+        return None;
     }
-    RunStep::Reached(RunPlace {
+    Some(RunPlace {
         at: at,
         start: start,
         top: top,
@@ -86,7 +73,7 @@ fn pass_next(
     words: &[u32],
     document: u32,
     place: RunPlace,
-) -> RunStep
+) -> Option<RunPlace>
     requires { Cut place.at words.now × Ahead words.now place.at document place.start × (place.start < PAST)
         × Held document place.start place.top stack.old }
     ensures { (s : List Node) → Holds document place.start place.top stack.old s
@@ -97,17 +84,17 @@ fn pass_next(
     let end = words[at + 2];
     let level = words[at + 3];
     if end < start {
-        return RunStep::Fault;
+        return None;
     }
     if MOST_LEVELS < level as usize {
-        return RunStep::Fault;
+        return None;
     }
     let left = left_open(stack, place.top, start);
     if stack[left] < end {
-        return RunStep::Fault;
+        return None;
     }
     if level <= stack[left + 1] {
-        return RunStep::Fault;
+        return None;
     }
     put_open(stack, left + OPEN_WORDS, end, level);
     reach(
@@ -127,7 +114,7 @@ fn pass_run(
     document: u32,
     begun: RunPlace,
     limit: u64,
-) -> RunStep
+) -> Option<RunPlace>
     requires { Cut begun.at words.now × Ahead words.now begun.at document begun.start × (limit ≤ PAST)
         × Held document begun.start begun.top stack.old }
     ensures { record {
@@ -139,45 +126,45 @@ fn pass_run(
     let mut place = begun;
     // Rests on Runs: along_on, along_stop.
     while place.start < limit {
-        let RunStep::Reached(reached) = pass_next(stack, words, document, place) else {
-            return RunStep::Fault;
+        // `let .. else` and not `?`: docs/SCOPE.md names that form for the steps of a check.
+        let Some(reached) = pass_next(stack, words, document, place) else {
+            return None;
         };
+        // The list has no more nodes of the document. No limit is above PAST, so none is tested.
+        if reached.start == PAST {
+            return Some(reached);
+        }
         place = reached;
     }
-    RunStep::Reached(place)
+    Some(place)
 }
 
 // Returns where the second list goes on, given where both stand. If their next nodes start
 // together, they have to be identical. Then the second list's is passed over, and the node comes
 // once, in the first list's next run.
-fn pass_same(first: &[u32], a: RunPlace, second: &[u32], b: RunPlace, document: u32) -> RunStep
+fn pass_same(
+    first: &[u32],
+    a: RunPlace,
+    second: &[u32],
+    b: RunPlace,
+    document: u32,
+) -> Option<RunPlace>
     requires { Cut a.at first.now × Ahead first.now a.at document a.start
         × Cut b.at second.now × Ahead second.now b.at document b.start × (b.start < PAST) }
     ensures { SameTo first.now a second.now b document result }
 {
     if a.start != b.start {
-        return RunStep::Reached(b);
+        return Some(b);
     }
     let i = a.at;
     let j = b.at;
     if first[i + 2] != second[j + 2] {
-        return RunStep::Fault;
+        return None;
     }
     if first[i + 3] != second[j + 3] {
-        return RunStep::Fault;
+        return None;
     }
     reach(second, j + NODE_WORDS, document, b.start + 1, b.top)
-}
-
-// Returns `place` with `top` as its word of the stack.
-fn on_top(place: RunPlace, top: usize) -> RunPlace
-    ensures { result ≡ record { at = place.at; start = place.start; top = top } }
-{
-    RunPlace {
-        at: place.at,
-        start: place.start,
-        top: top,
-    }
 }
 
 // Returns the document that comes next: the lesser of those at word `i` of `first` and at word `j`
@@ -192,10 +179,7 @@ fn next_document(first: &[u32], i: usize, second: &[u32], j: usize) -> u32
     if first.len() <= i {
         return second[j];
     }
-    if second[j] < first[i] {
-        return second[j];
-    }
-    first[i]
+    first[i].min(second[j])
 }
 
 // Passes the next document, of which one list or both have nodes, and returns where the lists go on
@@ -205,39 +189,46 @@ fn pass_document(
     first: &[u32],
     second: &[u32],
     begun: BothPlace,
-) -> BothStep
+) -> Option<BothPlace>
     requires { BetweenDocuments first.now begun.first second.now begun.second stack.old
         × ((begun.first < length first.now) ⊎ (begun.second < length second.now)) }
     ensures { DocumentTo first.now second.now begun result stack.new }
 {
     let document = next_document(first, begun.first, second, begun.second);
-    let RunStep::Reached(one) = reach(first, begun.first, document, 0, 0) else {
-        return BothStep::Fault;
+    let Some(one) = reach(first, begun.first, document, 0, 0) else {
+        return None;
     };
-    let RunStep::Reached(other) = reach(second, begun.second, document, 0, 0) else {
-        return BothStep::Fault;
+    let Some(other) = reach(second, begun.second, document, 0, 0) else {
+        return None;
     };
     let mut a = one;
     let mut b = other;
     // Rests on Documents: first_run, same_on, second_run, document_ends.
     loop {
-        let RunStep::Reached(passed) = pass_run(stack, first, document, a, b.start) else {
-            return BothStep::Fault;
+        let Some(passed) = pass_run(stack, first, document, a, b.start) else {
+            return None;
         };
-        if b.start == PAST {
-            return BothStep::Reached(BothPlace {
+        // Neither list has more nodes of the document.
+        if passed.start == PAST && b.start == PAST {
+            return Some(BothPlace {
                 first: passed.at,
                 second: b.at,
             });
         }
-        let beside = on_top(b, passed.top);
-        let RunStep::Reached(next) = pass_same(first, passed, second, beside, document) else {
-            return BothStep::Fault;
+        let beside = RunPlace {
+            top: passed.top,
+            ..b
         };
-        let RunStep::Reached(turned) = pass_run(stack, second, document, next, passed.start) else {
-            return BothStep::Fault;
+        let Some(next) = pass_same(first, passed, second, beside, document) else {
+            return None;
         };
-        a = on_top(passed, turned.top);
+        let Some(turned) = pass_run(stack, second, document, next, passed.start) else {
+            return None;
+        };
+        a = RunPlace {
+            top: turned.top,
+            ..passed
+        };
         b = turned;
     }
 }
@@ -255,7 +246,7 @@ pub(crate) fn pass_both(stack: &mut [u32; STACK_WORDS], first: &[u32], second: &
     };
     // Rests on Documents: both_start, both_stop, both_end.
     while place.first < first.len() || place.second < second.len() {
-        let BothStep::Reached(reached) = pass_document(stack, first, second, place) else {
+        let Some(reached) = pass_document(stack, first, second, place) else {
             return false;
         };
         place = reached;

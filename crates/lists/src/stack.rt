@@ -48,6 +48,7 @@ pub(crate) fn left_open(stack: &[u32; STACK_WORDS], top: usize, start: u32) -> u
     } }
 {
     let mut left = top;
+    // By hand: the bottom ends the search, so no turn has to test for an end.
     // Rests on StackLaws: peeled_on, peeled_end.
     while stack[left] < start {
         left -= OPEN_WORDS;

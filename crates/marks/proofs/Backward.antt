@@ -212,9 +212,9 @@ module _ (document : ℕ) (marks out₀ : List ℕ) (taken : fault_from 1 0 mark
               (output_back p (get_or marks k 0) (drop (suc k) marks) asks.some document (suc k) kept out₀ out (omega arith) b.closes b.output);
         }
 
-    pub back_on : (position : ℕ) → 0 < position → position ≤ length marks → Back document marks out₀ position kept p out
+    pub back_on : (position here : ℕ) → here ≡ position → 0 < position → position ≤ length marks → Back document marks out₀ position kept p out
         → (q : MarkPlace) (kept' out' : List ℕ) → q ≡ before_mark p (get_or marks (position - 1) 0)
-        → kept' ≡ closes_before kept position p.depth (get_or marks (position - 1) 0)
-        → out' ≡ output_before document position kept p (get_or marks (position - 1) 0) out → Back document marks out₀ (position - 1) kept' q out'
-    back_on zero h i b q kept' out' e f g = absurd (not-suc-le-zero h)
-    back_on (suc k) h i b q kept' out' e f g = rw (e, f, g, sub-one (suc k)) (back_to k i b)
+        → kept' ≡ closes_before kept here p.depth (get_or marks (position - 1) 0)
+        → out' ≡ output_before document here kept p (get_or marks (position - 1) 0) out → Back document marks out₀ (position - 1) kept' q out'
+    back_on zero here s h i b q kept' out' e f g = absurd (not-suc-le-zero h)
+    back_on (suc k) here s h i b q kept' out' e f g = rw (e, f, g, s, sub-one (suc k)) (back_to k i b)

@@ -1,7 +1,7 @@
 -- Why it holds: A walk that reaches the end has met no fault and counted each mark that isn't a
 -- close. A walk that is refused names the first fault.
 -- What would break it: A mark passed over, or a row counted twice, would be caught here.
-use mathlib.Core.Path.{◌≡◌, refl, sym, ap, ◌∙◌, subst}
+use mathlib.Core.Path.{◌≡◌, refl, sym, ap, subst}
 use mathlib.Core.Logic.{inl, inr}
 use mathlib.Core.Bool.{cond}
 use mathlib.Core.List.{List, [], ◌∷◌}
@@ -12,15 +12,14 @@ use lib.Dec.{ltb, eqb}
 use lib.ListN.{length, get_or, drop, drop_of_length-le}
 use lib.Seq.{drop-cons}
 use borrow.Author.Tests.{eqb-true, eqb-false, eq-eqb, ne_eqb, lt-ltb, le-ltb}
+use Rattle.std.specs.Prelude.{Ok, Err}
 use Rattle.answers.specs.Answer.{TAKEN, UNCLOSED}
 use Rattle.laws.specs.Choose.{keep}
 use Rattle.laws.proofs.Tests.{either, or_right}
 use Rattle.marks.specs.declared.mark.MarkPlace.{MarkPlace}
-use Rattle.marks.specs.declared.mark.Step.{Step}
-use Rattle.marks.specs.declared.mark.Step.TheVariants.{Reached, Refused}
 use Rattle.marks.specs.Mark.{CLOSE, closeb, open_after, mark_fault, unclosedb, fault_from}
 use Rattle.marks.specs.Table.{rows_from}
-use Rattle.marks.specs.Private.Walk.{mark_place, row_count, after_mark, passed, walked, answer_in}
+use Rattle.marks.specs.Private.Walk.{mark_place, row_count, Step, after_mark, passed, walked}
 use Rattle.marks.proofs.MarkLaws.{closes, is_text, opens, kind_of, open_closes, open_text, open_opens}
 
 -- How many rows the marks make, mark by mark.
@@ -57,8 +56,8 @@ rows_after p mark marks =
 
 -- What a walk's answer says of the marks' fault and of the rows.
 Told : ℕ → ℕ → Step → Type 0
-Told fault rows (Reached p) = (fault ≡ TAKEN) × (p.rows ≡ rows)
-Told fault rows (Refused answer) = (answer ≡ fault) × (fault ≡ TAKEN → ⊥)
+Told fault rows (Ok p) = (fault ≡ TAKEN) × (p.rows ≡ rows)
+Told fault rows (Err answer) = (answer ≡ fault) × (fault ≡ TAKEN → ⊥)
 
 told : (position : ℕ) (p : MarkPlace) (marks : List ℕ) → Told (fault_from position p.depth marks) (p.rows + row_count marks) (walked position p marks)
 unfolding fault_from walked after_mark row_count keep Told
@@ -70,16 +69,14 @@ told position p (mark ∷ marks) =
       | inr h ↦ rw h (refl, eqb-false _ _ h)
     ]
 
-module _ (marks : List ℕ) (r : Step) (e : r ≡ walked 1 (mark_place 0 0) marks) where
-  pub all_passed : (p : MarkPlace) → r ≡ Reached p → (fault_from 1 0 marks ≡ TAKEN) × (p.rows ≡ row_count marks)
+module _ (marks : List ℕ) where
+  pub all_passed : (p : MarkPlace) → ◌≡◌ {A = Step} (Ok p) (walked 1 (mark_place 0 0) marks) → (fault_from 1 0 marks ≡ TAKEN) × (p.rows ≡ row_count marks)
   unfolding Told
-  all_passed p h = let t = subst (Told (fault_from 1 0 marks) (0 + row_count marks)) (sym e ∙ h) (told 1 (mark_place 0 0) marks) in (t.0, omega arith)
+  all_passed p e = let t = subst (Told (fault_from 1 0 marks) (0 + row_count marks)) (sym e) (told 1 (mark_place 0 0) marks) in (t.0, omega arith)
 
-  pub one_refused : (answer : ℕ) → r ≡ Refused answer → (answer_in r ≡ fault_from 1 0 marks) × (fault_from 1 0 marks ≡ TAKEN → ⊥)
+  pub one_refused : (answer : ℕ) → ◌≡◌ {A = Step} (Err answer) (walked 1 (mark_place 0 0) marks) → (answer ≡ fault_from 1 0 marks) × (fault_from 1 0 marks ≡ TAKEN → ⊥)
   unfolding Told
-  one_refused answer h =
-      let t = subst (Told (fault_from 1 0 marks) (0 + row_count marks)) (sym e ∙ h) (told 1 (mark_place 0 0) marks) in
-      (ap answer_in h ∙ t.0, t.1)
+  one_refused answer e = subst (Told (fault_from 1 0 marks) (0 + row_count marks)) (sym e) (told 1 (mark_place 0 0) marks)
 
 -- A walk that has passed `count` marks. What it has left to walk leads to the answer of the whole
 -- walk, and it has opened and begun no more than it has passed.
@@ -93,8 +90,8 @@ walk_start marks = record { depth = omega arith; rows = omega arith; same = refl
 
 -- What a step's answer says of the walk.
 Steps : ℕ → List ℕ → Step → Step → Type 0
-Steps count rest whole (Reached p) = Walk count p rest whole
-Steps count rest whole (Refused answer) = ◌≡◌ {A = Step} (Refused answer) whole
+Steps count rest whole (Ok p) = Walk count p rest whole
+Steps count rest whole (Err answer) = ◌≡◌ {A = Step} (Err answer) whole
 
 -- A mark opens at most one element.
 open_high : (depth mark : ℕ) → open_after depth mark ≤ depth + 1
@@ -124,29 +121,28 @@ module _ {count : ℕ} {p : MarkPlace} (marks : List ℕ) {whole : Step} (w : Wa
           | inr h ↦ rw h (rw h at same)
         ]
 
-    module _ (r : Step) (e : r ≡ passed (count + 1) p (get_or marks count 0)) where
-      pub walk_on : (q : MarkPlace) → r ≡ Reached q → Walk (count + 1) q (drop (count + 1) marks) whole
-      unfolding Steps
-      walk_on q h = subst (Steps (count + 1) (drop (count + 1) marks) whole) (sym e ∙ h) steps
+    pub walk_on : (q : MarkPlace) → ◌≡◌ {A = Step} (Ok q) (passed (count + 1) p (get_or marks count 0)) → Walk (count + 1) q (drop (count + 1) marks) whole
+    unfolding Steps
+    walk_on q e = subst (Steps (count + 1) (drop (count + 1) marks) whole) (sym e) steps
 
-      pub walk_stop : (answer : ℕ) → r ≡ Refused answer → r ≡ whole
-      unfolding Steps
-      walk_stop answer h = h ∙ subst (Steps (count + 1) (drop (count + 1) marks) whole) (sym e ∙ h) steps
+    pub walk_stop : (answer : ℕ) → ◌≡◌ {A = Step} (Err answer) (passed (count + 1) p (get_or marks count 0)) → ◌≡◌ {A = Step} (Err answer) whole
+    unfolding Steps
+    walk_stop answer e = subst (Steps (count + 1) (drop (count + 1) marks) whole) (sym e) steps
 
   -- At the end the root must have been opened and closed, else the answer is UNCLOSED.
   module _ (i : length marks ≤ count) where
-    walk_end : cond (unclosedb (count + 1) p.depth) (Refused UNCLOSED) (Reached p) ≡ whole
+    walk_end : cond (unclosedb (count + 1) p.depth) (Err UNCLOSED) (Ok p) ≡ whole
     unfolding walked
     walk_end = rw (drop_of_length-le marks {i = count} i) at w.same
 
-    pub none_passed : count ≡ 0 → ◌≡◌ {A = Step} (Refused UNCLOSED) whole
+    pub none_passed : count ≡ 0 → ◌≡◌ {A = Step} (Err UNCLOSED) whole
     unfolding unclosedb
     none_passed z = rw (or_right (ltb 0 p.depth) (eq-eqb (count + 1) 1 (omega arith))) at walk_end
 
-    pub left_open : 0 < p.depth → ◌≡◌ {A = Step} (Refused UNCLOSED) whole
+    pub left_open : 0 < p.depth → ◌≡◌ {A = Step} (Err UNCLOSED) whole
     unfolding unclosedb
     left_open h = rw (lt-ltb 0 p.depth h) at walk_end
 
-    pub all_closed : (count ≡ 0 → ⊥) → p.depth ≤ 0 → ◌≡◌ {A = Step} (Reached p) whole
+    pub all_closed : (count ≡ 0 → ⊥) → p.depth ≤ 0 → ◌≡◌ {A = Step} (Ok p) whole
     unfolding unclosedb
     all_closed z h = rw (le-ltb 0 p.depth h, ne_eqb (count + 1) 1 (omega arith)) at walk_end

@@ -7,10 +7,9 @@ use mathlib.Core.Bool.{true}
 use mathlib.Core.List.{List, [], ◌∷◌, ◌++◌}
 use Prim.Native.Nat.{ℕ, zero, suc, ◌+◌, ◌-◌, ◌≤◌, ◌<◌}
 use native.Mathlib.Nat.{not-suc-le-zero, le_of_suc-le-suc}
-use native.Mathlib.Numerals.{add-one}
 use native.Mathlib.Omega.{arith}
-use lib.ListN.{length, drop, set, get_or, replicate, length-set, length-replicate, replicate-append-replicate}
-use lib.Seq.{drop-cons, set_at, append_snoc, set-append_left}
+use lib.ListN.{length, drop, set, replicate, length-set, length-replicate}
+use lib.Seq.{set-append_left}
 use Rattle.laws.specs.Choose.{All}
 use Rattle.answers.specs.Output.{written}
 use Rattle.laws.proofs.Tests.{either}
@@ -19,19 +18,6 @@ use Rattle.marks.specs.Back.{Numbering, tagged, marks_of, numberedb}
 use Rattle.marks.specs.Mark.{CLOSE, closeb, open_after}
 use Rattle.marks.specs.Table.{rows_from, table_of, row_in}
 use Rattle.marks.proofs.Inverse.{tell_last, numbered_read}
-
--- One close more, put after the others.
-pub close_more : (put : ℕ) (out : List ℕ) → put < length out
-    → set (written (replicate put CLOSE) out) put CLOSE ≡ written (replicate (put + 1) CLOSE) out
-unfolding written
-close_more put out h =
-    let put-so-far = length-replicate put CLOSE in
-    ap (λ k. set (replicate put CLOSE ++ drop k out) put CLOSE) put-so-far
-    ∙ ap (λ ws. set (replicate put CLOSE ++ ws) put CLOSE) (drop-cons out put 0 h)
-    ∙ set_at (replicate put CLOSE) (get_or out put 0) (drop (suc put) out) CLOSE put put-so-far
-    ∙ sym (append_snoc (replicate put CLOSE) CLOSE (drop (suc put) out))
-    ∙ ap (λ us. us ++ drop (suc put) out) (replicate-append-replicate put 1 CLOSE)
-    ∙ ap (λ k. replicate (put + 1) CLOSE ++ drop k out) (sym (length-replicate (put + 1) CLOSE ∙ add-one put))
 
 -- A row starts at one of the first `count` marks.
 abbrev pub Within : ℕ → Row → Type 0

@@ -1,11 +1,15 @@
 -- docs/SCOPE.md, "Marks and tables": what the three calls answer and write.
-use Rattle.std.specs.Prelude.{ℕ, List, map, eqb, length}
+use Rattle.std.specs.Prelude.{ℕ, List, map, Result, Ok, Err, eqb, length}
 use Rattle.nodes.specs.declared.node.Node.{Node}
 use Rattle.laws.specs.Choose.{keep}
 use Rattle.nodes.specs.Words.{words_of}
 use Rattle.answers.specs.Output.{words_in, answer_of, if_taken, output_of}
 use Rattle.answers.specs.declared.verdict.Counted.{Counted}
+use Rattle.answers.specs.Answer.{TAKEN}
+use Rattle.answers.specs.Refusal.{number_of}
+use Rattle.answers.specs.declared.refusal.Refusal.{Refusal}
 use Rattle.answers.specs.Verdict.{ANCESTORS, verdict, counted}
+use Rattle.marks.specs.declared.unnumber.Marked.{Marked}
 use Rattle.marks.specs.declared.unnumber.Unnumbered.{Unnumbered}
 use Rattle.marks.specs.declared.row.Row.{Row}
 use Rattle.marks.specs.Back.{marks_of, document_of, check_table}
@@ -31,6 +35,11 @@ number_output document marks out = output_of (check_marks marks) (table_words do
 -- The answer of the way back from a table, with its three fields.
 abbrev pub unnumbered : ℕ → ℕ → ℕ → Unnumbered
 unnumbered answer document count = record { answer = answer; document = document; count = count }
+
+-- The answer of a way back that returns a refusal, or else what it has written.
+abbrev pub unnumbered_in : Result Marked Refusal → Unnumbered
+unnumbered_in (Ok marked) = unnumbered TAKEN marked.document marked.count
+unnumbered_in (Err refusal) = unnumbered (number_of refusal) 0 0
 
 -- The marks that the words of a table tell of.
 unfoldable pub table_marks : List ℕ → List ℕ

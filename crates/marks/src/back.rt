@@ -12,14 +12,12 @@ use nodes::node::{MOST_LEVELS, Node};
 
 // Returns how many elements are open before `mark`, an opening or a text, where `depth` are open
 // after it.
+#[tactic(auto, unfolding(crate::specs::Private::Walk::open_before))]
 pub(crate) fn open_before(depth: usize, mark: u32) -> usize
     requires { (mark ≡ CLOSE → ⊥) × ((mark ≡ TEXT → ⊥) → 0 < depth) }
     ensures { result ≡ open_before depth mark }
 {
-    if mark == TEXT {
-        return depth;
-    }
-    depth - 1
+    if mark == TEXT { depth } else { depth - 1 }
 }
 
 // Returns the row of the node that `mark` begins at `position`, an opening or a text, where `depth`
@@ -35,23 +33,17 @@ pub(crate) fn row_here(
     ensures { result ≡ row_here document position closes.now depth mark }
 {
     let level = open_before(depth, mark) as u32 + 1;
-    if mark == TEXT {
-        return Row {
-            node: Node {
-                document: document,
-                start: position,
-                end: position,
-                level: level,
-            },
-            tag: mark,
-        };
-    }
+    let end = if mark == TEXT {
+        position
+    } else {
+        closes[depth - 1]
+    };
     Row {
         node: Node {
-            document: document,
+            document,
             start: position,
-            end: closes[depth - 1],
-            level: level,
+            end,
+            level,
         },
         tag: mark,
     }
@@ -70,15 +62,15 @@ pub(crate) fn keep_close(
       closes : closes.new ≡ closes_before closes.old position place.depth CLOSE;
     } }
 {
-    let depth = place.depth;
-    closes[depth] = position;
+    closes[place.depth] = position;
     MarkPlace {
-        depth: depth + 1,
-        rows: place.rows,
+        depth: place.depth + 1,
+        ..place
     }
 }
 
 // Returns the place before `mark`, an opening or a text, which begins the last of the rows.
+#[tactic(auto, unfolding(crate::specs::Private::Walk::before_mark))]
 pub(crate) fn before_node(place: MarkPlace, mark: u32) -> MarkPlace
     requires { (mark ≡ CLOSE → ⊥) × ((mark ≡ TEXT → ⊥) → 0 < place.depth) × (0 < place.rows) }
     ensures { result ≡ before_mark place mark }

@@ -1,6 +1,7 @@
 // Numbers a document's marks into the rows of its table.
 ghost use Rattle.std.specs.Prelude.{◌≡◌, ◌/◌, ◌≤◌, ◌<◌, length};
 ghost use Rattle.answers.specs.Answer.{TAKEN};
+ghost use Rattle.answers.specs.Refusal.{counted_in};
 ghost use Rattle.nodes.specs.Node.{MOST_LEVELS};
 ghost use Rattle.answers.specs.Output.{written};
 ghost use Rattle.marks.specs.Mark.{CLOSE, TEXT, check_marks};
@@ -9,11 +10,9 @@ ghost use Rattle.marks.specs.Table.{ROW_WORDS, table_words};
 ghost use Rattle.marks.specs.Private.Walk.{before_mark, closes_before, output_before, row_count};
 
 use crate::back::{before_node, keep_close, row_here};
-use crate::mark::{CLOSE, MarkPlace, Step, answer_in, pass_marks};
+use crate::mark::{CLOSE, MarkPlace, pass_marks};
 use crate::row::{put_row, row_count};
-use answers::answer::{LONG, ROOM};
-use answers::outcome::{wrote, wrote_nothing};
-use answers::verdict::Counted;
+use answers::refusal::{Fault, Refusal};
 use nodes::node::{MOST_LEVELS, MOST_NODES};
 
 // Goes back over `mark`: keeps a close in `closes`, and writes the row of any other mark into `out`
@@ -51,38 +50,29 @@ fn write_rows(document: u32, marks: &[u32], rows: usize, out: &mut [u32])
     ensures { out.new ≡ written (table_words document marks.now) out.old }
 {
     let mut closes = [0u32; MOST_LEVELS];
-    let mut place = MarkPlace {
-        depth: 0,
-        rows: rows,
-    };
-    let mut position = marks.len() as u32;
+    let mut place = MarkPlace { depth: 0, rows };
     // Rests on Backward: back_on, back_end.
-    while 0 < position {
-        let mark = marks[position as usize - 1];
-        place = write_mark(document, position, mark, &mut closes, place, out);
-        position -= 1;
+    for before in (0..marks.len()).rev() {
+        let position = before as u32 + 1;
+        place = write_mark(document, position, marks[before], &mut closes, place, out);
     }
 }
 
 // Writes the rows of a document's nodes into `out`, in start order, and returns their number. On
 // refusal `out` stays as it was.
-pub fn number(document: u32, marks: &[u32], out: &mut [u32]) -> Counted
+pub fn number(document: u32, marks: &[u32], out: &mut [u32]) -> Result<usize, Fault>
     ensures { record {
-      answer : result ≡ number_outcome document marks.now out.old;
+      answer : counted_in result ≡ number_outcome document marks.now out.old;
       output : out.new ≡ number_output document marks.now out.old;
     } }
 {
     if MOST_NODES < marks.len() {
-        return wrote_nothing(LONG);
+        return Err(Refusal::Long.into());
     }
-    let step = pass_marks(marks);
-    let Step::Reached(end) = step else {
-        return wrote_nothing(answer_in(step));
-    };
-    let rows = end.rows;
+    let rows = pass_marks(marks)?.rows;
     if row_count(out) < rows {
-        return wrote_nothing(ROOM);
+        return Err(Refusal::Room.into());
     }
     write_rows(document, marks, rows, out);
-    wrote(rows)
+    Ok(rows)
 }

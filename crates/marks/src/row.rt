@@ -1,16 +1,17 @@
 // A row of a table: a node and its tag, in five words.
 ghost use Rattle.std.specs.Prelude.{◌≡◌, ◌*◌, ◌/◌, ◌<◌, length};
 ghost use Rattle.std.proofs.lemmas.List.Edits.{sets};
+ghost use Rattle.answers.specs.Refusal.{answer_in};
 ghost use Rattle.marks.specs.Table.{ROW_WORDS, row_words, rows, row_in, row_fault};
 
-use answers::answer::{LONG, RAGGED, TAKEN};
+use answers::refusal::Refusal;
 use nodes::node::{MOST_NODES, NODE_WORDS, Node};
 
 // How many words a row takes: a node's, and the tag.
 pub const ROW_WORDS: usize = NODE_WORDS + 1;
 
 // A node of a numbered document and its tag, which is TEXT for a text.
-#[derive(Clone, Copy)]
+#[derive(Clone, Copy, PartialEq, Eq)]
 pub struct Row {
     pub node: Node,
     pub tag: u32,
@@ -23,18 +24,19 @@ pub(crate) fn row_count(words: &[u32]) -> usize
     words.len() / ROW_WORDS
 }
 
-// Returns what is wrong with the words of a table, whatever the rows are: RAGGED, LONG, or nothing,
-// which is TAKEN.
-pub(crate) fn row_fault(words: &[u32]) -> u32
-    ensures { result ≡ row_fault words.now }
+// Checks the words of a table, whatever the rows are. They may be faulty by RAGGED or LONG.
+// By hand, as others like it: a shared one would divide by a size that a caller names.
+#[tactic(auto, unfolding(crate::specs::Table::row_fault))]
+pub(crate) fn check_rows(words: &[u32]) -> Result<(), Refusal>
+    ensures { answer_in result ≡ row_fault words.now }
 {
     if words.len() % ROW_WORDS != 0 {
-        return RAGGED;
+        return Err(Refusal::Ragged);
     }
     if MOST_NODES < row_count(words) {
-        return LONG;
+        return Err(Refusal::Long);
     }
-    TAKEN
+    Ok(())
 }
 
 // Returns the row at `index` of the table in `words`.

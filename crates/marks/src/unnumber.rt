@@ -3,17 +3,18 @@ ghost use Rattle.std.specs.Prelude.{◌≡◌, ◌||◌, ◌/◌, ◌≤◌, ◌
 ghost use Rattle.laws.specs.Choose.{All};
 ghost use Rattle.nodes.specs.Node.{MOST_LEVELS};
 ghost use Rattle.answers.specs.Output.{written};
-ghost use Rattle.marks.specs.Back.{same_rowb, numberedb, tagged};
+ghost use Rattle.marks.specs.Back.{numberedb, tagged};
 ghost use Rattle.marks.specs.Mark.{CLOSE, textb};
-ghost use Rattle.marks.specs.Outcome.{unnumbered, unnumber_outcome, unnumber_output};
+ghost use Rattle.marks.specs.Outcome.{unnumbered_in, unnumber_outcome, unnumber_output};
 ghost use Rattle.marks.specs.Table.{ROW_WORDS, rows};
 ghost use Rattle.marks.specs.Private.Walk.{mark_here, fitsb, SteppedBack, all_read_back};
 
 use crate::back::{before_node, keep_close, open_before, row_here};
-use crate::mark::{CLOSE, MarkPlace, Step, TEXT, mark_fault};
-use crate::row::{Row, row_at, row_count, row_fault};
-use answers::answer::{ROOM, TABLE, TAKEN};
-use nodes::node::{MOST_LEVELS, MOST_NODES, is_same};
+use crate::mark::{CLOSE, MarkPlace, TEXT, check_mark};
+use crate::row::{check_rows, row_at, row_count};
+use answers::answer::TAKEN;
+use answers::refusal::Refusal;
+use nodes::node::{MOST_LEVELS, MOST_NODES};
 
 // The answer of the way back: its number, the document's number and how many marks were written.
 // The last two are 0 on refusal.
@@ -25,25 +26,30 @@ pub struct Unnumbered {
     pub count: usize,
 }
 
-// Returns the answer of a call that wrote nothing.
-fn no_marks(answer: u32) -> Unnumbered
-    ensures { result ≡ unnumbered answer 0 0 }
-{
-    Unnumbered {
-        answer: answer,
-        document: 0,
-        count: 0,
-    }
+// What the way back has written: how many marks, and the number of their document.
+#[derive(Clone, Copy)]
+pub struct Marked {
+    pub document: u32,
+    pub count: usize,
 }
 
-// Returns whether two rows are identical in all five words.
-fn is_same_row(x: Row, y: Row) -> bool
-    ensures { result ≡ same_rowb x y }
-{
-    if !is_same(x.node, y.node) {
-        return false;
+impl From<Result<Marked, Refusal>> for Unnumbered {
+    ghost from_gives = { λ wrote unnumbered. unnumbered ≡ unnumbered_in wrote };
+
+    fn from(wrote: Result<Marked, Refusal>) -> Unnumbered {
+        match wrote {
+            Ok(marked) => Unnumbered {
+                answer: TAKEN,
+                document: marked.document,
+                count: marked.count,
+            },
+            Err(refusal) => Unnumbered {
+                answer: refusal.into(),
+                document: 0,
+                count: 0,
+            },
+        }
     }
-    x.tag == y.tag
 }
 
 // Returns the mark at `position`, as the last of the first `count` rows tells: its tag where it
@@ -66,10 +72,7 @@ fn mark_here(table: &[u32], count: usize, position: u32) -> u32
 fn is_opened(depth: usize, mark: u32) -> bool
     ensures { result ≡ (textb mark || ltb 0 depth) }
 {
-    if mark == TEXT {
-        return true;
-    }
-    0 < depth
+    mark == TEXT || 0 < depth
 }
 
 // Returns whether `mark`, an opening or a text, is in place and has the last of the rows left as
@@ -85,41 +88,34 @@ fn is_fitting(
     requires { (mark ≡ CLOSE → ⊥) × (place.depth ≤ MOST_LEVELS) × (0 < place.rows) × (place.rows ≤ length table.now / ROW_WORDS) }
     ensures { result ≡ fitsb (rows table.now) document position closes.now place mark }
 {
-    if !is_opened(place.depth, mark) {
-        return false;
-    }
-    if mark_fault(position as usize, open_before(place.depth, mark), mark) != TAKEN {
-        return false;
-    }
-    is_same_row(
-        row_here(document, position, closes, place.depth, mark),
-        row_at(table, place.rows - 1),
-    )
+    is_opened(place.depth, mark)
+        && check_mark(position as usize, open_before(place.depth, mark), mark).is_ok()
+        && row_here(document, position, closes, place.depth, mark) == row_at(table, place.rows - 1)
 }
 
-// Steps back over the mark at `position` and returns the place before it, or the refusal of the
-// table.
+// Steps back over the mark at `position` and returns the place before it, or nothing where the mark
+// doesn't fit.
 fn step_back(
     table: &[u32],
     document: u32,
     position: u32,
     closes: &mut [u32; MOST_LEVELS],
     place: MarkPlace,
-) -> Step
+) -> Option<MarkPlace>
     requires { (place.depth ≤ MOST_LEVELS) × (place.rows ≤ length table.now / ROW_WORDS) }
     ensures { SteppedBack (rows table.now) document position closes.old place result closes.new }
 {
     let mark = mark_here(table, place.rows, position);
     if mark == CLOSE {
         if place.depth == MOST_LEVELS {
-            return Step::Refused(TABLE);
+            return None;
         }
-        return Step::Reached(keep_close(closes, position, place));
+        return Some(keep_close(closes, position, place));
     }
     if !is_fitting(table, document, position, closes, place, mark) {
-        return Step::Refused(TABLE);
+        return None;
     }
-    Step::Reached(before_node(place, mark))
+    Some(before_node(place, mark))
 }
 
 // Returns whether all rows are those of marks up to the position `last`, walked back to the first.
@@ -131,20 +127,14 @@ fn reads_back(table: &[u32], document: u32, last: u32) -> bool
         depth: 0,
         rows: row_count(table),
     };
-    let mut position = last;
     // Rests on unnumber/reads_back/Answers: reads_on, reads_stop, read_all.
-    while 0 < position {
-        let step = step_back(table, document, position, &mut closes, place);
-        let Step::Reached(reached) = step else {
+    for before in (0..last).rev() {
+        let Some(reached) = step_back(table, document, before + 1, &mut closes, place) else {
             return false;
         };
         place = reached;
-        position -= 1;
     }
-    if place.depth != 0 {
-        return false;
-    }
-    place.rows == 0
+    place.depth == 0 && place.rows == 0
 }
 
 // Returns whether `table` is that of an accepted list of marks, the last of which is the root's
@@ -167,12 +157,7 @@ fn put_closes(out: &mut [u32], count: usize)
     requires { count ≤ length out.old }
     ensures { out.new ≡ written (replicate count CLOSE) out.old }
 {
-    let mut put = 0;
-    // Rests on Tagging: close_more.
-    while put < count {
-        out[put] = CLOSE;
-        put += 1;
-    }
+    out[..count].fill(CLOSE);
 }
 
 // Puts each row's tag into `out`, at the row's start.
@@ -180,40 +165,34 @@ fn put_tags(table: &[u32], out: &mut [u32])
     requires { All (λ r. (0 < r.node.start) × (r.node.start ≤ length out.old)) (rows table.now) }
     ensures { out.new ≡ tagged (rows table.now) out.old }
 {
-    let mut index = 0;
     // Rests on unnumber/put_tags/Answers: put_on, put_all.
-    while index < row_count(table) {
+    for index in 0..row_count(table) {
         let row = row_at(table, index);
         out[row.node.start as usize - 1] = row.tag;
-        index += 1;
     }
 }
 
 // Writes the marks of `table` into `out`, and returns their number and the document's. On refusal
 // `out` stays as it was.
-pub fn unnumber(table: &[u32], out: &mut [u32]) -> Unnumbered
+pub fn unnumber(table: &[u32], out: &mut [u32]) -> Result<Marked, Refusal>
     ensures { record {
-      answer : result ≡ unnumber_outcome table.now out.old;
+      answer : unnumbered_in result ≡ unnumber_outcome table.now out.old;
       output : out.new ≡ unnumber_output table.now out.old;
     } }
 {
-    let fault = row_fault(table);
-    if fault != TAKEN {
-        return no_marks(fault);
-    }
+    check_rows(table)?;
     if !is_numbered(table) {
-        return no_marks(TABLE);
+        return Err(Refusal::Table);
     }
     let root = row_at(table, 0);
     let count = root.node.end as usize;
     if out.len() < count {
-        return no_marks(ROOM);
+        return Err(Refusal::Room);
     }
     put_closes(out, count);
     put_tags(table, out);
-    Unnumbered {
-        answer: TAKEN,
+    Ok(Marked {
         document: root.node.document,
-        count: count,
-    }
+        count,
+    })
 }

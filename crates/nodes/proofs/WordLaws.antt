@@ -43,6 +43,10 @@ node_words (d ∷ s ∷ e ∷ l ∷ ws) (suc i) h =
     (sym (beyond d s e l ws {k = 4 * i + 2} {m = 4 * suc i + 2} (omega arith)) k)
     (sym (beyond d s e l ws {k = 4 * i + 3} {m = 4 * suc i + 3} (omega arith)) k)
 
+-- A node of four zeros, as the default node is.
+pub zeros : (n : Node) → (n.document ≡ 0) × ((n.start ≡ 0) × ((n.end ≡ 0) × (n.level ≡ 0))) → n ≡ node 0 0 0 0
+zeros n h = λ k. node (h.0 k) (h.1.0 k) (h.1.1.0 k) (h.1.1.1 k)
+
 -- Storing words past the first node stores them into the rest.
 past : (d s e l : ℕ) (ws : List ℕ) {k m : ℕ} (vs : List ℕ) → m ≡ suc (suc (suc (suc k)))
     → sets (d ∷ s ∷ e ∷ l ∷ ws) m vs ≡ d ∷ s ∷ e ∷ l ∷ sets ws k vs

@@ -3,12 +3,13 @@
 -- What would break it: A number read one byte off, or with its bytes in another order, would be
 -- caught here.
 use mathlib.Core.Path.{◌≡◌, refl, ap, sym, ◌∙◌}
-use mathlib.Core.List.{List, [], ◌∷◌, ◌++◌, map, flat_map}
+use mathlib.Core.List.{List, [], ◌∷◌, ◌++◌, map, flat_map, append_assoc}
 use Prim.Native.Nat.{ℕ, ◌+◌, ◌*◌, ◌/◌, ◌%◌, ◌≤◌, ◌<◌}
 use native.Mathlib.Omega.{arith}
 use lib.ListN.{length, get_or, take, drop, set, length-map, get_or-map, get_or-eq_default}
 use native.Mathlib.Numerals.{towards_suc}
 use borrow.Author.Tests.{lt-ltb}
+use borrow.Rule.Slice.PartMut.{put_mid}
 use Rattle.nodes.specs.declared.node.Node.{Node}
 use Rattle.laws.specs.Choose.{All}
 use Rattle.nodes.specs.Words.{node, nodes, node_at}
@@ -16,7 +17,7 @@ use Rattle.answers.specs.Output.{words_in, written}
 use Rattle.nodes.proofs.WordLaws.{length_nodes, node_words, nodes_drop, nodes_take, nodes_from_lem, nodes_beyond}
 use Rattle.answers.proofs.OutputLaws.{length_items}
 use Rattle.laws.proofs.Choices.{map_drop, map_take}
-use lib.Seq.{take_all}
+use lib.Seq.{take_all, sets-eq, drop-drop}
 use Rattle.numbers.specs.Part.{copied}
 use Rattle.numbers.specs.Little.{NODE_BYTES, little, bytes_of, numbers, number_count, number_at, put_number, node_in}
 
@@ -112,6 +113,13 @@ pub four_bytes : (bs : List ℕ) (i n : ℕ) → i < number_count bs
     ≡ put_number bs i n
 unfolding put_number bytes_of
 four_bytes bs i n h = rw (lt-ltb _ _ h) (simp towards_suc)
+
+-- So does a copy of its four bytes over the part where it lies.
+pub part_put : (bs part : List ℕ) (i n k : ℕ) → i < number_count bs → k ≡ 4 → part ≡ bytes_of n → put_mid (4 * i) k bs part ≡ put_number bs i n
+unfolding put_number bytes_of
+part_put bs part i n k h q e =
+    rw (e, q, lt-ltb i (number_count bs) h, drop-drop 4 (4 * i) bs)
+    (sym (append_assoc (take (4 * i) bs) (bytes_of n) (drop (4 * i + 4) bs)) ∙ sym (sets-eq (bytes_of n) bs (4 * i) (omega arith)))
 
 -- The nodes of a list that lies in bytes.
 pub nodes_in : (bs : List ℕ) → length (nodes (numbers bs)) ≡ length bs / NODE_BYTES

@@ -17,20 +17,13 @@ fn number_count(bytes: &[u8]) -> usize
     bytes.len() / NUMBER_BYTES
 }
 
-// Returns the number that the bytes `a`, `b`, `c` and `d` make, the lowest byte first.
-fn from_four(a: u8, b: u8, c: u8, d: u8) -> u32
-    ensures { result ≡ little a b c d }
-{
-    a as u32 + 256 * b as u32 + 65536 * c as u32 + 16777216 * d as u32
-}
-
 // Returns the number that the four bytes from `at` on make.
 fn number_from(bytes: &[u8], at: usize) -> u32
     requires { at + 4 ≤ length bytes.now }
     ensures { result ≡ little (get_or bytes.now at 0) (get_or bytes.now (at + 1) 0)
         (get_or bytes.now (at + 2) 0) (get_or bytes.now (at + 3) 0) }
 {
-    from_four(bytes[at], bytes[at + 1], bytes[at + 2], bytes[at + 3])
+    u32::from_le_bytes([bytes[at], bytes[at + 1], bytes[at + 2], bytes[at + 3]])
 }
 
 // Returns the number at `index` of the bytes, counted in numbers, or 0 where they have none there.
@@ -52,10 +45,7 @@ pub fn put_number(bytes: &mut [u8], index: usize, number: u32)
         return;
     }
     let at = NUMBER_BYTES * index;
-    bytes[at] = (number % 256) as u8;
-    bytes[at + 1] = (number / 256 % 256) as u8;
-    bytes[at + 2] = (number / 65536 % 256) as u8;
-    bytes[at + 3] = (number / 16777216 % 256) as u8;
+    bytes[at..at + NUMBER_BYTES].copy_from_slice(&number.to_le_bytes());
 }
 
 // Returns the node at `index` of a list that lies in bytes, or a node of zeros where the list has
@@ -64,12 +54,7 @@ pub fn node_in(bytes: &[u8], index: usize) -> Node
     ensures { result ≡ node_in bytes.now index }
 {
     if bytes.len() / NODE_BYTES <= index {
-        return Node {
-            document: 0,
-            start: 0,
-            end: 0,
-            level: 0,
-        };
+        return Node::default();
     }
     let at = NODE_BYTES * index;
     Node {

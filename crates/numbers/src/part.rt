@@ -15,10 +15,7 @@ pub fn part_of(bytes: &[u8], from: usize, count: usize) -> &[u8]
     if bytes.len() < from {
         return &bytes[..0];
     }
-    if bytes.len() - from < count {
-        return &bytes[from..];
-    }
-    &bytes[from..from + count]
+    &bytes[from..from + count.min(bytes.len() - from)]
 }
 
 // Copies the numbers in `bytes` to the beginning of `words`, as many as there is room for; no word
@@ -26,10 +23,8 @@ pub fn part_of(bytes: &[u8], from: usize, count: usize) -> &[u8]
 pub fn copy_numbers(bytes: &[u8], words: &mut [u32])
     ensures { words.new ≡ copied bytes.now words.old }
 {
-    let mut index = 0;
     // Rests on answers: OutputLaws: written_more.
-    while index < words.len() && index < bytes.len() / NUMBER_BYTES {
+    for index in 0..words.len().min(bytes.len() / NUMBER_BYTES) {
         words[index] = number_at(bytes, index);
-        index += 1;
     }
 }

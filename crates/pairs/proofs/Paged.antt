@@ -1,5 +1,5 @@
 -- Why it holds: Serving what remains from the beginning writes the first of it that fits, and the
--- place of the last pair can be read off the output. Both page calls cite it.
+-- place of the last pair can be read off the output. The page call cites it.
 -- What would break it: A call that is done although its room ran out, or whose place lies past what
 -- it wrote, would be caught here.
 use mathlib.Core.Path.{◌≡◌, refl, sym, ap, ◌∙◌}

@@ -2,7 +2,7 @@
 -- doesn't fit ends the group, and so does the last follower.
 -- What would break it: A pair stored one off, a skipped follower, or a count of what fits that is
 -- one off would be caught here.
-use Prim.Native.Nat.{ℕ, zero, suc, ◌+◌, ◌-◌, ◌*◌, ◌/◌, ◌%◌, ◌≤◌, ◌<◌, zero-le}
+use Prim.Native.Nat.{ℕ, zero, suc, ◌+◌, ◌-◌, ◌*◌, ◌/◌, ◌%◌, ◌≤◌, ◌<◌, min, zero-le}
 use mathlib.Core.Path.{◌≡◌, refl, sym, ap, subst, ◌∙◌}
 use mathlib.Core.Bool.{Bool, true, false}
 use mathlib.Core.List.{List, [], ◌∷◌, ◌++◌, map-append}
@@ -118,20 +118,17 @@ module _ (order : Order) (x : Node) where
     left : length (drop fit (take wanted zs)) ≡ wanted - fit
     left = length-drop fit (take wanted zs) ∙ ap (λ n. n - fit) (length-take-le wanted zs w)
 
-    counted : (room out - written ≤ fit) ⊎ (wanted ≤ fit)
+    counted : min wanted (room out - written) ≤ fit
         → ◌≡◌ {A = List ℕ × ℕ × Bool} (us, written + fit, eqb fit wanted) (served_group order out written x (take wanted zs))
-    counted g = last g (either (ltb fit wanted)) ∙ sym served_first
+    counted g = last (either (ltb fit wanted)) ∙ sym served_first
       where
-        all : wanted ≤ fit → ◌≡◌ {A = List ℕ × ℕ × Bool} (us, written + fit, eqb fit wanted) (served_group order us (written + fit) x (drop fit (take wanted zs)))
-        all l =
+        last : (ltb fit wanted ≡ true) ⊎ (ltb fit wanted ≡ false)
+            → ◌≡◌ {A = List ℕ × ℕ × Bool} (us, written + fit, eqb fit wanted) (served_group order us (written + fit) x (drop fit (take wanted zs)))
+        last (inr l) =
+            let m : wanted ≤ fit = ltb-false _ _ l in
             rw (eq-eqb fit wanted (omega arith))
             (all_fit us (written + fit) (drop fit (take wanted zs)) (drop_of_length-le (take wanted zs) {i = fit} (omega (arith, length-take-le wanted zs w))))
-
-        last : (room out - written ≤ fit) ⊎ (wanted ≤ fit) → (ltb fit wanted ≡ true) ⊎ (ltb fit wanted ≡ false)
-            → ◌≡◌ {A = List ℕ × ℕ × Bool} (us, written + fit, eqb fit wanted) (served_group order us (written + fit) x (drop fit (take wanted zs)))
-        last (inr b) t = all b
-        last (inl b) (inr l) = all (ltb-false _ _ l)
-        last (inl b) (inl l) =
+        last (inl l) =
             let m : fit < wanted = ltb-true _ _ l in
             rw (ne_eqb fit wanted (λ o. omega arith))
             (none_fit us (written + fit) (drop fit (take wanted zs)) (omega (arith, same_room)) (omega (arith, left)))
@@ -155,7 +152,7 @@ module _ (order : Order) (x : Node) (ws : List ℕ) (from to m fit : ℕ) (p : P
 
   pub counted_in : (out us : List ℕ) (written : ℕ)
       → ◌≡◌ {A = List ℕ × ℕ × Bool} (us, written + count (take m (drop from ws)), true) (served_group order out written x (nodes (take m (drop from ws))))
-      → (room out - written ≤ fit) ⊎ ((to - from) / 4 ≤ fit)
+      → min ((to - from) / 4) (room out - written) ≤ fit
       → ◌≡◌ {A = List ℕ × ℕ × Bool} (us, written + fit, eqb fit ((to - from) / 4)) (served_group order out written x (stretch ws from to))
   counted_in out us written s g =
       let n : count (take m (drop from ws)) ≡ fit = omega (arith, part_length) in

@@ -101,14 +101,6 @@ module _ (ws : List ℕ) (a : Node) where
       ∙ keep_from (λ n. relatedb relation (pair_of Ancestor a n)) past (stretch ws from to) (run_rises from to r q)
       ∙ ap (from_start past) (sym (run_matches relation from to r q))
 
-  -- An ancestor that isn't open at the first descendant after it has no group.
-  pub run_none : (relation : Relation) (past from : ℕ) (x : Node) (b : Bool) → Running ws a (from / 4) → x ≡ a → b ≡ runningb ws x (from / 4) → b ≡ false
-      → from_start past (matches (asked relation Ancestor) a (drop (from / 4) (nodes ws))) ≡ []
-  unfolding from_start
-  run_none relation past from x b r q o n =
-      let e = run_stops ws a (from / 4) (ap (λ z. runningb ws z (from / 4)) (sym q) ∙ sym o ∙ n) in
-      rw (none_match ws a relation (from / 4) (from / 4) r (omega (arith, e))) (drop-nil {A = Node} (first_at (starts_from past) []))
-
   -- The run of an ancestor that is open there, and what is left of it from the first that starts
   -- late enough on.
   module _ (from to ahead past : ℕ) (x : Node) (p : Placed ws from) (r : Running ws a (from / 4)) (q : x ≡ a) (m : to % 4 ≡ 0)

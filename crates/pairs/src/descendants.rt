@@ -1,4 +1,6 @@
 // The listing in descendant order: each descendant in turn with the ancestors that are open at it.
+// The sweep is compiled twice, with jumps and without. What would not become part of both by itself
+// is marked.
 ghost use Rattle.std.specs.Prelude.{◌≡◌, reverse, ◌/◌, ◌%◌, ◌≤◌, ◌<◌, length};
 ghost use Rattle.answers.specs.Answer.{TAKEN};
 ghost use Rattle.nodes.specs.Words.{NODE_WORDS, count, node_at};
@@ -9,7 +11,7 @@ ghost use Rattle.tickets.specs.Ticket.{asked};
 ghost use Rattle.pairs.specs.Private.Stack.{opened, Fits};
 ghost use Rattle.pairs.specs.Private.Sweep.{Placed, stretch, from_start, Started, served_group, served_all};
 
-use crate::groups::{Handed, first_from, node_from, pair_with_ancestors};
+use crate::groups::{Handed, NOTHING, first_from, hand_group, node_from};
 use crate::open::{STACK_WORDS, open_before, still_open};
 use nodes::node::{NODE_WORDS, Node, is_one_deeper};
 use tickets::ticket::{Order, Place, Relation};
@@ -17,7 +19,7 @@ use tickets::ticket::{Order, Place, Relation};
 // Returns the word of `stack` from which on the ancestors have the relation with `descendant`,
 // which lies inside all of them. It can lie directly inside only the innermost, as the levels rise
 // towards it.
-pub(crate) fn first_match(relation: Relation, stack: &[u32], used: usize, descendant: Node) -> usize
+fn first_match(relation: Relation, stack: &[u32], used: usize, descendant: Node) -> usize
     requires { Placed stack.now used × Chain (opened used stack.now) × Upon descendant (opened used stack.now) }
     ensures { record {
       aligned : result % NODE_WORDS ≡ 0;
@@ -41,6 +43,7 @@ pub(crate) fn first_match(relation: Relation, stack: &[u32], used: usize, descen
 
 // Hands out the pairs of the descendant at the word `at` with those ancestors on `stack` that start
 // at `past` or later. All ancestors on `stack` contain it.
+#[inline(always)]
 fn hand_descendant(
     out: &mut [u32],
     written: usize,
@@ -60,16 +63,29 @@ fn hand_descendant(
 {
     let from = first_match(relation, stack, used, node_from(descendants, at));
     let ahead = first_from(stack, from, used, past);
-    pair_with_ancestors(out, written, descendants, at, stack, ahead, used)
+    hand_group(
+        out,
+        written,
+        Order::Descendant,
+        descendants,
+        at,
+        stack,
+        ahead,
+        used,
+    )
 }
 
 // Hands out the listing in descendant order, from the descendant at the index `first` on. Of that
 // descendant's group only the pairs with ancestors that start at `past` or later are handed out.
 // Each descendant finds on the stack the ancestors that started before it and have not ended. First
 // those that ended are taken off; then those that started in between and are still open are put on.
-pub(crate) fn sweep_descendants(
+// With `JUMPS` each that ended in between is passed together with everything inside it. It is a
+// function of its own, so that its stack isn't taken up while the lists are checked.
+#[inline(never)]
+pub(crate) fn sweep_descendants<const JUMPS: bool>(
     ancestors: &[u32],
     descendants: &[u32],
+    links: &[u32],
     relation: Relation,
     first: usize,
     past: u64,
@@ -83,17 +99,15 @@ pub(crate) fn sweep_descendants(
     let mut stack = [0u32; STACK_WORDS];
     let mut used = 0;
     let mut passed = 0;
-    let mut handed = Handed {
-        count: 0,
-        done: true,
-    };
+    let mut handed = NOTHING;
     let mut least = past;
+    // By hand: a `for` costs three instructions a descendant, and no listing may get dearer.
     let mut j = NODE_WORDS * first;
     // Rests on Descending: descend_on, descend_stop, ready_next.
     'samples: while j < descendants.len() {
         let descendant = node_from(descendants, j);
         let left = still_open(&stack, used, descendant);
-        let opened = open_before(&mut stack, left, passed, ancestors, descendant);
+        let opened = open_before::<JUMPS>(&mut stack, left, passed, ancestors, links, descendant);
         used = opened.used;
         passed = opened.passed;
         handed = hand_descendant(

@@ -15,13 +15,21 @@ use tickets::ticket::Order;
 
 // How far a listing was handed out: the pairs written so far, and whether all that were to be
 // written found room.
+// By hand: a Result costs up to three instructions a leader, and no listing may get dearer.
 #[derive(Clone, Copy)]
 pub(crate) struct Handed {
     pub count: usize,
     pub done: bool,
 }
 
+// What is handed out before the first leader.
+pub(crate) const NOTHING: Handed = Handed {
+    count: 0,
+    done: true,
+};
+
 // Returns the node that starts at the word `at`.
+// By hand: shared, it would be public, and no public function asks where an index lies.
 pub(crate) fn node_from(words: &[u32], at: usize) -> Node
     requires { Placed words.now at × (at < length words.now) }
     ensures { result ≡ node_at words.now (at / NODE_WORDS) }
@@ -35,6 +43,7 @@ pub(crate) fn node_from(words: &[u32], at: usize) -> Node
 }
 
 // Writes the four words of `node` from the word `at` on.
+// By hand: shared, it would be public, and no public function asks where an index lies.
 pub(crate) fn put_words(words: &mut [u32], at: usize, node: Node)
     requires { at + 3 < length words.old }
     ensures { words.new ≡ sets words.old at (words_of node) }
@@ -74,26 +83,10 @@ fn put_group(out: &mut [u32], written: usize, order: Order, leader: Node, follow
     ensures { (out.new, written + count followers.now, true)
         ≡ served_group order out.old written leader (nodes followers.now) }
 {
-    let mut k = 0;
     // Rests on Stretches: turned, ended.
-    while k < node_count(followers) {
+    for k in 0..node_count(followers) {
         put_pair(out, written + k, order, leader, node_at(followers, k));
-        k += 1;
     }
-}
-
-// Returns the number of the `wanted` pairs that fit into the room `left`.
-fn fitting(left: usize, wanted: usize) -> usize
-    ensures { record {
-      room : result ≤ left;
-      asked : result ≤ wanted;
-      most : (left ≤ result) ⊎ (wanted ≤ result);
-    } }
-{
-    if left < wanted {
-        return left;
-    }
-    wanted
 }
 
 // Hands out the pairs of `leader` with the followers from the word `from` to the word `to`, as many
@@ -112,7 +105,7 @@ fn hand_stretch(
         ≡ served_group order out.old written leader (stretch followers.now from to) }
 {
     let wanted = (to - from) / NODE_WORDS;
-    let fit = fitting(out.len() / PAIR_WORDS - written, wanted);
+    let fit = wanted.min(out.len() / PAIR_WORDS - written);
     put_group(
         out,
         written,
@@ -126,23 +119,25 @@ fn hand_stretch(
     }
 }
 
-// Hands out the pairs of the descendant at the word `at` with the ancestors from `from` to `to`, as
-// many as fit. Many groups have one pair, so the first is written by itself. For the others the
-// descendant is read again: a node that is held while another is stored would be copied word by
-// word.
-pub(crate) fn pair_with_ancestors(
+// Hands out the pairs of the leader at the word `at` with the followers from the word `from` to the
+// word `to`, as many as fit. Many groups have one pair, so the first is written by itself. For the
+// others the leader is read again: a node that is held while another is stored would be copied word
+// by word.
+#[inline(always)]
+pub(crate) fn hand_group(
     out: &mut [u32],
     written: usize,
-    descendants: &[u32],
+    order: Order,
+    leaders: &[u32],
     at: usize,
-    ancestors: &[u32],
+    followers: &[u32],
     from: usize,
     to: usize,
 ) -> Handed
-    requires { Placed descendants.now at × (at < length descendants.now) × Placed ancestors.now from × Placed ancestors.now to }
+    requires { Placed leaders.now at × (at < length leaders.now) × Placed followers.now from × Placed followers.now to }
     ensures { (out.new, result.count, result.done)
-        ≡ served_group Order.Descendant out.old written (node_at descendants.now (at / NODE_WORDS))
-        (stretch ancestors.now from to) }
+        ≡ served_group order out.old written (node_at leaders.now (at / NODE_WORDS))
+        (stretch followers.now from to) }
 {
     if to <= from {
         return Handed {
@@ -156,11 +151,12 @@ pub(crate) fn pair_with_ancestors(
             done: false,
         };
     }
-    put_nodes(
+    put_pair(
         out,
         written,
-        node_from(ancestors, from),
-        node_from(descendants, at),
+        order,
+        node_from(leaders, at),
+        node_from(followers, from),
     );
     if to - from == NODE_WORDS {
         return Handed {
@@ -171,61 +167,9 @@ pub(crate) fn pair_with_ancestors(
     hand_stretch(
         out,
         written + 1,
-        Order::Descendant,
-        node_from(descendants, at),
-        ancestors,
-        from + NODE_WORDS,
-        to,
-    )
-}
-
-// Hands out the pairs of the ancestor at the word `at` with the descendants from `from` to `to`, in
-// the same way. One function that takes the order was too large to become part of its callers
-// (docs/DECISIONS.md).
-pub(crate) fn pair_with_descendants(
-    out: &mut [u32],
-    written: usize,
-    ancestors: &[u32],
-    at: usize,
-    descendants: &[u32],
-    from: usize,
-    to: usize,
-) -> Handed
-    requires { Placed ancestors.now at × (at < length ancestors.now) × Placed descendants.now from × Placed descendants.now to }
-    ensures { (out.new, result.count, result.done)
-        ≡ served_group Order.Ancestor out.old written (node_at ancestors.now (at / NODE_WORDS))
-        (stretch descendants.now from to) }
-{
-    if to <= from {
-        return Handed {
-            count: written,
-            done: true,
-        };
-    }
-    if out.len() / PAIR_WORDS <= written {
-        return Handed {
-            count: written,
-            done: false,
-        };
-    }
-    put_nodes(
-        out,
-        written,
-        node_from(ancestors, at),
-        node_from(descendants, from),
-    );
-    if to - from == NODE_WORDS {
-        return Handed {
-            count: written + 1,
-            done: true,
-        };
-    }
-    hand_stretch(
-        out,
-        written + 1,
-        Order::Ancestor,
-        node_from(ancestors, at),
-        descendants,
+        order,
+        node_from(leaders, at),
+        followers,
         from + NODE_WORDS,
         to,
     )
@@ -243,13 +187,11 @@ pub(crate) fn first_from(followers: &[u32], from: usize, to: usize, start: u64) 
     if start == 0 {
         return from;
     }
-    let mut k = from;
     // Rests on Stretches: start_found, start_later, start_none.
-    while k < to {
+    for k in (from..to).step_by(NODE_WORDS) {
         if start <= node_from(followers, k).start as u64 {
             return k;
         }
-        k += NODE_WORDS;
     }
-    k
+    to
 }

@@ -2,7 +2,6 @@
 #![tactic(auto)]
 
 mod ancestors;
-pub mod apart;
 mod descendants;
 mod groups;
 mod jump;

@@ -12,6 +12,7 @@ ghost use Rattle.pairs.specs.Private.Stack.{opened, Fits};
 ghost use Rattle.pairs.specs.Private.Sweep.{Opening};
 
 use crate::groups::{node_from, put_words};
+use crate::jump::past_zone;
 use nodes::node::{MOST_LEVELS, NODE_WORDS, Node, is_after, is_open};
 
 // The number of words in the stack: one node for each level.
@@ -37,6 +38,7 @@ pub(crate) fn still_open(stack: &[u32; STACK_WORDS], used: usize, node: Node) ->
     } }
 {
     let mut left = used;
+    // By hand: `left` is the answer too, so a range that counts down reads no better.
     // Rests on StackNodes: head_open, head_shut, head_none.
     while 0 < left {
         if is_open(node, node_from(stack, left - NODE_WORDS)) {
@@ -72,12 +74,13 @@ pub(crate) fn open_next(
 }
 
 // Puts the ancestors that stand before `descendant` and are open at it onto `stack`, one after the
-// other.
-pub(crate) fn open_before(
+// other. One that has ended is passed, with `JUMPS` together with everything inside it.
+pub(crate) fn open_before<const JUMPS: bool>(
     stack: &mut [u32; STACK_WORDS],
     used: usize,
     passed: usize,
     ancestors: &[u32],
+    links: &[u32],
     descendant: Node,
 ) -> Opened
     requires { ((check_words ancestors.now).answer ≡ TAKEN) × Opening ancestors.now descendant used passed stack.old
@@ -90,6 +93,8 @@ pub(crate) fn open_before(
 {
     let mut reached = used;
     let mut i = passed;
+    // By hand: what lies inside a zone is passed in one step.
+    // Rests on Jumps: jump_passed.
     // Rests on OpenStack: next_passed, passing_ends, passing_done.
     while i < ancestors.len() {
         if !is_after(descendant, node_from(ancestors, i)) {
@@ -98,8 +103,13 @@ pub(crate) fn open_before(
                 passed: i,
             };
         }
-        reached = open_next(stack, reached, node_from(ancestors, i), descendant);
-        i += NODE_WORDS;
+        let grown = open_next(stack, reached, node_from(ancestors, i), descendant);
+        if grown == reached {
+            i = past_zone::<JUMPS>(ancestors, links, i);
+        } else {
+            i += NODE_WORDS;
+        }
+        reached = grown;
     }
     Opened {
         used: reached,

@@ -8,7 +8,9 @@ use Prim.Native.Nat.{ℕ, ◌*◌, ◌≤◌, ◌<◌}
 use native.Mathlib.Omega.{arith}
 use lib.ListN.{length, take}
 use borrow.Author.Tests.{lt-ltb, le-ltb}
+use Rattle.std.specs.Prelude.{Ok, Err}
 use Rattle.laws.proofs.Tests.{and_make}
+use Rattle.answers.specs.declared.refusal.Refusal.{Refusal}
 use Rattle.answers.specs.Answer.{TAKEN, LONG, ABSENT}
 use Rattle.nodes.specs.Words.{NODE_WORDS, MOST_NODES}
 use Rattle.contents.specs.declared.entry.Entry.{Entry}
@@ -23,7 +25,7 @@ use Rattle.books.proofs.FindLaws.{tag_there}
 use Rattle.books.proofs.BookLaws.{opened_verdict, opened_lists}
 use Rattle.joins.specs.declared.copy.Lengths.{Lengths}
 use Rattle.joins.specs.Join.{tag_words, thereb, lengths_of, first_after, second_after}
-use Rattle.joins.proofs.Joined.{own_words, copies_fit, copies_taken}
+use Rattle.joins.proofs.Joined.{own_words, lists_copied, copies_fit, copies_taken}
 use Rattle.printing.specs.Print.{MOST_BYTES, printed_answer_up_to, printed_answer}
 
 module _ (book : List ℕ) where
@@ -69,8 +71,7 @@ module _ (book : List ℕ) where
 -- What is copied of the lists under the tags of the first entry and the second.
 module _ (book : List ℕ) (lists : ℕ) (ok : ((book_verdict book).answer ≡ TAKEN) × (lists ≡ lists_in book) × (1 < lists))
     (a d : Entry) (p : a ≡ entry_at book 0) (q : d ≡ entry_at book 1) (first second : List ℕ)
-    (room : NODE_WORDS * MOST_NODES ≤ length first) (more : NODE_WORDS * MOST_NODES ≤ length second) (l : Lengths)
-    (e : l ≡ lengths_of book lists a.tag d.tag first second) where
+    (room : NODE_WORDS * MOST_NODES ≤ length first) (more : NODE_WORDS * MOST_NODES ≤ length second) where
   there : (0 < lists_in book) × (1 < lists_in book)
   there =
       let n = ok.1 in
@@ -81,14 +82,22 @@ module _ (book : List ℕ) (lists : ℕ) (ok : ((book_verdict book).answer ≡ T
   unfolding thereb
   both = rw (p, q) (and_make (tag_there book ok.0 0 there.0) (tag_there book ok.0 1 there.1))
 
-  pub lengths_fit : (l.ancestors ≤ NODE_WORDS * MOST_NODES) × (l.descendants ≤ NODE_WORDS * MOST_NODES)
-  lengths_fit = copies_fit book ok.0 a.tag d.tag both first second room more lists ok.1 l e
+  -- Both lists are there, and there is room for both.
+  pub none_refused : (r : Refusal) → Err r ≡ lengths_of book lists a.tag d.tag first second → ⊥
+  none_refused r e =
+      let own = ok.1 in
+      let f = rw own at e ∙ (lists_copied book ok.0 a.tag d.tag both first second room more).0 in
+      cc
 
-  pub own_lists : (f s : List ℕ) → f ≡ first_after book lists a.tag d.tag first second
-      → s ≡ second_after book lists a.tag d.tag first second → (n m : ℕ) → n ≡ l.ancestors → m ≡ l.descendants
-      → (take n f ≡ list_at book 0) × (take m s ≡ list_at book 1)
-  own_lists f s x y n m u v =
-      let w = copies_taken book ok.0 a.tag d.tag both first second room more lists ok.1 l e f s x y n m u v in (
-        w.0 ∙ ap (λ z. tag_words book (lists_in book) z.tag) p ∙ own_words book ok.0 0 there.0,
-        w.1 ∙ ap (λ z. tag_words book (lists_in book) z.tag) q ∙ own_words book ok.0 1 there.1,
-      )
+  module _ (l : Lengths) (e : Ok l ≡ lengths_of book lists a.tag d.tag first second) where
+    pub lengths_fit : (l.ancestors ≤ NODE_WORDS * MOST_NODES) × (l.descendants ≤ NODE_WORDS * MOST_NODES)
+    lengths_fit = copies_fit book ok.0 a.tag d.tag both first second room more lists ok.1 l e
+
+    pub own_lists : (f s : List ℕ) → f ≡ first_after book lists a.tag d.tag first second
+        → s ≡ second_after book lists a.tag d.tag first second → (n m : ℕ) → n ≡ l.ancestors → m ≡ l.descendants
+        → (take n f ≡ list_at book 0) × (take m s ≡ list_at book 1)
+    own_lists f s x y n m u v =
+        let w = copies_taken book ok.0 a.tag d.tag both first second room more lists ok.1 l e f s x y n m u v in (
+          w.0 ∙ ap (λ z. tag_words book (lists_in book) z.tag) p ∙ own_words book ok.0 0 there.0,
+          w.1 ∙ ap (λ z. tag_words book (lists_in book) z.tag) q ∙ own_words book ok.0 1 there.1,
+        )

@@ -3,10 +3,11 @@
 -- answer satisfies the contract.
 -- Laws for the code: `PageLines` says what a page shows and that its lines are those of its pairs.
 -- `Counting` is how many pairs are left after a page. `Answering` is which lists of a book are
--- joined.
+-- joined. `Reasons` says what is passed on of a check's answer.
 pub mod Answering
 pub mod Counting
 pub mod Limits
 pub mod Only
 pub mod PageLines
 pub mod Printed
+pub mod Reasons

@@ -66,3 +66,8 @@ module _ (ancestors descendants : List ℕ) (t : Ticket) (out : List ℕ) where
   pub page_answer : (r : Page) → r ≡ page_of ancestors descendants t out → r.verdict.answer ≡ (check_two ancestors descendants).answer
   unfolding page_of
   page_answer r e = ap (λ p. p.verdict.answer) e
+
+-- A line put into a buffer has no more bytes than the buffer.
+pub part_fits : (us before after : List ℕ) (size : ℕ) → size ≡ length us → after ≡ written us before → size ≤ length after
+unfolding written
+part_fits us before after size b l = rw (b, l) (omega (arith, length-append us (drop (length us) before)))

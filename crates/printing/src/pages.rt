@@ -1,7 +1,8 @@
 // Prints a listing page by page.
-ghost use Rattle.std.specs.Prelude.{◌≡◌, true, false, ◌*◌, ◌≤◌, ◌<◌, length, take};
+ghost use Rattle.std.specs.Prelude.{◌≡◌, ◌*◌, ◌≤◌, ◌<◌, length, take};
 ghost use Rattle.nodes.specs.Words.{nodes};
 ghost use Rattle.answers.specs.Output.{words_in};
+ghost use Rattle.answers.specs.Refusal.{answer_in};
 ghost use Rattle.lists.specs.Two.{check_two};
 ghost use Rattle.tickets.specs.declared.ticket.Order.TheVariants.{Descendant};
 ghost use Rattle.tickets.specs.declared.ticket.Relation.TheVariants.{Inside};
@@ -10,10 +11,12 @@ ghost use Rattle.tickets.specs.PairWords.{room};
 ghost use Rattle.tickets.specs.Ticket.{asked};
 ghost use Rattle.pairs.specs.Page.{handed_out, page_of};
 ghost use Rattle.lines.specs.Line.{LINE_BYTES, pair_line};
+ghost use Rattle.printing.specs.Private.Printed.{CountsAll};
 
 use answers::answer::TAKEN;
+use answers::refusal::Refusal;
 use lines::line::{LINE_BYTES, NOTE_BYTES, put_lines, put_refusal, put_total};
-use numbers::part::part_of;
+use lists::two::check_two;
 use pairs::page::{Page, next_page};
 use std::io::Stdout;
 use tickets::leader::PAIR_WORDS;
@@ -32,35 +35,18 @@ struct Lines {
     bytes: usize,
 }
 
-// What was printed of a listing: the answer, whether all pairs were printed, and if so their
-// number.
-#[derive(Clone, Copy)]
-struct Printed {
-    answer: u32,
-    count: u64,
-    whole: bool,
-}
-
-// Writes all of `bytes` to standard output, and returns whether that worked.
-fn write_all(stdout: Stdout, bytes: &[u8]) -> bool {
-    stdout.write_all(bytes).is_ok()
-}
-
-// Prints the line of the refusal `answer`, and returns `answer`.
-pub(crate) fn print_refusal(stdout: Stdout, answer: u32) -> u32
-    ensures { result ≡ answer }
-{
+// Prints the line of `refusal`. Where standard output can't be written, nothing more is tried.
+pub(crate) fn print_refusal(stdout: Stdout, refusal: Refusal) {
     let mut text = [0u8; NOTE_BYTES];
-    let bytes = put_refusal(answer, &mut text);
-    write_all(stdout, part_of(&text[0..NOTE_BYTES], 0, bytes));
-    answer
+    let bytes = put_refusal(refusal.into(), &mut text);
+    let _ = stdout.write_all(&text[..bytes]);
 }
 
 // Prints the last line, with `count`, the number of all pairs.
 fn print_total(stdout: Stdout, count: u64) {
     let mut text = [0u8; NOTE_BYTES];
     let bytes = put_total(count, &mut text);
-    write_all(stdout, part_of(&text[0..NOTE_BYTES], 0, bytes));
+    let _ = stdout.write_all(&text[..bytes]);
 }
 
 // Makes the next page of the listing in `out`. Then `text` begins with the lines of exactly those
@@ -81,41 +67,23 @@ fn make_lines(
 {
     let page = next_page(ancestors, descendants, ticket, out);
     let words = PAIR_WORDS * page.count;
-    let bytes = put_lines(&out[0..words], text);
-    Lines {
-        page: page,
-        bytes: bytes,
-    }
-}
-
-// Returns the answer of a listing of which not all pairs were printed.
-fn stopped(answer: u32) -> Printed
-    ensures { record {
-      answer : result.answer ≡ answer;
-      whole : result.whole ≡ false;
-    } }
-{
-    Printed {
-        answer: answer,
-        count: 0,
-        whole: false,
-    }
+    let bytes = put_lines(&out[..words], text);
+    Lines { page, bytes }
 }
 
 // Prints the lines of all pairs of two lists, page by page, and makes each page in the two buffers.
-// Stops at a refusal, and where standard output can't be written. Once all pairs are printed, the
-// count is their number.
+// Returns the number of pairs once all are printed, or None where standard output can't be written.
 fn print_pairs(
     stdout: Stdout,
     ancestors: &[u32],
     descendants: &[u32],
     out: &mut [u32],
     text: &mut [u8],
-) -> Printed
+) -> Result<Option<u64>, Refusal>
     requires { (0 < room out.old) × (LINE_BYTES * room out.old ≤ length text.old) }
     ensures { record {
-      answer : result.answer ≡ (check_two ancestors.now descendants.now).answer;
-      count : result.whole ≡ true → result.count ≡ length (listing (asked Inside Descendant) (nodes ancestors.now) (nodes descendants.now));
+      answer : answer_in result ≡ (check_two ancestors.now descendants.now).answer;
+      count : CountsAll result (length (listing (asked Inside Descendant) (nodes ancestors.now) (nodes descendants.now)));
     } }
 {
     let mut ticket = fresh(Relation::Inside, Order::Descendant);
@@ -124,49 +92,47 @@ fn print_pairs(
     loop {
         let lines = make_lines(ancestors, descendants, ticket, out, text);
         let page = lines.page;
-        let verdict = page.verdict;
-        if verdict.answer != TAKEN {
-            return stopped(verdict.answer);
+        if page.verdict.answer != TAKEN {
+            // By hand: the page has C's verdict, with a number. The check, which refuses here too,
+            // says which refusal that is.
+            check_two(ancestors, descendants).map_err(|fault| fault.refusal)?;
+            return Ok(None);
         }
-        if !write_all(stdout, part_of(text, 0, lines.bytes)) {
-            return stopped(TAKEN);
+        if stdout.write_all(&text[..lines.bytes]).is_err() {
+            return Ok(None);
         }
         count += page.count as u64;
         if page.done {
-            return Printed {
-                answer: TAKEN,
-                count: count,
-                whole: true,
-            };
+            return Ok(Some(count));
         }
         ticket = page.ticket;
     }
 }
 
-// Prints the pairs of two lists and their number, or the refusal, and returns the answer.
+// Prints the pairs of two lists and their number, and returns their refusal, if there is one.
 fn print_all(
     stdout: Stdout,
     ancestors: &[u32],
     descendants: &[u32],
     out: &mut [u32],
     text: &mut [u8],
-) -> u32
+) -> Result<(), Refusal>
     requires { (0 < room out.old) × (LINE_BYTES * room out.old ≤ length text.old) }
-    ensures { result ≡ (check_two ancestors.now descendants.now).answer }
+    ensures { answer_in result ≡ (check_two ancestors.now descendants.now).answer }
 {
-    let printed = print_pairs(stdout, ancestors, descendants, out, text);
-    if printed.answer != TAKEN {
-        return print_refusal(stdout, printed.answer);
+    if let Some(count) = print_pairs(stdout, ancestors, descendants, out, text)? {
+        print_total(stdout, count);
     }
-    if printed.whole {
-        print_total(stdout, printed.count);
-    }
-    TAKEN
+    Ok(())
 }
 
-// Prints the pairs of two lists, or JOINT or another refusal of them, and returns the answer.
-pub(crate) fn print_pages(stdout: Stdout, ancestors: &[u32], descendants: &[u32]) -> u32
-    ensures { result ≡ (check_two ancestors.now descendants.now).answer }
+// Prints the pairs of two lists, and returns their refusal, JOINT or another, if there is one.
+pub(crate) fn print_pages(
+    stdout: Stdout,
+    ancestors: &[u32],
+    descendants: &[u32],
+) -> Result<(), Refusal>
+    ensures { answer_in result ≡ (check_two ancestors.now descendants.now).answer }
 {
     let mut out = [0u32; PAIR_WORDS * PAGE_PAIRS];
     let mut text = [0u8; LINE_BYTES * PAGE_PAIRS];

@@ -9,9 +9,15 @@ use mathlib.Core.List.{List, [], ◌∷◌}
 use Prim.Native.Nat.{ℕ, ◌*◌, ◌≤◌}
 use native.Mathlib.Omega.{arith}
 use lib.ListN.{length, take}
-use borrow.Author.Tests.{eq-eqb, ne_eqb}
+use borrow.Author.Tests.{ne_eqb}
 use Rattle.laws.proofs.Tests.{either}
-use Rattle.answers.specs.Answer.{TAKEN, ABSENT}
+use Rattle.std.specs.Prelude.{Result, Ok, Err}
+use Rattle.answers.specs.Answer.{TAKEN}
+use Rattle.answers.specs.declared.refusal.Fault.{Fault}
+use Rattle.answers.specs.declared.refusal.Refusal.{Refusal}
+use Rattle.answers.specs.declared.refusal.Refusal.TheVariants.{Absent}
+use Rattle.answers.specs.Refusal.{number_of, at_no_node, answer_in, verdict_of}
+use Rattle.answers.proofs.RefusalLaws.{never_taken}
 use Rattle.answers.specs.declared.verdict.Verdict.{Verdict}
 use Rattle.answers.specs.Verdict.{ANCESTORS, verdict, taken}
 use Rattle.answers.proofs.VerdictLaws.{refuses, accepts}
@@ -21,9 +27,8 @@ use Rattle.pairs.specs.Page.{page_of, output_after}
 use Rattle.ticket_words.specs.declared.page.PageWords.{PageWords}
 use Rattle.ticket_words.specs.Page.{shown_page}
 use Rattle.ticket_words.specs.Words.{ticket_of}
-use Rattle.books.specs.declared.book.Opened.{Opened}
-use Rattle.books.specs.Book.{book_verdict, check_book}
-use Rattle.books.proofs.BookLaws.{opened_verdict, opened_lists}
+use Rattle.books.specs.Book.{book_verdict, check_book, opened_in}
+use Rattle.books.proofs.BookLaws.{opened_ok, opened_err}
 use Rattle.joins.specs.declared.copy.Lengths.{Lengths}
 use Rattle.joins.specs.Join.{lengths, refused, thereb, lengths_of, first_after, second_after}
 use Rattle.joins.proofs.Joined.{lists_copied, copies_fit, copies_taken, none_copied}
@@ -58,25 +63,24 @@ module _ (book : List ℕ) (bad : (book_verdict book).answer ≡ TAKEN → ⊥) 
       rw (unfound_page book q (book_verdict book) (finds_none q) bad out, unfound_output book q (book_verdict book) (finds_none q) bad out)
       (ap (λ ps. refused_page (book_verdict book) q.ticket ∷ ps) (all_refused qs out).0, (all_refused qs out).1)
 
--- A question to a checked book, after its two lists were copied into words with room for the
--- longest.
+-- A question to a checked book, when copying its two lists was answered by `r`.
 module _ (book : List ℕ) (lists : ℕ) (q : Question) (first second : List ℕ)
     (ok : ((book_verdict book).answer ≡ TAKEN) × (lists ≡ lists_in book) × (NODE_WORDS * MOST_NODES ≤ length first) × (NODE_WORDS * MOST_NODES ≤ length second))
-    (l : Lengths) (e : l ≡ lengths_of book lists q.ancestors q.descendants first second) where
+    (r : Result Lengths Refusal) (e : r ≡ lengths_of book lists q.ancestors q.descendants first second) where
   abbrev there : Bool
   there = thereb book (lists_in book) q.ancestors q.descendants
 
-  answer_of_lem : {v : Lengths} → lengths_of book (lists_in book) q.ancestors q.descendants first second ≡ v → l ≡ v
+  answer_of_lem : {v : Result Lengths Refusal} → lengths_of book (lists_in book) q.ancestors q.descendants first second ≡ v → r ≡ v
   answer_of_lem f = e ∙ ap (λ n. lengths_of book n q.ancestors q.descendants first second) ok.1 ∙ f
 
-  copied : there ≡ true → l ≡ lengths taken (length (list_under book q.ancestors)) (length (list_under book q.descendants))
+  copied : there ≡ true → r ≡ Ok (lengths (length (list_under book q.ancestors)) (length (list_under book q.descendants)))
   copied h = answer_of_lem (lists_copied book ok.0 q.ancestors q.descendants h first second ok.2 ok.3).0
 
-  not_copied : there ≡ false → l ≡ refused ABSENT
+  not_copied : there ≡ false → r ≡ refused Absent
   not_copied h = answer_of_lem (none_copied book (lists_in book) q.ancestors q.descendants h first second).0
 
   -- The copying finds the lists exactly when the question does, with the same verdict.
-  copy_finds : find_lists book q.ancestors q.descendants ≡ l.verdict
+  copy_finds : find_lists book q.ancestors q.descendants ≡ verdict (answer_in r) ANCESTORS 0
   unfolding find_lists_up_to
   copy_finds =
       elim (either there) [
@@ -84,19 +88,27 @@ module _ (book : List ℕ) (lists : ℕ) (q : Question) (first second : List ℕ
         | inr h ↦ rw (accepts (book_verdict book) ok.0, h, not_copied h) refl
       ]
 
-  pub question_refused : (l.verdict.answer ≡ TAKEN → ⊥) → (out : List ℕ) (p : PageWords) → p ≡ refused_page l.verdict q.ticket
-      → record { answer : p ≡ page_to book q out; output : out ≡ output_to book q out }
-  question_refused bad out p r = record {
-    answer = r ∙ sym (unfound_page book q l.verdict copy_finds bad out);
-    output = sym (unfound_output book q l.verdict copy_finds bad out);
-  }
+  pub question_refused : (refusal : Refusal) → r ≡ Err refusal → (out : List ℕ)
+      → let p = refused_page (verdict_of (at_no_node refusal)) q.ticket in
+      record { answer : p ≡ page_to book q out; output : out ≡ output_to book q out }
+  question_refused refusal h out =
+      let found = copy_finds ∙ ap (λ x. verdict (answer_in x) ANCESTORS 0) h in
+      let v = verdict (number_of refusal) ANCESTORS 0 in
+      record {
+        answer = sym (unfound_page book q v found (never_taken refusal) out);
+        output = sym (unfound_output book q v found (never_taken refusal) out);
+      }
 
-  module _ (yes : l.verdict.answer ≡ TAKEN) where
+  module _ (l : Lengths) (yes : r ≡ Ok l) where
     both : there ≡ true
-    both = elim (either there) [ inl h ↦ h | inr h ↦ (let a = ap (λ k. k.verdict.answer) (not_copied h) in absurd (omega arith)) ]
+    both =
+        elim (either there) [
+          | inl h ↦ h
+          | inr h ↦ (let a = ap (answer_in {A = Lengths}) (sym yes ∙ not_copied h) in absurd (omega arith))
+        ]
 
     pub lengths_fit : (l.ancestors ≤ NODE_WORDS * MOST_NODES) × (l.descendants ≤ NODE_WORDS * MOST_NODES)
-    lengths_fit = copies_fit book ok.0 q.ancestors q.descendants both first second ok.2 ok.3 lists ok.1 l e
+    lengths_fit = copies_fit book ok.0 q.ancestors q.descendants both first second ok.2 ok.3 lists ok.1 l (sym yes ∙ e)
 
     -- The single call is made on the words copied, which are the lists'.
     pub question_answered : (f s : List ℕ) → f ≡ first_after book lists q.ancestors q.descendants first second
@@ -106,8 +118,8 @@ module _ (book : List ℕ) (lists : ℕ) (q : Question) (first second : List ℕ
         → record { answer : p ≡ page_to book q out; output : last ≡ output_to book q out }
     unfolding page_to_up_to output_to_up_to
     question_answered f s x y n m u v out last p a o =
-        let w = copies_taken book ok.0 q.ancestors q.descendants both first second ok.2 ok.3 lists ok.1 l e f s x y n m u v in
-        rw (copy_finds, accepts l.verdict yes)
+        let w = copies_taken book ok.0 q.ancestors q.descendants both first second ok.2 ok.3 lists ok.1 l (sym yes ∙ e) f s x y n m u v in
+        rw (copy_finds, yes, accepts taken refl)
         (record {
           answer = a ∙ λ k. shown_page q.ticket (page_of (w.0 k) (w.1 k) (ticket_of q.ticket) out);
           output = o ∙ λ k. output_after (w.0 k) (w.1 k) (ticket_of q.ticket) out;
@@ -118,45 +130,38 @@ module _ (book words out : List ℕ) where
   abbrev Answered : Pages → List ℕ → Type 0
   Answered r last = record { answer : r ≡ ask_of book words out; output : last ≡ ask_output book words out }
 
-  module _ (answer : ℕ) (e : answer ≡ check_questions words) where
-    pub call_refused : (answer ≡ TAKEN → ⊥) → (v : Verdict) → v ≡ verdict answer ANCESTORS 0
-        → (ps : List PageWords) → ps ≡ padded (refused_pages v (questions_in words))
-        → Answered (record { answer = answer; questions = 0; pages = ps }) out
+  module _ (refusal : Refusal) (e : number_of refusal ≡ check_questions words) where
+    pub call_refused : (ps : List PageWords) → ps ≡ padded (refused_pages (verdict_of (at_no_node refusal)) (questions_in words))
+        → Answered (record { answer = number_of refusal; questions = 0; pages = ps }) out
     unfolding ask_of_up_to ask_output_up_to
-    call_refused bad v f ps g =
-        rw (← e, ne_eqb answer TAKEN bad)
+    call_refused ps g =
+        rw (← e, ne_eqb (number_of refusal) TAKEN (never_taken refusal))
+        (record { answer = λ k. record { answer = number_of refusal; questions = 0; pages = g k }; output = refl })
+
+  module _ (e : ◌≡◌ {A = ℕ} TAKEN (check_questions words)) where
+    pub call_answered : (count : ℕ) → count ≡ question_count words → (ps : List PageWords) (last : List ℕ)
+        → ps ≡ padded (pages_to book (questions_in words) out) → last ≡ output_after_all book (questions_in words) out
+        → Answered (record { answer = TAKEN; questions = count; pages = ps }) last
+    unfolding ask_of_up_to ask_output_up_to
+    call_answered count n ps last g o =
+        rw (← e)
         (record {
-          answer = λ k. record { answer = answer; questions = 0; pages = (g ∙ ap (λ u. padded (refused_pages u (questions_in words))) f) k };
-          output = refl;
+          answer = λ k. record { answer = TAKEN; questions = (n ∙ sym (length_questions words)) k; pages = g k };
+          output = o;
         })
 
-    module _ (good : answer ≡ TAKEN) where
-      pub call_answered : (count : ℕ) → count ≡ question_count words → (ps : List PageWords) (last : List ℕ)
-          → ps ≡ padded (pages_to book (questions_in words) out) → last ≡ output_after_all book (questions_in words) out
-          → Answered (record { answer = TAKEN; questions = count; pages = ps }) last
-      unfolding ask_of_up_to ask_output_up_to
-      call_answered count n ps last g o =
-          rw (← e, eq-eqb answer TAKEN good)
-          (record {
-            answer = λ k. record { answer = TAKEN; questions = (n ∙ sym (length_questions words)) k; pages = g k };
-            output = o;
-          })
+    -- Each question is refused as the book is.
+    pub book_refused : (f : Fault) → opened_in (Err f) ≡ check_book book → (count : ℕ) → count ≡ question_count words
+        → (ps : List PageWords) → ps ≡ padded (refused_pages (verdict_of f) (questions_in words))
+        → Answered (record { answer = TAKEN; questions = count; pages = ps }) out
+    book_refused f o count n ps g =
+        let b = opened_err book f o in
+        let r = all_refused book b.1 (questions_in words) out in
+        call_answered count n ps out (g ∙ ap (λ v. padded (refused_pages v (questions_in words))) b.0 ∙ ap padded (sym r.0)) (sym r.1)
 
-      module _ (o : Opened) (f : o ≡ check_book book) where
-        own : o.verdict ≡ book_verdict book
-        own = ap (λ p. p.verdict) f ∙ opened_verdict book
-
-        -- Each question is refused as the book is.
-        pub book_refused : (o.verdict.answer ≡ TAKEN → ⊥) → (count : ℕ) → count ≡ question_count words
-            → (ps : List PageWords) → ps ≡ padded (refused_pages o.verdict (questions_in words))
-            → Answered (record { answer = TAKEN; questions = count; pages = ps }) out
-        book_refused bad count n ps g =
-            let r = all_refused book (λ t. bad (ap (λ v. v.answer) own ∙ t)) (questions_in words) out in
-            call_answered count n ps out (g ∙ ap (λ v. padded (refused_pages v (questions_in words))) own ∙ ap padded (sym r.0)) (sym r.1)
-
-        -- Or the book and its questions may be asked.
-        pub book_good : o.verdict.answer ≡ TAKEN
-            → ((book_verdict book).answer ≡ TAKEN) × (o.lists ≡ lists_in book) × (question_count words ≤ MOST_QUESTIONS)
-        book_good t =
-            let b = sym (ap (λ v. v.answer) own) ∙ t in
-            (b, ap (λ p. p.lists) f ∙ opened_lists book b, few_questions words (sym e ∙ good))
+    -- Or the book and its questions may be asked.
+    pub book_good : (lists : ℕ) → opened_in (Ok lists) ≡ check_book book
+        → ((book_verdict book).answer ≡ TAKEN) × (lists ≡ lists_in book) × (question_count words ≤ MOST_QUESTIONS)
+    book_good lists o =
+        let b = opened_ok book lists o in
+        (b.0, b.1, few_questions words (sym e))

@@ -10,13 +10,15 @@ ghost use Rattle.questions.specs.Ask.{no_page, refused_page, refused_pages, padd
 
 use crate::question::{MOST_QUESTIONS, Question, check_questions, question_at, question_count};
 use answers::answer::TAKEN;
-use answers::verdict::{Verdict, without_node};
+use answers::refusal::Fault;
+use answers::verdict::Verdict;
 use books::book::check_book;
 use joins::copy::{LIST_WORDS, copy_lists};
-use pairs::apart::page_apart;
+use pairs::page::next_page;
 use ticket_words::page::{PageWords, shown_page};
-use ticket_words::words::{TicketWords, ticket_of};
+use ticket_words::words::TicketWords;
 use tickets::leader::PAIR_WORDS;
+use tickets::ticket::Ticket;
 
 // What a call answers. `answer` is the whole call's, and `questions` is how many questions it
 // answered, 0 if it is refused as a whole. Each question has its page, in order; the pages after
@@ -34,14 +36,15 @@ fn refused_page(verdict: Verdict, ticket: TicketWords) -> PageWords
     ensures { result ≡ refused_page verdict ticket }
 {
     PageWords {
-        verdict: verdict,
+        verdict,
         done: 0,
         count: 0,
-        ticket: ticket,
+        ticket,
     }
 }
 
 // Returns a page of zeros, for where there is no question.
+// By hand: a `Default` would promise zeros of three of C's structs, and no caller needs that.
 fn no_page() -> PageWords
     ensures { result ≡ no_page }
 {
@@ -53,7 +56,7 @@ fn no_page() -> PageWords
         first: 0,
         second: 0,
     };
-    refused_page(without_node(TAKEN), ticket)
+    refused_page(Ok(()).into(), ticket)
 }
 
 // Returns the pages of a call that refuses each of its first 32 questions with `verdict`.
@@ -62,13 +65,10 @@ fn refuse_all(questions: &[u32], verdict: Verdict) -> [PageWords; MOST_QUESTIONS
 {
     let none = no_page();
     let mut pages = [none; MOST_QUESTIONS];
-    let mut index = 0;
     // Rests on Padding: padded_next, padded_all, padded_full.
-    while index < MOST_QUESTIONS && index < question_count(questions) {
+    for index in 0..question_count(questions).min(MOST_QUESTIONS) {
         let question = question_at(questions, index);
-        let ticket = question.ticket;
-        pages[index] = refused_page(verdict, ticket);
-        index += 1;
+        pages[index] = refused_page(verdict, question.ticket);
     }
     pages
 }
@@ -92,7 +92,7 @@ fn answer_one(
     } }
 {
     let ticket = question.ticket;
-    let lengths = copy_lists(
+    let copied = copy_lists(
         book,
         lists,
         question.ancestors,
@@ -100,17 +100,18 @@ fn answer_one(
         first,
         second,
     );
-    let verdict = lengths.verdict;
-    if verdict.answer != TAKEN {
-        return refused_page(verdict, ticket);
+    match copied {
+        Ok(lengths) => {
+            let page = next_page(
+                &first[0..lengths.ancestors],
+                &second[0..lengths.descendants],
+                Ticket::from(ticket),
+                out,
+            );
+            shown_page(ticket, page)
+        }
+        Err(refusal) => refused_page(Fault::from(refusal).into(), ticket),
     }
-    let words = lengths.ancestors;
-    let more = lengths.descendants;
-    let asked = ticket_of(ticket);
-    shown_page(
-        ticket,
-        page_apart(&first[0..words], &second[0..more], asked, out),
-    )
 }
 
 // Asks a checked book all questions, each in turn, and returns their pages. A question is lent the
@@ -133,14 +134,12 @@ fn answer_all(
     let none = no_page();
     let mut pages = [none; MOST_QUESTIONS];
     let mut from = 0;
-    let mut index = 0;
     // Rests on Turns: first_turn, next_turn, last_turn.
-    while index < question_count(questions) {
+    for index in 0..question_count(questions) {
         let question = question_at(questions, index);
         let page = answer_one(book, lists, question, first, second, &mut out[from..]);
         pages[index] = page;
         from += PAIR_WORDS * page.count;
-        index += 1;
     }
     pages
 }
@@ -174,27 +173,20 @@ pub fn ask(book: &[u8], questions: &[u32], out: &mut [u32]) -> Pages
       output : out.new ≡ ask_output book.now questions.now out.old;
     } }
 {
-    let answer = check_questions(questions);
-    if answer != TAKEN {
+    if let Err(refusal) = check_questions(questions) {
         return Pages {
-            answer: answer,
+            answer: refusal.into(),
             questions: 0,
-            pages: refuse_all(questions, without_node(answer)),
+            pages: refuse_all(questions, Fault::from(refusal).into()),
         };
     }
-    let count = question_count(questions) as u32;
-    let opened = check_book(book);
-    let verdict = opened.verdict;
-    if verdict.answer != TAKEN {
-        return Pages {
-            answer: TAKEN,
-            questions: count,
-            pages: refuse_all(questions, verdict),
-        };
-    }
+    let pages = match check_book(book) {
+        Ok(lists) => answer_book(book, lists, questions, out),
+        Err(fault) => refuse_all(questions, fault.into()),
+    };
     Pages {
         answer: TAKEN,
-        questions: count,
-        pages: answer_book(book, opened.lists, questions, out),
+        questions: question_count(questions) as u32,
+        pages,
     }
 }

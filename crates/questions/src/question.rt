@@ -1,8 +1,9 @@
 // A question as eight words, and the check of all the words of a call.
 ghost use Rattle.std.specs.Prelude.{◌≡◌, ◌<◌};
+ghost use Rattle.answers.specs.Refusal.{answer_in};
 ghost use Rattle.questions.specs.Question.{question_count, question_at, check_questions};
 
-use answers::answer::{LONG, RAGGED, TAKEN};
+use answers::refusal::Refusal;
 use ticket_words::words::TicketWords;
 
 // How many words a question takes: two tags, and the six of a ticket.
@@ -46,16 +47,17 @@ pub(crate) fn question_at(words: &[u32], index: usize) -> Question
     }
 }
 
-// Returns RAGGED if the words don't make whole questions, LONG if there are more than 32 questions,
-// and TAKEN otherwise.
-pub(crate) fn check_questions(words: &[u32]) -> u32
-    ensures { result ≡ check_questions words.now }
+// Checks that the words make whole questions, or else refuses with Ragged, and that there are at
+// most 32 of them, or else with Long.
+// By hand, as others like it: a shared one would divide by a size that a caller names.
+pub(crate) fn check_questions(words: &[u32]) -> Result<(), Refusal>
+    ensures { answer_in result ≡ check_questions words.now }
 {
     if words.len() % QUESTION_WORDS != 0 {
-        return RAGGED;
+        return Err(Refusal::Ragged);
     }
     if MOST_QUESTIONS < question_count(words) {
-        return LONG;
+        return Err(Refusal::Long);
     }
-    TAKEN
+    Ok(())
 }

@@ -9,6 +9,7 @@ use Prim.Native.Nat.{ℕ, ◌≤◌, ◌<◌}
 use native.Mathlib.Omega.{arith}
 use lib.Dec.{leb}
 use borrow.Author.Tests.{leb-true, leb-false, lt-leb, le-leb}
+use Rattle.std.specs.Prelude.{Err}
 use Rattle.answers.specs.Answer.{TAKEN, RAGGED, ABSENT, READING}
 use Rattle.answers.specs.declared.verdict.Verdict.{Verdict}
 use Rattle.answers.specs.Verdict.{ANCESTORS, verdict, refusedb}
@@ -20,7 +21,6 @@ use Rattle.nodes.specs.Words.{node_at, count}
 use Rattle.lists.specs.Two.{check_two}
 use Rattle.lists.proofs.Drawn.{two_draws}
 use Rattle.readings.specs.Sample.{Sample, samples_in, pairedb, faultyb, in_zone, present}
-use Rattle.ranges.specs.declared.range.ZoneRange.TheVariants.{Refused}
 use Rattle.ranges.specs.Demanded.{AcceptedRange, FirstFaulty}
 use Rattle.ranges.specs.Range.{range_of, zone_range}
 use Rattle.ranges.proofs.Cases.{same_refusal, found_accepted, never_refused}
@@ -80,7 +80,7 @@ module _ (zones samples readings : List ℕ) (zone : ℕ) where
     by_zone : (check_two zones samples).answer ≡ TAKEN → pairedb samples readings ≡ true → All (λ s. faultyb s ≡ false) (samples_in samples readings)
         → count zones ≤ zone → verdict ABSENT ANCESTORS 0 ≡ v → Refusal v
 
-  refused_by : (v : Verdict) → zone_range zones samples readings zone ≡ Refused v → Refusal v
+  refused_by : (v : Verdict) → zone_range zones samples readings zone ≡ Err v → Refusal v
   unfolding zone_range
   refused_by v h =
       elim (either (refusedb (check_two zones samples))) [
@@ -99,7 +99,7 @@ module _ (zones samples readings : List ℕ) (zone : ℕ) where
       ]
 
   -- No refusal has the answer TAKEN.
-  pub refusal_not_taken : (v : Verdict) → zone_range zones samples readings zone ≡ Refused v → v.answer ≡ TAKEN → ⊥
+  pub refusal_not_taken : (v : Verdict) → zone_range zones samples readings zone ≡ Err v → v.answer ≡ TAKEN → ⊥
   refusal_not_taken v h t =
       elim (refused_by v h) [
         | by_lists n e ↦ n (ap (λ w. w.answer) e ∙ t)
@@ -109,13 +109,13 @@ module _ (zones samples readings : List ℕ) (zone : ℕ) where
       ]
 
   -- A fault of the lists is the answer, before all others.
-  pub lists_told : ((check_two zones samples).answer ≡ TAKEN → ⊥) → zone_range zones samples readings zone ≡ Refused (check_two zones samples)
+  pub lists_told : ((check_two zones samples).answer ≡ TAKEN → ⊥) → zone_range zones samples readings zone ≡ Err (check_two zones samples)
   unfolding zone_range
   lists_told h = rw (refuses (check_two zones samples) h)
 
   -- Past it, RAGGED is answered where the readings aren't as many as the samples.
   pub ragged_iff : (check_two zones samples).answer ≡ TAKEN
-      → (zone_range zones samples readings zone ≡ Refused (verdict RAGGED ANCESTORS 0)) ↔ (pairedb samples readings ≡ false)
+      → (zone_range zones samples readings zone ≡ Err (verdict RAGGED ANCESTORS 0)) ↔ (pairedb samples readings ≡ false)
   unfolding zone_range
   ragged_iff t = (
     λ h. elim (refused_by (verdict RAGGED ANCESTORS 0) h) [
@@ -128,7 +128,7 @@ module _ (zones samples readings : List ℕ) (zone : ℕ) where
   )
 
   -- ABSENT is answered past all other tests, where no zone has the index.
-  pub absent_iff : (zone_range zones samples readings zone ≡ Refused (verdict ABSENT ANCESTORS 0)) ↔ (((check_two zones samples).answer ≡ TAKEN)
+  pub absent_iff : (zone_range zones samples readings zone ≡ Err (verdict ABSENT ANCESTORS 0)) ↔ (((check_two zones samples).answer ≡ TAKEN)
       × (pairedb samples readings ≡ true) × All (λ s. faultyb s ≡ false) (samples_in samples readings) × (count zones ≤ zone))
   unfolding zone_range
   absent_iff = (
@@ -147,7 +147,7 @@ module _ (zones samples readings : List ℕ) (zone : ℕ) where
   )
 
   -- READING is answered past the first two tests, at the first faulty sample;
-  reading_told : (v : Verdict) → zone_range zones samples readings zone ≡ Refused v → v.answer ≡ READING
+  reading_told : (v : Verdict) → zone_range zones samples readings zone ≡ Err v → v.answer ≡ READING
       → (verdict READING ANCESTORS v.index ≡ v) × ((check_two zones samples).answer ≡ TAKEN) × (pairedb samples readings ≡ true)
       × FirstFaulty (samples_in samples readings) v.index
   reading_told v h r =
@@ -159,7 +159,7 @@ module _ (zones samples readings : List ℕ) (zone : ℕ) where
         | by_zone c p f z e ↦ let a = ap (λ w. w.answer) e in absurd (omega (arith, a, r))
       ]
 
-  pub reading_iff : (i : ℕ) → (zone_range zones samples readings zone ≡ Refused (verdict READING ANCESTORS i))
+  pub reading_iff : (i : ℕ) → (zone_range zones samples readings zone ≡ Err (verdict READING ANCESTORS i))
       ↔ (((check_two zones samples).answer ≡ TAKEN) × (pairedb samples readings ≡ true) × FirstFaulty (samples_in samples readings) i)
   unfolding zone_range
   reading_iff i = (
@@ -170,13 +170,13 @@ module _ (zones samples readings : List ℕ) (zone : ℕ) where
 
   -- A faulty reading anywhere draws it,
   pub faulty_drawn : (check_two zones samples).answer ≡ TAKEN → pairedb samples readings ≡ true → (s : Sample) → In s (samples_in samples readings)
-      → faultyb s ≡ true → (i : ℕ) × (zone_range zones samples readings zone ≡ Refused (verdict READING ANCESTORS i))
+      → faultyb s ≡ true → (i : ℕ) × (zone_range zones samples readings zone ≡ Err (verdict READING ANCESTORS i))
   faulty_drawn t p s m f =
       let ss = samples_in samples readings in
       let some = so (λ none. never f (all_in (λ s. faultyb s ≡ false) ss (any_none faultyb ss none) m)) in
       (first_at faultyb ss, (reading_iff (first_at faultyb ss)).1 (t, p, first_faulty ss some))
 
   -- and no other refusal has that answer.
-  pub reading_named : (v : Verdict) → zone_range zones samples readings zone ≡ Refused v → v.answer ≡ READING
+  pub reading_named : (v : Verdict) → zone_range zones samples readings zone ≡ Err v → v.answer ≡ READING
       → v ≡ verdict READING ANCESTORS v.index
   reading_named v h r = sym (reading_told v h r).0

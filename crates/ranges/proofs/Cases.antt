@@ -2,54 +2,52 @@
 -- is read off its case.
 -- What would break it: A range taken for a refusal, or no reading for a range, would be caught
 -- here.
-use types.Run.{OneOf}
-use denote.Enum.Declared.{tag_of}
-use native.Mathlib.Omega.{arith}
-use mathlib.Core.Path.{◌≡◌, refl, ap, subst}
-use mathlib.Core.Logic.{◌↔◌, inl, inr}
+use mathlib.Core.Path.{◌≡◌, refl, sym, ap}
+use mathlib.Core.Logic.{◌↔◌}
 use mathlib.Core.Bool.{Bool, true, false}
 use mathlib.Core.List.{List, [], ◌∷◌}
 use lib.Ieee.{Float, nan}
+use Rattle.std.specs.Prelude.{Option, None, Some, Result, Ok, Err, is_ok}
+use Rattle.std.specs.Result.{result_unwrap_or}
+use Rattle.answers.specs.declared.refusal.Fault.{Fault}
 use Rattle.answers.specs.declared.verdict.Verdict.{Verdict}
+use Rattle.answers.specs.Refusal.{verdict_of}
 use Rattle.answers.specs.Verdict.{taken}
+use Rattle.answers.proofs.RefusalLaws.{fault_only}
 use Rattle.laws.proofs.Tests.{never}
-use Rattle.ranges.specs.contracts.range.ZoneRange.{the_type}
 use Rattle.ranges.specs.declared.range.Range.{Range}
-use Rattle.ranges.specs.declared.range.ZoneRange.{ZoneRange}
-use Rattle.ranges.specs.declared.range.ZoneRange.TheVariants.{Found, NoReading, Refused}
 use Rattle.ranges.specs.Demanded.{refusalb}
-use Rattle.ranges.specs.Range.{range_of}
+use Rattle.ranges.specs.Range.{ZoneRange, range_in, range_of}
 
 -- Whether an answer has a low and a high, and what they are.
 foundb : ZoneRange → Bool
-foundb (Found range) = true
-foundb NoReading = false
-foundb (Refused refusal) = false
+foundb (Ok (Some range)) = true
+foundb (Ok None) = false
+foundb (Err refusal) = false
 
-range_in : ZoneRange → Range
-range_in (Found range) = range
-range_in NoReading = record { low = nan; high = nan }
-range_in (Refused refusal) = record { low = nan; high = nan }
+range_found : ZoneRange → Range
+range_found (Ok (Some range)) = range
+range_found (Ok None) = record { low = nan; high = nan }
+range_found (Err refusal) = record { low = nan; high = nan }
 
-pub same_range : {r s : Range} → Found r ≡ Found s → r ≡ s
-unfolding range_in
-same_range h = ap range_in h
+pub same_range : {r s : Range} → ◌≡◌ {A = ZoneRange} (Ok (Some r)) (Ok (Some s)) → r ≡ s
+unfolding range_found
+same_range h = ap range_found h
 
-pub found_not_none : {r : Range} → Found r ≡ NoReading → ⊥
+pub found_not_none : {r : Range} → ◌≡◌ {A = ZoneRange} (Ok (Some r)) (Ok None) → ⊥
 unfolding foundb
 found_not_none h = never refl (ap foundb h)
 
--- An answer whose number is that of a range or of no reading isn't a refusal.
-pub no_refusal : (r : ZoneRange) (v : Verdict) → OneOf (0 ∷ 1 ∷ []) (tag_of the_type r) → r ≡ Refused v → ⊥
-no_refusal r v k e = elim (subst (λ r. OneOf (0 ∷ 1 ∷ []) (tag_of the_type r)) e k) [ inl z ↦ omega arith | inr z ↦ omega arith ]
+-- An answer with a range, or with no reading, isn't a refusal.
+pub no_refusal : (r : ZoneRange) (v : Verdict) → is_ok r ≡ true → r ≡ Err v → ⊥
+no_refusal r v k e = never k (ap (λ k. is_ok k) e)
 
 -- The verdict of a refusal.
 refusal_in : ZoneRange → Verdict
-refusal_in (Found range) = taken
-refusal_in NoReading = taken
-refusal_in (Refused refusal) = refusal
+refusal_in (Ok found) = taken
+refusal_in (Err refusal) = refusal
 
-pub same_refusal : {v w : Verdict} → Refused v ≡ Refused w → v ≡ w
+pub same_refusal : {v w : Verdict} → ◌≡◌ {A = ZoneRange} (Err v) (Err w) → v ≡ w
 unfolding refusal_in
 same_refusal h = ap refusal_in h
 
@@ -59,11 +57,18 @@ unfolding range_of
 found_accepted [] = refl
 found_accepted (p ∷ ps) = refl
 
-pub never_refused : (ps : List Float) {v : Verdict} → range_of ps ≡ Refused v → ⊥
+pub never_refused : (ps : List Float) {v : Verdict} → range_of ps ≡ Err v → ⊥
 never_refused ps h = never (ap refusalb h) (found_accepted ps)
 
 -- No percentage is present exactly when that is the answer.
-pub none_told : (ps : List Float) → (range_of ps ≡ NoReading) ↔ (ps ≡ [])
+pub none_told : (ps : List Float) → (range_of ps ≡ Ok None) ↔ (ps ≡ [])
 unfolding range_of
 none_told [] = (λ h. refl, λ h. refl)
 none_told (p ∷ ps) = (λ h. absurd (found_not_none h), λ h. ap range_of h)
+
+-- Such an answer tells what the call returned.
+pub range_only : (r r' : Result (Option Range) Fault) → range_in r ≡ range_in r' → r ≡ r'
+range_only (Ok x) (Ok y) q = ap (λ k. Ok k) (ap (λ (k : ZoneRange). result_unwrap_or k x) q)
+range_only (Ok x) (Err f) q = absurd (no_refusal (Ok x) (verdict_of f) refl q)
+range_only (Err f) (Ok y) q = absurd (no_refusal (Ok y) (verdict_of f) refl (sym q))
+range_only (Err f) (Err f') q = ap (λ g. Err g) (fault_only f f' (same_refusal q))

@@ -13,19 +13,19 @@ use Rattle.laws.proofs.Choices.{all_in}
 use Rattle.laws.proofs.Tests.{either, never}
 use Rattle.nodes.specs.declared.node.Node.{Node}
 use Rattle.nodes.specs.Node.{insideb}
-use Rattle.readings.specs.declared.reading.Decoded.{Decoded}
-use Rattle.readings.specs.declared.reading.Decoded.TheVariants.{Read, Faulty}
+use Rattle.std.specs.Prelude.{Option, None, Some}
+use Rattle.readings.specs.declared.reading.Reading.{Reading}
 use Rattle.readings.specs.declared.reading.Reading.TheVariants.{Percent, Grams, Missing}
 use Rattle.readings.specs.Sample.{Sample, reading_of, percent_in, in_zone, present}
 use Rattle.ranges.specs.Demanded.{Gives, GivesNone, Extreme}
 use Rattle.ranges.proofs.Unbeaten.{Unbeaten}
 
 -- Two words give one percentage or none.
-one_or_none : (d : Decoded) → (percent_in d ≡ []) ⊎ ((p : Float) × (percent_in d ≡ p ∷ []))
-one_or_none (Read (Percent p)) = inr (_, refl)
-one_or_none (Read (Grams g)) = inr (_, refl)
-one_or_none (Read Missing) = inl refl
-one_or_none Faulty = inl refl
+one_or_none : (d : Option Reading) → (percent_in d ≡ []) ⊎ ((p : Float) × (percent_in d ≡ p ∷ []))
+one_or_none (Some (Percent p)) = inr (_, refl)
+one_or_none (Some (Grams g)) = inr (_, refl)
+one_or_none (Some Missing) = inl refl
+one_or_none None = inl refl
 
 module _ (zone : Node) where
   -- The percentages that are present inside the zone.

@@ -8,6 +8,7 @@ use mathlib.Core.Bool.{Bool, true, false}
 use mathlib.Core.List.{List, [], ◌∷◌}
 use Prim.Native.Nat.{ℕ}
 use lib.Ieee.{Float, le, eq}
+use Rattle.std.specs.Prelude.{None, Some, Ok}
 use Rattle.laws.specs.Choose.{All}
 use Rattle.laws.proofs.Choices.{all_of}
 use Rattle.laws.proofs.Tests.{never, not_so}
@@ -18,7 +19,6 @@ use Rattle.readings.specs.Reading.{float, MOST_PERCENT}
 use Rattle.readings.specs.Sample.{Sample, samples_in, in_zone, present}
 use Rattle.readings.proofs.Values.{Within, percent_within, present_within, within_bounds, not_both_below, below_between, above_between, equal_neither}
 use Rattle.ranges.specs.declared.range.Range.{Range}
-use Rattle.ranges.specs.declared.range.ZoneRange.TheVariants.{Found, NoReading}
 use Rattle.ranges.specs.Demanded.{refusalb, AcceptedRange, GivesNone, Extreme, sample_words, reading_words}
 use Rattle.ranges.specs.Range.{below, above, low_of, high_of, range_of, zone_range}
 use Rattle.ranges.proofs.Answered.{accepted_answer}
@@ -35,7 +35,7 @@ above_differs : (u q : Float) → above u q ≡ true → eq q u ≡ false
 above_differs u q h = not_so (λ e. never h (equal_neither q u e).0)
 
 -- The low and the high of some percentages.
-range_unbeaten : (ps : List Float) (range : Range) → All Within ps → range_of ps ≡ Found range
+range_unbeaten : (ps : List Float) (range : Range) → All Within ps → range_of ps ≡ Ok (Some range)
     → Unbeaten below ps range.low × Unbeaten above ps range.high
 unfolding range_of low_of high_of
 range_unbeaten [] range w h = absurd (found_not_none (sym h))
@@ -58,19 +58,19 @@ module _ (zones samples readings : List ℕ) (zone : ℕ) where
   abbrev within : Node
   within = node_at zones zone
 
-  found_unbeaten : (range : Range) → zone_range zones samples readings zone ≡ Found range
+  found_unbeaten : (range : Range) → zone_range zones samples readings zone ≡ Ok (Some range)
       → Unbeaten below (present (in_zone within ss)) range.low × Unbeaten above (present (in_zone within ss)) range.high
   found_unbeaten range h =
       range_unbeaten (present (in_zone within ss)) range (present_within (in_zone within ss))
       (sym (accepted_answer zones samples readings zone (ap refusalb h)) ∙ h)
 
-  pub found_low : (range : Range) → zone_range zones samples readings zone ≡ Found range → Extreme below within ss range.low
+  pub found_low : (range : Range) → zone_range zones samples readings zone ≡ Ok (Some range) → Extreme below within ss range.low
   found_low range h = extreme within below below_differs ss range.low (found_unbeaten range h).0
 
-  pub found_high : (range : Range) → zone_range zones samples readings zone ≡ Found range → Extreme above within ss range.high
+  pub found_high : (range : Range) → zone_range zones samples readings zone ≡ Ok (Some range) → Extreme above within ss range.high
   found_high range h = extreme within above above_differs ss range.high (found_unbeaten range h).1
 
-  pub no_reading_iff : AcceptedRange zones samples readings zone → (zone_range zones samples readings zone ≡ NoReading)
+  pub no_reading_iff : AcceptedRange zones samples readings zone → (zone_range zones samples readings zone ≡ Ok None)
       ↔ All (λ s. insideb s.node within ≡ true → GivesNone s) ss
   no_reading_iff a =
       let e = accepted_answer zones samples readings zone a in

@@ -3,7 +3,8 @@
 -- What would break it: A contract that left the low or the high open would be caught here.
 use mathlib.Core.Path.{◌≡◌}
 use Rattle.laws.proofs.Only.{only}
+use Rattle.ranges.proofs.Cases.{range_only}
 use Rattle.ranges.proofs.range.zone_range.Reads as zone-range
 
 pub zone_range_only : (κs : _) (a : _) (r r' : _) (s s' : _) → zone-range.Post κs a r s → zone-range.Post κs a r' s' → r ≡ r'
-zone_range_only κs a r r' s s' p q = only p q
+zone_range_only κs a r r' s s' p q = range_only r r' (only p q)

@@ -1,6 +1,6 @@
 -- docs/SCOPE.md, "Lab readings": the words in which the demands on ranges are stated. No contract
 -- cites them.
-use Rattle.std.specs.Prelude.{ℕ, ◌≡◌, Bool, true, false, not, List, [], ◌∷◌, ◌++◌, eqb, Float, length}
+use Rattle.std.specs.Prelude.{ℕ, ◌≡◌, Bool, true, false, not, List, [], ◌∷◌, ◌++◌, eqb, Float, length, Ok, Err}
 use Rattle.std.specs.Float.Ieee.{eq}
 use Rattle.answers.specs.Output.{words_in}
 use Rattle.laws.specs.Choose.{All, In, keep}
@@ -9,15 +9,12 @@ use Rattle.nodes.specs.Node.{insideb}
 use Rattle.nodes.specs.Words.{words_of}
 use Rattle.readings.specs.Reading.{MISSING}
 use Rattle.readings.specs.Sample.{Sample, reading_of, faultyb, percent_in}
-use Rattle.ranges.specs.declared.range.ZoneRange.{ZoneRange}
-use Rattle.ranges.specs.declared.range.ZoneRange.TheVariants.{Found, NoReading, Refused}
-use Rattle.ranges.specs.Range.{zone_range}
+use Rattle.ranges.specs.Range.{ZoneRange, zone_range}
 
 -- Whether an answer is a refusal.
 abbrev pub refusalb : ZoneRange → Bool
-refusalb (Found range) = false
-refusalb NoReading = false
-refusalb (Refused refusal) = true
+refusalb (Ok found) = false
+refusalb (Err refusal) = true
 
 -- A call is accepted: its answer isn't a refusal.
 abbrev pub AcceptedRange : (zones samples readings : List ℕ) (zone : ℕ) → Type 0

@@ -12,12 +12,12 @@ use types.Logic.{Logic}
 use contract.Lifetimes.{Lfts}
 use contract.Monad.{Fun, fact, fact_i, fact_use}
 use Rattle.laws.proofs.Only.{only}
-use Rattle.readers.specs.contracts.reader.body as body
+use Rattle.readers.specs.contracts.reader.Reader.body as body
 use Rattle.readers.specs.contracts.reader.body_in as body-in
-use Rattle.readers.specs.contracts.reader.book as book
-use Rattle.readers.specs.contracts.reader.lists as lists
-use Rattle.readers.specs.contracts.reader.open as opening
-use Rattle.readers.specs.contracts.reader.over as over
+use Rattle.readers.specs.contracts.reader.Reader.book as book
+use Rattle.readers.specs.contracts.reader.Reader.lists as lists
+use Rattle.readers.specs.contracts.reader.Reader.open as opening
+use Rattle.readers.specs.contracts.reader.Reader.over as over
 
 module _ {M : Type 1} {𝓤 : Ura M} (𝓛 : Logic 𝓤) (mem : Memory → SProp 𝓤) (run : Routine → Fun 𝓤) (κs : Lfts 1) where
   -- What follows from two facts holds where both hold.

@@ -1,5 +1,5 @@
-// An opened book: a struct that holds the book's bytes and the number of its lists, and thin
-// functions over it. Each leaves the work to a function on the slice and the number.
+// An opened book: a struct that holds the book's bytes and the number of its lists, with thin
+// methods. Each leaves the work to a function on the slice and the number.
 #![tactic(auto)]
 
 mod opening;

@@ -1,9 +1,8 @@
-// The work of the functions over a reader, on plain slices.
+// The work of a reader's functions, on plain slices.
 ghost use Rattle.std.specs.Prelude.{◌≡◌};
 ghost use Rattle.contents.specs.Contents.{lists_in};
 ghost use Rattle.readers.specs.Reader.{kept_of};
 
-use answers::answer::TAKEN;
 use books::book::check_book;
 use numbers::little::number_at;
 
@@ -14,12 +13,11 @@ pub(crate) fn kept_part(book: &[u8]) -> &[u8]
       place : result.ref_ptr ≡ book.entry.ref_ptr;
     } }
 {
-    let opened = check_book(book);
-    let verdict = opened.verdict;
-    if verdict.answer != TAKEN {
-        return &book[..0];
+    if check_book(book).is_ok() {
+        book
+    } else {
+        &book[..0]
     }
-    book
 }
 
 // Returns the number of lists that `book` says it has, or 0 for an empty part.

@@ -6,12 +6,15 @@ use native.Mathlib.Omega.{arith}
 use mathlib.Core.Path.{◌≡◌, refl, sym, ap, subst, ◌∙◌}
 use mathlib.Core.Bool.{Bool, true, false, cond, not}
 use lib.Dec.{T, leb, eqb}
-use lib.Ieee.{Float, nan, inf, fin, binary32, is_nan, nan_bits, odd, of_fields, of_bits, of_int, low, prec, hid}
+use lib.Ieee.{Float, nan, inf, fin, binary32, is_nan, nan_bits, odd, of_fields, of_bits, of_int, low, prec, hid, lt, le}
 use lib.Ieee.Bits.{nan_bits_is}
 use lib.Ieee.Scale.{finite}
 use borrow.Author.Tests.{leb-true, eqb-true, eq-eqb, le-leb}
 use Rattle.readings.specs.Reading.{float, MOST_PERCENT, MOST_GRAMS, GRAMS_A_PERCENT}
-use Rattle.laws.proofs.Tests.{same_test, never}
+use Rattle.laws.proofs.Tests.{either, same_test, never, not_so}
+use Rattle.std.proofs.lemmas.Float.{lt_irrefl, lt_of_lt_of_le, le_of_not-lt, T_from_true, T_from_false}
+use lib.Ieee.Bits.{is_true}
+use mathlib.Core.Logic.{inl, inr}
 
 -- The bits of the infinity above all numbers, and the weight of the sign.
 abbrev pub INFINITY : ℕ
@@ -74,3 +77,11 @@ hundred_bits = refl
 pub thousand_bits : of_bits binary32 1148846080 ≡ MOST_GRAMS
 unfolding of_bits of_int
 thousand_bits = refl
+
+-- Of two finite floats, x is at most y exactly when y isn't below x.
+pub le_turned : (x y : Float) → finite x ≡ true → finite y ≡ true → le x y ≡ not (lt y x)
+le_turned x y f g =
+    elim (either (lt y x)) [
+      | inl h ↦ rw h (not_so (λ l. lt_irrefl y (lt_of_lt_of_le y x y (T_from_true _ h) (T_from_true _ l))))
+      | inr h ↦ rw h (is_true _ (le_of_not-lt y x (number y g) (number x f) (T_from_false _ h)))
+    ]

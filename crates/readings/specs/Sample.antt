@@ -1,15 +1,12 @@
 -- docs/SCOPE.md, "Lab readings": samples with their readings, which of them are faulty, and the
 -- percentages that are present.
-use Rattle.std.specs.Prelude.{ℕ, ◌*◌, Bool, true, false, eqb, length, Float}
+use Rattle.std.specs.Prelude.{ℕ, ◌*◌, Bool, true, false, eqb, length, Float, Option, None, Some}
 use mathlib.Core.List.{List, [], ◌∷◌, flat_map}
 use Rattle.nodes.specs.declared.node.Node.{Node}
 use Rattle.nodes.specs.Words.{nodes, count}
 use Rattle.laws.specs.Choose.{keep}
 use Rattle.nodes.specs.Node.{insideb}
-use Rattle.readings.specs.declared.reading.Decoded.{Decoded}
-use Rattle.readings.specs.declared.reading.Decoded.TheVariants.{Read, Faulty}
-use Rattle.readings.specs.declared.reading.Percentage.{Percentage}
-use Rattle.readings.specs.declared.reading.Percentage.TheVariants.{Of, Missing}
+use Rattle.readings.specs.declared.reading.Reading.{Reading}
 use Rattle.readings.specs.Reading.{decode, percent_of}
 
 -- How many words a reading takes.
@@ -38,27 +35,27 @@ unfoldable pub pairedb : List ℕ → List ℕ → Bool
 pairedb samples readings = eqb (length readings) (READING_WORDS * count samples)
 
 -- What a sample's two words stand for.
-abbrev pub reading_of : Sample → Decoded
+abbrev pub reading_of : Sample → Option Reading
 reading_of s = decode s.kind s.bits
 
 -- Whether what two words are decoded to is a fault.
-abbrev pub fault_in : Decoded → Bool
-fault_in (Read reading) = false
-fault_in Faulty = true
+abbrev pub fault_in : Option Reading → Bool
+fault_in (Some reading) = false
+fault_in None = true
 
 -- Whether a sample's reading is faulty.
 abbrev pub faultyb : Sample → Bool
 faultyb s = fault_in (reading_of s)
 
 -- The value of a percentage as a list: of one value, or of none where it is missing.
-abbrev pub values_of : Percentage → List Float
-values_of (Of percent) = percent ∷ []
-values_of Missing = []
+abbrev pub values_of : Option Float → List Float
+values_of (Some percent) = percent ∷ []
+values_of None = []
 
 -- What two words give in percent: one value, or none.
-abbrev pub percent_in : Decoded → List Float
-percent_in (Read reading) = values_of (percent_of reading)
-percent_in Faulty = []
+abbrev pub percent_in : Option Reading → List Float
+percent_in (Some reading) = values_of (percent_of reading)
+percent_in None = []
 
 -- The samples inside a zone, in their order.
 unfoldable pub in_zone : Node → List Sample → List Sample

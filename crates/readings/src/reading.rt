@@ -1,13 +1,14 @@
 // A lab reading, decoded from its two words and turned into percent.
-ghost use Rattle.std.specs.Prelude.{◌≡◌};
+ghost use Rattle.std.specs.Prelude.{◌≡◌, true};
 ghost use Rattle.std.specs.Float.{binary32};
 ghost use Rattle.std.specs.Float.Ieee.{of_bits};
+ghost use Rattle.std.specs.Float.Ieee.Scale.{finite};
 ghost use Rattle.readings.specs.Reading.{decode, withinb, percent_of};
 
 // How many words a reading takes: its kind, and the bits of its value.
 pub const READING_WORDS: usize = 2;
 
-// The kinds of reading.
+// The kinds of reading. By hand: they are words of the input, and `Reading` is their enum.
 pub const MISSING: u32 = 0;
 
 pub const PERCENT: u32 = 1;
@@ -35,57 +36,38 @@ pub enum Reading {
     Missing,
 }
 
-// What two words are decoded to: a reading, or a fault.
-#[derive(Clone, Copy)]
-pub enum Decoded {
-    Read(Reading),
-    Faulty,
-}
-
-// A reading in percent, or none where it is missing.
-#[derive(Clone, Copy)]
-pub enum Percentage {
-    Of(f32),
-    Missing,
-}
-
 // Returns whether `bits` are those of a number from zero to `most`.
 fn is_within(bits: u32, most: f32) -> bool
+    requires { finite most ≡ true }
     ensures { result ≡ withinb most (of_bits binary32 bits) }
 {
     if INFINITY <= bits % SIGN {
         return false;
     }
     let value = f32::from_bits(bits);
-    if value < 0.0 {
-        return false;
-    }
-    !(most < value)
+    0.0 <= value && value <= most
 }
 
-// Returns the reading of `kind` with the value that `bits` stand for, or that it is faulty.
-pub fn decode(kind: u32, bits: u32) -> Decoded
+// Returns the reading of `kind` with the value that `bits` stand for, or nothing where it is
+// faulty.
+pub fn decode(kind: u32, bits: u32) -> Option<Reading>
     ensures { result ≡ decode kind bits }
 {
-    if kind == MISSING && bits == 0 {
-        return Decoded::Read(Reading::Missing);
+    match kind {
+        MISSING if bits == 0 => Some(Reading::Missing),
+        PERCENT if is_within(bits, MOST_PERCENT) => Some(Reading::Percent(f32::from_bits(bits))),
+        GRAMS if is_within(bits, MOST_GRAMS) => Some(Reading::Grams(f32::from_bits(bits))),
+        _ => None,
     }
-    if kind == PERCENT && is_within(bits, MOST_PERCENT) {
-        return Decoded::Read(Reading::Percent(f32::from_bits(bits)));
-    }
-    if kind == GRAMS && is_within(bits, MOST_GRAMS) {
-        return Decoded::Read(Reading::Grams(f32::from_bits(bits)));
-    }
-    Decoded::Faulty
 }
 
-// Returns `reading` in percent. Grams are divided by ten, once.
-pub fn in_percent(reading: Reading) -> Percentage
+// Returns `reading` in percent, or nothing where it is missing. Grams are divided by ten, once.
+pub fn in_percent(reading: Reading) -> Option<f32>
     ensures { result ≡ percent_of reading }
 {
     match reading {
-        Reading::Percent(percent) => Percentage::Of(percent),
-        Reading::Grams(grams) => Percentage::Of(grams / GRAMS_A_PERCENT),
-        Reading::Missing => Percentage::Missing,
+        Reading::Percent(percent) => Some(percent),
+        Reading::Grams(grams) => Some(grams / GRAMS_A_PERCENT),
+        Reading::Missing => None,
     }
 }

@@ -1,15 +1,18 @@
 -- Why it holds: A word is tested against the most hundredths and the word for missing. A search
 -- along the words stops at the first faulty one.
 -- What would break it: A limit that is one off, or a faulty word passed over, would be caught here.
-use mathlib.Core.Path.{◌≡◌, ◌∙◌}
+use mathlib.Core.Path.{◌≡◌, refl, sym, ap, ◌∙◌}
 use mathlib.Core.Logic.{◌↔◌, inl, inr}
-use mathlib.Core.Bool.{true, false}
+use mathlib.Core.Bool.{Bool, true, false, cond}
 use mathlib.Core.List.{List}
 use Prim.Native.Nat.{ℕ, ◌≤◌, ◌<◌}
 use native.Mathlib.Omega.{arith}
-use lib.Dec.{leb}
+use lib.Dec.{leb, ltb}
 use lib.ListN.{length, get_or}
 use borrow.Author.Tests.{leb-true, leb-false, ltb-true, lt-leb, eqb-false, ne_eqb}
+use Rattle.std.specs.Prelude.{Some, None, position}
+use Rattle.std.specs.List.{position_or_len}
+use Rattle.std.proofs.lemmas.List.Recursion.{is_position_or_len}
 use Rattle.laws.specs.Choose.{any, first_at}
 use Rattle.laws.proofs.Choices.{all_at, any_none}
 use Rattle.laws.proofs.First.{first_there, first_passes, before_first}
@@ -29,6 +32,19 @@ unfolding faulty_wordb
 hundredths_few word f m =
     elim (or_read (leb word MOST_HUNDREDTHS) (not_none _ f)) [ inl h ↦ leb-true _ _ h | inr h ↦ absurd (never h m) ]
 
+search_same : (words : List ℕ) → first_at faulty_wordb words ≡ position_or_len faulty_wordb words
+unfolding first_at
+search_same words =
+    is_position_or_len (first_at faulty_wordb) faulty_wordb refl (λ x xs. ap (cond (faulty_wordb x) 0) (omega arith)) words
+
+some_told : (b : Bool) (n i : ℕ) → Some i ≡ cond b (Some n) None → (b ≡ true) × (i ≡ n)
+some_told true n i q = (refl, cc)
+some_told false n i q = absurd (cc)
+
+none_told : (b : Bool) (n : ℕ) → None ≡ cond b (Some n) None → b ≡ false
+none_told true n q = absurd (cc)
+none_told false n q = refl
+
 module _ (words : List ℕ) where
   -- The word at the index is faulty, and none before it is.
   abbrev pub FirstFaultyWord : ℕ → Type 0
@@ -40,6 +56,18 @@ module _ (words : List ℕ) where
   search_finds h =
       let there = ltb-true (first_at faulty_wordb words) (length words) (first_there faulty_wordb words ∙ h) in
       (there, first_passes faulty_wordb words 0 there, λ k l. before_first faulty_wordb words k 0 l)
+
+  -- The library's search says whether there is one, and where.
+  position_told : position faulty_wordb words ≡ cond (any faulty_wordb words) (Some (first_at faulty_wordb words)) None
+  position_told =
+      ap (λ n. cond (ltb n (length words)) (Some n) None) (sym (search_same words))
+      ∙ ap (λ b. cond b (Some (first_at faulty_wordb words)) None) (first_there faulty_wordb words)
+
+  pub position_some : (i : ℕ) → Some i ≡ position faulty_wordb words → (any faulty_wordb words ≡ true) × (i ≡ first_at faulty_wordb words)
+  position_some i q = some_told (any faulty_wordb words) (first_at faulty_wordb words) i (q ∙ position_told)
+
+  pub position_none : None ≡ position faulty_wordb words → any faulty_wordb words ≡ false
+  position_none q = none_told (any faulty_wordb words) (first_at faulty_wordb words) (q ∙ position_told)
 
   -- and no other is the first.
   pub first_found : (i : ℕ) → FirstFaultyWord i → (any faulty_wordb words ≡ true) × (first_at faulty_wordb words ≡ i)

@@ -10,6 +10,7 @@ use native.Mathlib.Nat.{eq-or-lt_of_le}
 use native.Mathlib.Omega.{arith}
 use lib.ListN.{length, length-map, get_or}
 use lib.Seq.{slice, slice_empty, length-slice}
+use Rattle.laws.specs.Choose.{keep}
 use Rattle.laws.proofs.Choices.{all_at, all_drop, take_all_of}
 use Rattle.nodes.specs.declared.node.Node.{Node}
 use Rattle.nodes.specs.Node.{afterb}
@@ -18,7 +19,7 @@ use Rattle.nodes.proofs.WordLaws.{length_nodes}
 use Rattle.sheets.specs.declared.subtotal.Subtotal.{Subtotal}
 use Rattle.sheets.specs.Hundredths.{faulty_wordb}
 use Rattle.sheets.specs.Private.Walk.{SmallSubtotal, Measured, NoneAfter, of_word}
-use Rattle.sheets.specs.Sheet.{LabSample, lab_samples, plus, subtotal_over}
+use Rattle.sheets.specs.Sheet.{LabSample, lab_samples, plus, sum_of, subtotal_over}
 use Rattle.sheets.proofs.LabSamples.{lab_nodes_lem, labs_words}
 use Rattle.laws.proofs.Slices.{slice_more, slice_join}
 use Rattle.sheets.proofs.Subtotals.{over_append, over_one, over_small}
@@ -45,6 +46,11 @@ pub by_more : (samples : List ℕ) (limit : Node) (index : ℕ) → NoneAfter sa
 by_more samples limit index h e k l =
     let j : k ≤ index = omega arith in
     elim (eq-or-lt_of_le j) [ inl q ↦ ap (λ j. afterb (node_at samples j) limit) q ∙ e | inr q ↦ h k q ]
+
+-- A row of zeros is that of no samples.
+pub no_row : (t : Subtotal) → t.samples ≡ 0 → t.present ≡ 0 → t.sum ≡ 0 → t ≡ subtotal_over []
+unfolding subtotal_over keep sum_of
+no_row t n p s = λ k. record { samples = n k; present = p k; sum = s k }
 
 module _ (samples hundredths : List ℕ) where
   abbrev ss : List LabSample

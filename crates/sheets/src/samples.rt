@@ -5,7 +5,7 @@ ghost use Rattle.nodes.specs.Words.{nodes, count};
 ghost use Rattle.sheets.specs.Private.Walk.{Measured, NoneAfter, FirstAfter};
 ghost use Rattle.sheets.specs.Sheet.{subtotal_over, lab_samples};
 
-use crate::subtotal::{Subtotal, added, nothing, of_word};
+use crate::subtotal::{Subtotal, added, of_word};
 use nodes::node::{Node, is_after, node_at, node_count};
 
 // A stretch of samples: the index of the sample after it, and its subtotal.
@@ -25,10 +25,10 @@ pub(crate) fn pass_samples(samples: &[u32], hundredths: &[u32], from: usize, lim
       subtotal : result.subtotal ≡ subtotal_over (slice from result.next (lab_samples (nodes samples.now) hundredths.now));
     } }
 {
-    let mut next = from;
-    let mut subtotal = nothing();
+    let count = node_count(samples);
+    let mut subtotal = Subtotal::default();
     // Rests on SampleLaws: no_stretch, stretch_more, by_more.
-    while next < node_count(samples) {
+    for next in from..count {
         if is_after(node_at(samples, next), limit) {
             return Stretch {
                 next: next,
@@ -36,10 +36,9 @@ pub(crate) fn pass_samples(samples: &[u32], hundredths: &[u32], from: usize, lim
             };
         }
         subtotal = added(subtotal, of_word(hundredths[next]));
-        next += 1;
     }
     Stretch {
-        next: next,
+        next: count,
         subtotal: subtotal,
     }
 }

@@ -1,53 +1,26 @@
 // A row of the sheet, and how it lies in words.
-ghost use Rattle.std.specs.Prelude.{◌≡◌, [], ◌*◌, ◌/◌, ◌<◌, length};
+ghost use Rattle.std.specs.Prelude.{◌≡◌, ◌*◌, ◌/◌, ◌<◌, length};
 ghost use Rattle.std.proofs.lemmas.List.Edits.{sets};
 ghost use Rattle.sheets.specs.Private.Walk.{SmallSubtotal, of_word};
-ghost use Rattle.sheets.specs.Sheet.{SUBTOTAL_WORDS, plus, subtotal_over, subtotal_words};
+ghost use Rattle.sheets.specs.Sheet.{SUBTOTAL_WORDS, plus, subtotal_words};
 
-use crate::hundredths::is_missing;
+use crate::hundredths::reading_of;
 
 // How many words a row takes.
 pub const SUBTOTAL_WORDS: usize = 3;
 
 // What a row says of some samples: how many they are, how many of them have a reading, and the sum
-// of those readings in hundredths of a percent.
-#[derive(Clone, Copy)]
+// of those readings in hundredths of a percent. The default is the row of no samples.
+#[derive(Clone, Copy, Default)]
 pub struct Subtotal {
     pub samples: u32,
     pub present: u32,
     pub sum: u32,
 }
 
-// Returns the subtotal of no samples.
-pub(crate) fn nothing() -> Subtotal
-    ensures { result ≡ subtotal_over [] }
-{
-    Subtotal {
-        samples: 0,
-        present: 0,
-        sum: 0,
-    }
-}
-
-// Returns the subtotal of one sample with the word `word`.
-pub(crate) fn of_word(word: u32) -> Subtotal
-    ensures { result ≡ of_word word }
-{
-    if is_missing(word) {
-        return Subtotal {
-            samples: 1,
-            present: 0,
-            sum: 0,
-        };
-    }
-    Subtotal {
-        samples: 1,
-        present: 1,
-        sum: word,
-    }
-}
-
-// Returns the sum of two subtotals.
+// Returns the sum of two subtotals, column by column. Neither may be larger than that of as many
+// samples as a call may have.
+// By hand: an `Add` would be public, and could not ask that of whoever adds.
 pub(crate) fn added(one: Subtotal, other: Subtotal) -> Subtotal
     requires { SmallSubtotal one × SmallSubtotal other }
     ensures { result ≡ plus one other }
@@ -56,6 +29,24 @@ pub(crate) fn added(one: Subtotal, other: Subtotal) -> Subtotal
         samples: one.samples + other.samples,
         present: one.present + other.present,
         sum: one.sum + other.sum,
+    }
+}
+
+// Returns the subtotal of one sample with the word `word`.
+pub(crate) fn of_word(word: u32) -> Subtotal
+    ensures { result ≡ of_word word }
+{
+    match reading_of(word) {
+        None => Subtotal {
+            samples: 1,
+            present: 0,
+            sum: 0,
+        },
+        Some(reading) => Subtotal {
+            samples: 1,
+            present: 1,
+            sum: reading,
+        },
     }
 }
 

@@ -12,7 +12,7 @@ ghost use Rattle.sheets.specs.Private.Walk.{Measured, InsideUpTo, FirstAfter, en
 ghost use Rattle.sheets.specs.Sheet.{SUBTOTAL_WORDS, subtotal_over, sheet_samples, sheet_in};
 
 use crate::samples::pass_samples;
-use crate::subtotal::{Subtotal, added, nothing, put_subtotal};
+use crate::subtotal::{Subtotal, added, put_subtotal};
 use nodes::node::{MOST_LEVELS, Node, is_open, node_at, node_count};
 
 // How far the walk of a zone came. `zone` and `sample` are the indices of the first zone and the
@@ -30,10 +30,8 @@ fn end_of(zone: Node) -> Node
     ensures { result ≡ end_text zone }
 {
     Node {
-        document: zone.document,
         start: zone.end,
-        end: zone.end,
-        level: zone.level,
+        ..zone
     }
 }
 
@@ -41,10 +39,7 @@ fn end_of(zone: Node) -> Node
 fn is_within(zones: &[u32], index: usize, around: Node) -> bool
     ensures { result ≡ (ltb index (count zones.now) && openb (node_at zones.now index) around) }
 {
-    if node_count(zones) <= index {
-        return false;
-    }
-    is_open(node_at(zones, index), around)
+    index < node_count(zones) && is_open(node_at(zones, index), around)
 }
 
 // Writes the rows of the zone at `zone` and of all zones inside it. `sample` is the index of the
@@ -78,7 +73,7 @@ fn walk_zone(
     let around = node_at(zones, zone);
     let mut next = zone + 1;
     let mut place = sample;
-    let mut subtotal = nothing();
+    let mut subtotal = Subtotal::default();
     // Rests on Walking: walk_start, walk_child, child_none.
     while is_within(zones, next, around) {
         let own = pass_samples(samples, hundredths, place, node_at(zones, next));

@@ -7,9 +7,13 @@ use Rattle.laws.proofs.Only.{only}
 use Rattle.ticket_words.proofs.page.list_page.Reads as list-page
 use Rattle.ticket_words.proofs.page.shown_page.Reads as shown-page
 use Rattle.ticket_words.proofs.words.ticket_back.Reads as ticket-back
-use Rattle.ticket_words.proofs.words.ticket_of.Reads as ticket-of
+use Rattle.ticket_words.proofs.words.PlaceFromTicketWords.from.Reads as place-from
+use Rattle.ticket_words.proofs.words.TicketFromTicketWords.from.Reads as ticket-from
 
-pub ticket_of_only : (κs : _) (a : _) (r r' : _) (s s' : _) → ticket-of.Post κs a r s → ticket-of.Post κs a r' s' → r ≡ r'
+pub place_of_only : (κs : _) (a : _) (r r' : _) (s s' : _) → place-from.Post κs a r s → place-from.Post κs a r' s' → r ≡ r'
+place_of_only κs a r r' s s' p q = only p q
+
+pub ticket_of_only : (κs : _) (a : _) (r r' : _) (s s' : _) → ticket-from.Post κs a r s → ticket-from.Post κs a r' s' → r ≡ r'
 ticket_of_only κs a r r' s s' p q = only p q
 
 pub ticket_back_only : (κs : _) (a : _) (r r' : _) (s s' : _) → ticket-back.Post κs a r s → ticket-back.Post κs a r' s' → r ≡ r'

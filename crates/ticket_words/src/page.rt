@@ -1,12 +1,13 @@
 // A page of a listing, for callers that keep a ticket as six words.
-ghost use Rattle.std.specs.Prelude.{◌≡◌, cond};
+ghost use Rattle.std.specs.Prelude.{◌≡◌};
 ghost use Rattle.pairs.specs.Page.{page_of, output_after};
 ghost use Rattle.ticket_words.specs.Page.{shown_page};
 ghost use Rattle.ticket_words.specs.Words.{ticket_of};
 
-use crate::words::{TicketWords, ticket_back, ticket_of};
+use crate::words::{TicketWords, ticket_back};
 use answers::verdict::Verdict;
 use pairs::page::{Page, next_page};
+use tickets::ticket::Ticket;
 
 // What a page call answers: the verdict on its two lists, `done`, the number of pairs it wrote, and
 // the words of the ticket for the next page. `done` is 1 if the call wrote all that remained;
@@ -20,16 +21,6 @@ pub struct PageWords {
     pub ticket: TicketWords,
 }
 
-// Returns 1 if `done` is true; otherwise returns 0.
-fn one_if(done: bool) -> u32
-    ensures { result ≡ cond done 1 0 }
-{
-    if done {
-        return 1;
-    }
-    0
-}
-
 // Returns `page` with its ticket in words, for a call with the ticket `words`.
 pub fn shown_page(words: TicketWords, page: Page) -> PageWords
     ensures { result ≡ shown_page words page }
@@ -39,7 +30,7 @@ pub fn shown_page(words: TicketWords, page: Page) -> PageWords
     let place = next.place;
     PageWords {
         verdict: verdict,
-        done: one_if(page.done),
+        done: u32::from(page.done),
         count: page.count,
         ticket: ticket_back(words, page.count, place),
     }
@@ -58,6 +49,6 @@ pub fn list_page(
       output : out.new ≡ output_after ancestors.now descendants.now (ticket_of words) out.old;
     } }
 {
-    let asked = ticket_of(words);
+    let asked = Ticket::from(words);
     shown_page(words, next_page(ancestors, descendants, asked, out))
 }

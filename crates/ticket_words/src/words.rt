@@ -1,6 +1,6 @@
 // The six words of a ticket, and the ticket that they stand for.
 ghost use Rattle.std.specs.Prelude.{◌≡◌};
-ghost use Rattle.ticket_words.specs.Words.{relation_of, order_of, place_of, ticket_of, moved_to, ticket_back};
+ghost use Rattle.ticket_words.specs.Words.{place_of, ticket_of, moved_to, ticket_back};
 
 use tickets::ticket::{Key, Order, Place, Relation, Ticket};
 
@@ -19,48 +19,40 @@ pub struct TicketWords {
     pub second: u32,
 }
 
-// Returns the relation that `number` stands for.
-fn relation_of(number: u32) -> Relation
-    ensures { result ≡ relation_of number }
-{
-    if number == 0 {
-        return Relation::Inside;
+// A place is the one that the last four of the words stand for.
+impl From<TicketWords> for Place {
+    ghost from_gives = { λ words place. place ≡ place_of words };
+
+    fn from(words: TicketWords) -> Place {
+        if words.placed == 0 {
+            return Place::Fresh;
+        }
+        Place::After(Key {
+            document: words.document,
+            leader: words.first,
+            follower: words.second,
+        })
     }
-    Relation::Directly
 }
 
-// Returns the order that `number` stands for.
-fn order_of(number: u32) -> Order
-    ensures { result ≡ order_of number }
-{
-    if number == 0 {
-        return Order::Descendant;
-    }
-    Order::Ancestor
-}
+// A ticket is the one that the six words stand for.
+impl From<TicketWords> for Ticket {
+    ghost from_gives = { λ words ticket. ticket ≡ ticket_of words };
 
-// Returns the place that the last four of `words` stand for.
-fn place_of(words: TicketWords) -> Place
-    ensures { result ≡ place_of words }
-{
-    if words.placed == 0 {
-        return Place::Fresh;
-    }
-    Place::After(Key {
-        document: words.document,
-        leader: words.first,
-        follower: words.second,
-    })
-}
-
-// Returns the ticket that the six `words` stand for.
-pub fn ticket_of(words: TicketWords) -> Ticket
-    ensures { result ≡ ticket_of words }
-{
-    Ticket {
-        relation: relation_of(words.relation),
-        order: order_of(words.order),
-        place: place_of(words),
+    fn from(words: TicketWords) -> Ticket {
+        Ticket {
+            relation: if words.relation == 0 {
+                Relation::Inside
+            } else {
+                Relation::Directly
+            },
+            order: if words.order == 0 {
+                Order::Descendant
+            } else {
+                Order::Ancestor
+            },
+            place: words.into(),
+        }
     }
 }
 
@@ -71,12 +63,11 @@ fn moved_to(words: TicketWords, place: Place) -> TicketWords
     match place {
         Place::Fresh => words,
         Place::After(key) => TicketWords {
-            relation: words.relation,
-            order: words.order,
             placed: 1,
             document: key.document,
             first: key.leader,
             second: key.follower,
+            ..words
         },
     }
 }

@@ -18,16 +18,10 @@ pub fn past_from(place: Place, leader: Node) -> u64
     ensures { result ≡ past_from place leader }
 {
     match place {
-        Place::Fresh => 0,
-        Place::After(key) => {
-            if key.document != leader.document {
-                return 0;
-            }
-            if key.leader != leader.start {
-                return 0;
-            }
-            key.follower as u64 + 1
+        Place::After(key) if key.document == leader.document && key.leader == leader.start => {
+            u64::from(key.follower) + 1
         }
+        _ => 0,
     }
 }
 
@@ -38,15 +32,7 @@ pub fn is_served(place: Place, leader: Node) -> bool
 {
     match place {
         Place::Fresh => false,
-        Place::After(key) => {
-            if leader.document < key.document {
-                return true;
-            }
-            if leader.document != key.document {
-                return false;
-            }
-            leader.start < key.leader
-        }
+        Place::After(key) => (leader.document, leader.start) < (key.document, key.leader),
     }
 }
 
@@ -55,13 +41,12 @@ pub fn is_served(place: Place, leader: Node) -> bool
 pub fn served_count(place: Place, leaders: &[u32]) -> usize
     ensures { result ≡ served_in place (nodes leaders.now) }
 {
-    let mut k = 0;
+    let count = node_count(leaders);
     // Rests on Search: search_found, search_on, search_end.
-    while k < node_count(leaders) {
+    for k in 0..count {
         if !is_served(place, node_at(leaders, k)) {
             return k;
         }
-        k += 1;
     }
-    k
+    count
 }

@@ -26,6 +26,7 @@ pub struct Key {
 }
 
 // The place reached: none yet, or the key of the last pair handed out.
+// By hand, and no Option: docs/SCOPE.md names these two cases.
 #[derive(Clone, Copy)]
 pub enum Place {
     Fresh,

@@ -1,6 +1,7 @@
 // Checks what a book is to be written from.
 ghost use Rattle.std.specs.Prelude.{◌≡◌, ◌/◌, ◌%◌, ◌≤◌, length};
 ghost use Rattle.answers.specs.Answer.{TAKEN};
+ghost use Rattle.answers.specs.Refusal.{answer_in, verdict_in};
 ghost use Rattle.nodes.specs.Words.{NODE_WORDS, nodes};
 ghost use Rattle.contents.specs.Contents.{MOST_LISTS};
 ghost use Rattle.contents.specs.Passing.{start_of};
@@ -10,97 +11,84 @@ ghost use Rattle.writing.specs.Wanted.{WANTED_WORDS, wanted, contents_for, bodie
 ghost use Rattle.writing.specs.WriteCall.{check_wanted};
 
 use crate::wanted::{WANTED_WORDS, wanted_at, wanted_count};
-use answers::answer::{CONTENTS, RAGGED, TAKEN};
-use answers::verdict::{Verdict, without_node};
+use answers::refusal::{Fault, Refusal};
 use contents::entry::{Entry, MOST_LISTS, contents_end};
-use contents::step::{Step, pass_entry, start_of, step_answer};
+use contents::step::{ContentsPlace, check_end, pass_entry, start_of};
 use lists::list::check_list;
 use nodes::node::NODE_WORDS;
 use numbers::little::NUMBER_BYTES;
 
 // Walks along the contents that the book will have: each body starts where the last one ends.
 // Returns the place after them, or the first refusal.
-fn pass_wanted(entries: &[u32]) -> Step
+fn pass_wanted(entries: &[u32]) -> Result<ContentsPlace, Refusal>
     requires { length entries.now / WANTED_WORDS ≤ MOST_LISTS }
     ensures { Kept (start_of (length entries.now / WANTED_WORDS)) (contents_for (wanted entries.now)) result }
 {
     let lists = wanted_count(entries);
     let mut place = start_of(lists as u32);
-    let mut index = 0;
     // Rests on contents: ContentLaws: kept_on, kept_stop, kept_end.
-    while index < lists {
+    for index in 0..lists {
         let wanted = wanted_at(entries, index);
-        let step = pass_entry(
-            place,
-            Entry {
-                tag: wanted.tag,
-                offset: place.end as u32,
-                count: wanted.count,
-            },
-        );
-        let Step::Reached(reached) = step else {
+        let entry = Entry {
+            tag: wanted.tag,
+            offset: place.end as u32,
+            count: wanted.count,
+        };
+        // `let .. else` and not `?`: docs/SCOPE.md names that form for the steps of a check.
+        let step = pass_entry(place, entry);
+        let Ok(reached) = step else {
             return step;
         };
         place = reached;
-        index += 1;
     }
-    Step::Reached(place)
+    Ok(place)
 }
 
-// Returns TAKEN if the contents that the book will have keep the rules and the last body ends where
-// the nodes do, or else CONTENTS.
-fn wanted_fault(entries: &[u32], list: &[u32]) -> u32
+// Checks that the contents that the book will have keep the rules, and that the last body ends
+// where the nodes do. The refusal is Contents.
+fn check_entries(entries: &[u32], list: &[u32]) -> Result<(), Refusal>
     requires { length list.now % NODE_WORDS ≡ 0 }
-    ensures { result ≡ wanted_fault (wanted entries.now) (nodes list.now) }
+    ensures { answer_in result ≡ wanted_fault (wanted entries.now) (nodes list.now) }
 {
     let lists = wanted_count(entries);
     if (MOST_LISTS as usize) < lists {
-        return CONTENTS;
+        return Err(Refusal::Contents);
     }
     let size = contents_end(lists as u32) + NUMBER_BYTES * list.len();
-    step_answer(pass_wanted(entries), size)
+    check_end(pass_wanted(entries)?, size)
 }
 
-// Returns the verdict on the first body that isn't accepted, or TAKEN. The counts add up to the
-// nodes.
-fn check_bodies(entries: &[u32], list: &[u32]) -> Verdict
+// Checks the bodies and returns the fault of the first one that isn't accepted. The counts add up
+// to the nodes.
+fn check_bodies(entries: &[u32], list: &[u32]) -> Result<(), Fault>
     requires { (length list.now % NODE_WORDS ≡ 0) × (wanted_fault (wanted entries.now) (nodes list.now) ≡ TAKEN) }
-    ensures { result ≡ check_bodies 0 (bodies_for (wanted entries.now) (nodes list.now)) }
+    ensures { verdict_in result ≡ check_bodies 0 (bodies_for (wanted entries.now) (nodes list.now)) }
 {
     let mut from = 0;
-    let mut index = 0;
     // Rests on books: BookLaws: bodies_on, bodies_stop, bodies_end.
-    while index < wanted_count(entries) {
+    for index in 0..wanted_count(entries) {
         let wanted = wanted_at(entries, index);
         let to = from + NODE_WORDS * wanted.count as usize;
-        let verdict = check_list(&list[from..to]);
-        if verdict.answer != TAKEN {
-            let number = index as u32;
-            return Verdict {
-                answer: verdict.answer,
-                list: number,
-                index: verdict.index,
-            };
-        }
+        let number = index as u32;
+        check_list(&list[from..to]).map_err(|fault| Fault {
+            list: number,
+            ..fault
+        })?;
         from = to;
-        index += 1;
     }
-    without_node(TAKEN)
+    Ok(())
 }
 
-// Returns the verdict on what is to be written, apart from the room for it.
-pub(crate) fn check_wanted(entries: &[u32], list: &[u32]) -> Verdict
-    ensures { result ≡ check_wanted entries.now list.now }
+// Checks what is to be written, apart from the room for it.
+pub(crate) fn check_wanted(entries: &[u32], list: &[u32]) -> Result<(), Fault>
+    ensures { verdict_in result ≡ check_wanted entries.now list.now }
 {
     if entries.len() % WANTED_WORDS != 0 {
-        return without_node(RAGGED);
+        return Err(Refusal::Ragged.into());
     }
     if list.len() % NODE_WORDS != 0 {
-        return without_node(RAGGED);
+        return Err(Refusal::Ragged.into());
     }
-    let fault = wanted_fault(entries, list);
-    if fault != TAKEN {
-        return without_node(fault);
-    }
+    check_entries(entries, list)?;
     check_bodies(entries, list)
 }

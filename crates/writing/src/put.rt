@@ -18,11 +18,9 @@ pub(crate) fn put_numbers(words: &[u32], out: &mut [u8], from: usize)
     requires { from + length words.now ≤ number_count out.old }
     ensures { out.new ≡ sets out.old (NUMBER_BYTES * from) (words_in bytes_of words.now) }
 {
-    let mut index = 0;
     // Rests on Putting: put_on.
-    while index < words.len() {
-        put_number(out, from + index, words[index]);
-        index += 1;
+    for (index, word) in words.iter().enumerate() {
+        put_number(out, from + index, *word);
     }
 }
 
@@ -48,9 +46,8 @@ pub(crate) fn put_contents(entries: &[u32], out: &mut [u8])
     let lists = wanted_count(entries);
     put_number(out, 0, lists as u32);
     let mut end = contents_end(lists as u32);
-    let mut index = 0;
     // Rests on Putting: laid_on.
-    while index < lists {
+    for index in 0..lists {
         let wanted = wanted_at(entries, index);
         put_entry(
             out,
@@ -62,6 +59,5 @@ pub(crate) fn put_contents(entries: &[u32], out: &mut [u8])
             },
         );
         end += NODE_BYTES * wanted.count as usize;
-        index += 1;
     }
 }

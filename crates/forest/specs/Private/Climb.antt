@@ -1,10 +1,18 @@
 -- Words of the contracts of private functions: the links of a list as far as its first nodes tell
 -- them, and how a node stands to the nodes before it. No public contract cites this file.
-use Rattle.std.specs.Prelude.{ℕ, ◌*◌, ◌-◌, ◌<◌, ◌≡◌, Bool, true, false, cond, not, ◌&&◌, List, map, ltb, eqb, take}
+use Rattle.std.specs.Prelude.{ℕ, ◌*◌, ◌-◌, ◌<◌, ◌≡◌, Bool, true, false, cond, not, ◌&&◌, List, Option, Some, None, map, ltb, eqb, take}
 use Rattle.nodes.specs.declared.node.Node.{Node}
 use Rattle.answers.specs.Output.{words_in}
 use Rattle.forest.specs.declared.link.Link.{Link}
-use Rattle.forest.specs.Links.{LINK_WORDS, up_to, first_of, node_in, parent_of, siblingb, link_words}
+use Rattle.forest.specs.Links.{NONE, LINK_WORDS, up_to, first_of, node_in, parent_of, siblingb, link_words}
+
+-- The index that a link's word names, if any, and the word that names an index.
+abbrev pub index_in : ℕ → Option ℕ
+index_in word = cond (eqb word NONE) None (Some word)
+
+abbrev pub word_of : Option ℕ → ℕ
+word_of None = NONE
+word_of (Some index) = index
 
 -- The links of a node, with its three indices.
 abbrev pub link : ℕ → ℕ → ℕ → Link

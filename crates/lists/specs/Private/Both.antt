@@ -1,17 +1,13 @@
 -- What the walk along two lists keeps, for the contracts of private functions. No public contract
 -- cites this file.
-use Rattle.std.specs.Prelude.{ℕ, ◌+◌, ◌≤◌, ◌<◌, ◌≡◌, ◌⊎◌, false, List, [], ◌∷◌, length, drop}
+use Rattle.std.specs.Prelude.{ℕ, ◌+◌, ◌≤◌, ◌<◌, ◌≡◌, ◌⊎◌, false, List, [], ◌∷◌, length, drop, Option, None, Some}
 use Rattle.nodes.specs.declared.node.Node.{Node}
 use Rattle.answers.specs.Answer.{TAKEN}
 use Rattle.answers.specs.declared.verdict.Verdict.{Verdict}
 use Rattle.nodes.specs.Words.{NODE_WORDS, nodes}
 use Rattle.lists.specs.Check.{check_from, check_nodes}
 use Rattle.lists.specs.declared.both.RunPlace.{RunPlace}
-use Rattle.lists.specs.declared.both.RunStep.{RunStep}
-use Rattle.lists.specs.declared.both.RunStep.TheVariants.{Reached, Fault}
 use Rattle.lists.specs.declared.both.BothPlace.{BothPlace}
-use Rattle.lists.specs.declared.both.BothStep.{BothStep}
-use Rattle.lists.specs.declared.both.BothStep.TheVariants.{Reached as Ended, Fault as Faulted}
 use Rattle.lists.specs.Private.Merge.{merge, Cut}
 use Rattle.lists.specs.Private.Open.{Laid, Holds}
 use Rattle.lists.specs.Private.Walk.{node_from, nextb, node_fault, unended, Kept}
@@ -34,19 +30,19 @@ Disordered words at d from = (at < length words) × (nextb d from (node_from wor
 
 -- What `reach` answers at word `at`. A place reached has the start of the list's next node in d, at
 -- `from` or later, or PAST. Otherwise the node there isn't in order.
-abbrev pub ReachedAt : List ℕ → ℕ → ℕ → ℕ → ℕ → RunStep → Type 0
-ReachedAt words at d from top (Reached p) = (p.at ≡ at) × (p.top ≡ top) × (from ≤ p.start) × Ahead words at d p.start
-ReachedAt words at d from top Fault = Disordered words at d from
+abbrev pub ReachedAt : List ℕ → ℕ → ℕ → ℕ → ℕ → Option RunPlace → Type 0
+ReachedAt words at d from top (Some p) = (p.at ≡ at) × (p.top ≡ top) × (from ≤ p.start) × Ahead words at d p.start
+ReachedAt words at d from top None = Disordered words at d from
 
 -- A step past the node n at a place of a run. Where it reaches the next place, nothing is wrong at
 -- n, which lies on top of the nodes left. Otherwise n has a fault, or the node after it isn't in
 -- order.
-abbrev pub PassedNext : List ℕ → ℕ → RunPlace → List Node → RunStep → List ℕ → Type 0
-PassedNext words d place s (Reached p) stack =
+abbrev pub PassedNext : List ℕ → ℕ → RunPlace → List Node → Option RunPlace → List ℕ → Type 0
+PassedNext words d place s (Some p) stack =
     (node_fault s (node_from words place.at) ≡ TAKEN)
     × Holds d (place.start + 1) p.top stack (node_from words place.at ∷ unended (node_from words place.at) s)
-    × ReachedAt words (place.at + NODE_WORDS) d (place.start + 1) p.top (Reached p)
-PassedNext words d place s Fault stack =
+    × ReachedAt words (place.at + NODE_WORDS) d (place.start + 1) p.top (Some p)
+PassedNext words d place s None stack =
     (node_fault s (node_from words place.at) ≡ TAKEN → ⊥) ⊎ Disordered words (place.at + NODE_WORDS) d (place.start + 1)
 
 -- A walk in document d, whose next nodes start at x and at y in the two lists. Its open nodes lie
@@ -74,10 +70,10 @@ abbrev pub RunPast : RunPlace → ℕ → RunPlace → Type 0
 RunPast begun limit p = (limit ≤ p.start) × (begun.at ≤ p.at) × (begun.start < limit → begun.at < p.at)
 
 -- Where a run has come to in its list.
-abbrev pub RunTo : List ℕ → ℕ → RunPlace → ℕ → RunStep → Type 0
-RunTo words d begun limit (Reached p) =
+abbrev pub RunTo : List ℕ → ℕ → RunPlace → ℕ → Option RunPlace → Type 0
+RunTo words d begun limit (Some p) =
     Cut p.at words × Ahead words p.at d p.start × RunPast begun limit p
-RunTo words d begun limit Fault = Unit {0}
+RunTo words d begun limit None = Unit {0}
 
 -- A run of one list takes each walk along both lists with it, whatever the other list is. For a
 -- walk at the run's beginning, `gives` says what comes of it. It is known that the list is accepted
@@ -89,19 +85,19 @@ TakesAlong words d limit begun stack gives =
     → Amid d begun.start limit begun.top stack (rest begun.at) whole → gives rest whole
 
 -- What a run gives: the walk at the place reached, or that the whole check has a fault.
-abbrev pub Ran : ℕ → ℕ → (ℕ → List Node) → Verdict → RunStep → List ℕ → Type 0
-Ran d limit rest whole (Reached p) stack = Amid d p.start limit p.top stack (rest p.at) whole
-Ran d limit rest whole Fault stack = whole.answer ≡ TAKEN → ⊥
+abbrev pub Ran : ℕ → ℕ → (ℕ → List Node) → Verdict → Option RunPlace → List ℕ → Type 0
+Ran d limit rest whole (Some p) stack = Amid d p.start limit p.top stack (rest p.at) whole
+Ran d limit rest whole None stack = whole.answer ≡ TAKEN → ⊥
 
 -- What `pass_same` answers. Where the next nodes start apart, the second list stays. Where they are
 -- identical, it goes on after its own. At a fault they start together, and they differ or the
 -- second list goes on with a node that isn't in order.
-abbrev pub SameTo : List ℕ → RunPlace → List ℕ → RunPlace → ℕ → RunStep → Type 0
-SameTo first a second b d (Reached p) =
+abbrev pub SameTo : List ℕ → RunPlace → List ℕ → RunPlace → ℕ → Option RunPlace → Type 0
+SameTo first a second b d (Some p) =
     ((p ≡ b) × (a.start ≡ b.start → ⊥))
     ⊎ ((a.start ≡ b.start) × (node_from first a.at ≡ node_from second b.at)
-    × ReachedAt second (b.at + NODE_WORDS) d (b.start + 1) b.top (Reached p))
-SameTo first a second b d Fault =
+    × ReachedAt second (b.at + NODE_WORDS) d (b.start + 1) b.top (Some p))
+SameTo first a second b d None =
     (a.start ≡ b.start)
     × ((node_from first a.at ≡ node_from second b.at → ⊥) ⊎ Disordered second (b.at + NODE_WORDS) d (b.start + 1))
 
@@ -137,7 +133,7 @@ pub record BetweenDocuments (first : List ℕ) (i : ℕ) (second : List ℕ) (j 
 
 -- A document was passed, and the walk stands between two documents again. Otherwise the whole check
 -- has a fault.
-abbrev pub DocumentTo : List ℕ → List ℕ → BothPlace → BothStep → List ℕ → Type 0
-DocumentTo first second begun (Ended p) stack =
+abbrev pub DocumentTo : List ℕ → List ℕ → BothPlace → Option BothPlace → List ℕ → Type 0
+DocumentTo first second begun (Some p) stack =
     (begun.first + begun.second < p.first + p.second) × BetweenDocuments first p.first second p.second stack
-DocumentTo first second begun Faulted stack = (whole_of first second).answer ≡ TAKEN → ⊥
+DocumentTo first second begun None stack = (whole_of first second).answer ≡ TAKEN → ⊥

@@ -1,14 +1,14 @@
 -- Words of the contracts of private functions: how the marks are walked, forwards to check them,
 -- and backwards, where each close is met before its opening. No public contract cites this file.
-use Rattle.std.specs.Prelude.{ℕ, zero, suc, ◌+◌, ◌-◌, ◌*◌, ◌<◌, ◌≡◌, Bool, true, false, cond, not, ◌&&◌, ◌||◌, List, [], ◌∷◌, ltb, eqb, length, get_or, set, replicate}
+use Rattle.std.specs.Prelude.{ℕ, zero, suc, ◌+◌, ◌-◌, ◌*◌, ◌<◌, ◌≡◌, Bool, true, false, cond, not, ◌&&◌, ◌||◌, List, [], ◌∷◌, Option, Some, None, Result, Ok, Err, ltb, eqb, length, get_or, set, replicate}
 use Rattle.std.proofs.lemmas.List.Edits.{sets}
 use Rattle.answers.specs.Answer.{TAKEN, UNCLOSED}
+use Rattle.answers.specs.Refusal.{number_of}
+use Rattle.answers.specs.declared.refusal.Refusal.{Refusal}
 use Rattle.laws.specs.Choose.{keep}
 use Rattle.nodes.specs.Node.{MOST_LEVELS}
 use Rattle.nodes.specs.Words.{node}
 use Rattle.marks.specs.declared.mark.MarkPlace.{MarkPlace}
-use Rattle.marks.specs.declared.mark.Step.{Step}
-use Rattle.marks.specs.declared.mark.Step.TheVariants.{Reached, Refused}
 use Rattle.marks.specs.declared.row.Row.{Row}
 use Rattle.marks.specs.Back.{same_rowb}
 use Rattle.marks.specs.Mark.{CLOSE, closeb, textb, open_after, mark_fault, unclosedb}
@@ -26,23 +26,27 @@ row_count marks = length (keep (λ m. not (closeb m)) marks)
 unfoldable pub after_mark : MarkPlace → ℕ → MarkPlace
 after_mark p mark = mark_place (open_after p.depth mark) (cond (closeb mark) p.rows (p.rows + 1))
 
+-- What a step or a walk answers: the place that it reached, or the number of its refusal.
+abbrev pub Step : Type 0
+Step = Result MarkPlace ℕ
+
+-- The same, of the code's answer.
+abbrev pub numbered : Result MarkPlace Refusal → Step
+numbered (Ok place) = Ok place
+numbered (Err refusal) = Err (number_of refusal)
+
 -- A step past the mark at a position: the place after it, or what is wrong with it.
 unfoldable pub passed : ℕ → MarkPlace → ℕ → Step
 passed position p mark =
-    cond (eqb (mark_fault position p.depth mark) TAKEN) (Reached (after_mark p mark)) (Refused (mark_fault position p.depth mark))
+    cond (eqb (mark_fault position p.depth mark) TAKEN) (Ok (after_mark p mark)) (Err (mark_fault position p.depth mark))
 
 -- The answer of a walk along the marks from a position on: the place at their end, or the first
 -- refusal.
 unfoldable pub walked : ℕ → MarkPlace → List ℕ → Step
-walked position p [] = cond (unclosedb position p.depth) (Refused UNCLOSED) (Reached p)
+walked position p [] = cond (unclosedb position p.depth) (Err UNCLOSED) (Ok p)
 walked position p (mark ∷ marks) =
     cond (eqb (mark_fault position p.depth mark) TAKEN) (walked (position + 1) (after_mark p mark) marks)
-    (Refused (mark_fault position p.depth mark))
-
--- The answer number of each case of a step.
-abbrev pub answer_in : Step → ℕ
-answer_in (Reached p) = TAKEN
-answer_in (Refused answer) = answer
+    (Err (mark_fault position p.depth mark))
 
 -- How many elements are open before a mark, if `depth` are open after it.
 unfoldable pub open_before : ℕ → ℕ → ℕ
@@ -89,11 +93,11 @@ fitsb rs document position closes p mark =
 
 -- What a step back from a position says, with the closes kept on return: the mark there fits and
 -- the place before it is reached, or the mark doesn't fit.
-abbrev pub SteppedBack : List Row → ℕ → ℕ → List ℕ → MarkPlace → Step → List ℕ → Type 0
-SteppedBack rs document position closes p (Reached q) kept =
+abbrev pub SteppedBack : List Row → ℕ → ℕ → List ℕ → MarkPlace → Option MarkPlace → List ℕ → Type 0
+SteppedBack rs document position closes p (Some q) kept =
     let mark = mark_here rs p.rows position in
     (fitsb rs document position closes p mark ≡ true) × (q ≡ before_mark p mark) × (kept ≡ closes_before closes position p.depth mark)
-SteppedBack rs document position closes p (Refused answer) kept = fitsb rs document position closes p (mark_here rs p.rows position) ≡ false
+SteppedBack rs document position closes p None kept = fitsb rs document position closes p (mark_here rs p.rows position) ≡ false
 
 -- The rows left are those of marks from the first up to a position.
 unfoldable pub reads_back : List Row → ℕ → ℕ → List ℕ → MarkPlace → Bool

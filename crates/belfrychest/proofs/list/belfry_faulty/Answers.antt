@@ -35,8 +35,10 @@ module _ (ancestors descendants : List ℕ) (v : Verdict) (q : v ≡ check_two a
   empty : length words ≡ 0 → part v 0 (length words) ≡ shown_part ancestors descendants
   empty h = ap (λ b. part v (cond b 0 (NODE_WORDS * v.index)) (length words)) (sym (eq-eqb (length words) 0 h)) ∙ answered
 
-pub returns-then-words-ne0 : goal.returns-then-words-ne0
-returns-then-words-ne0 c = begun _ _ _ c.check_two-verdict.ensures _ c.faulty_part-words.ensures.contents c.if-words-ne0.true
+pub returns-then-words-eq0 : goal.returns-then-words-eq0
+returns-then-words-eq0 c =
+    empty _ _ _ (c.from-verdict.ensures ∙ c.check_two.ensures) _ c.faulty_part-words.ensures.contents c.if-words-eq0.true
 
-pub returns-else-words-ne0 : goal.returns-else-words-ne0
-returns-else-words-ne0 c = empty _ _ _ c.check_two-verdict.ensures _ c.faulty_part-words.ensures.contents c.if-words-ne0.false
+pub returns-else-words-eq0 : goal.returns-else-words-eq0
+returns-else-words-eq0 c =
+    begun _ _ _ (c.from-verdict.ensures ∙ c.check_two.ensures) _ c.faulty_part-words.ensures.contents c.if-words-eq0.false

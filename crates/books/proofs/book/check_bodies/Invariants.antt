@@ -1,7 +1,7 @@
--- The invariant and the measure of `check_bodies`; Answers.antt says why they hold.
+-- The invariant of `check_bodies`; Answers.antt says why it holds.
 use mathlib.Core.Path.{◌≡◌}
 use mathlib.Core.List.{List, map}
-use Prim.Native.Nat.{ℕ, ◌-◌, ◌≤◌}
+use Prim.Native.Nat.{ℕ}
 use lib.ListN.{drop}
 use Rattle.contents.specs.Contents.{contents_of}
 use Rattle.answers.specs.declared.verdict.Verdict.{Verdict}
@@ -15,7 +15,4 @@ abbrev pub Checked : List ℕ → ℕ → Type 0
 Checked book list = check_bodies list (map (nodes_of book) (drop list (contents_of book))) ≡ whole book
 
 abbrev pub invariant-loop-list : goal.invariant-loop-list
-invariant-loop-list l = (l.list ≤ l.lists) × Checked l.book l.list
-
-abbrev pub decreases-loop-list : goal.decreases-loop-list
-decreases-loop-list l = l.lists - l.list
+invariant-loop-list l = Checked l.book l.list-counter

@@ -1,38 +1,36 @@
 -- Function: `find_tag` (src/find.rt).
--- Why it holds: In a book that is taken, the tag is sought among all its entries. A refused book
--- has no list at any position, so where the tag is sought doesn't matter.
+-- Why it holds: In a book that is taken, the tag is sought among all its entries, and its list lies
+-- at the index found. A refused book has no list at any position.
 -- What would break it: A tag sought among too few entries, or beyond the contents, would be caught
--- at the return.
-use mathlib.Core.Path.{◌≡◌, sym, ap, ◌∙◌}
-use mathlib.Core.Logic.{inl, inr}
-use mathlib.Core.List.{List}
+-- at its return.
+use mathlib.Core.Path.{◌≡◌, sym, ◌∙◌}
+use native.Mathlib.Omega.{arith}
 use Prim.Native.Nat.{ℕ}
-use lib.Dec.{eqb}
-use lib.ListN.{take}
-use borrow.Author.Tests.{eqb-true, eqb-false}
-use Rattle.answers.specs.Answer.{TAKEN}
-use Rattle.laws.proofs.Tests.{either}
-use Rattle.contents.specs.Contents.{entries_in, contents_of}
-use Rattle.books.specs.declared.book.Opened.{Opened}
-use Rattle.books.specs.declared.find.Found.{Found}
-use Rattle.books.specs.Book.{book_verdict, check_book}
-use Rattle.books.specs.Find.{tag_at, found_at, found_tag_up_to, found_tag}
-use Rattle.books.proofs.BookLaws.{opened_lists}
-use Rattle.books.proofs.FindLaws.{book_refused}
+use Rattle.std.specs.Prelude.{Option, None, Some, Result, Ok, Err}
+use Rattle.std.specs.Option.{ok_or}
+use Rattle.std.proofs.lemmas.Result.{err_from_is_err_and}
+use Rattle.answers.specs.declared.refusal.Refusal.{Refusal}
+use Rattle.answers.specs.declared.refusal.Refusal.TheVariants.{Absent}
+use Rattle.books.proofs.FindLaws.{no_tag_found, tag_absent, tag_present}
 use Rattle.books.proofs.find.find_tag.Goals as goal
 
-sought : (book : List ℕ) (tag : ℕ) → found_at book (tag_at tag (take (check_book book).lists (entries_in book))) ≡ found_tag book tag
-unfolding found_tag_up_to contents_of
-sought book tag =
-    elim (either (eqb (book_verdict book).answer TAKEN)) [
-      | inl h ↦ rw (opened_lists book (eqb-true (book_verdict book).answer TAKEN h))
-      | inr h ↦ let r = eqb-false (book_verdict book).answer TAKEN h in book_refused book _ r ∙ sym (book_refused book _ r)
-    ]
+pub returns-in_err-lists : goal.returns-in_err-lists
+returns-in_err-lists c =
+    let p = err_from_is_err_and c.from_residual.result c.from_residual.ensures.1 in
+    rw (p.1, p.2) (no_tag_found _ _ c.in_err-lists.ensures _)
 
-by_tag : (book : List ℕ) (tag : ℕ) (o : Opened) → o ≡ check_book book → (position : ℕ) → position ≡ tag_at tag (take o.lists (entries_in book))
-    → (r : Found) → r ≡ found_at book position → r ≡ found_tag book tag
-by_tag book tag o q position p r s =
-    s ∙ ap (found_at book) (p ∙ ap (λ (x : Opened). tag_at tag (take x.lists (entries_in book))) q) ∙ sought book tag
+was_none : (o : Option ℕ) (r : Refusal) → Err r ≡ ok_or o Absent → (o ≡ None) × (r ≡ Absent)
+was_none o r q = grind arith
+
+was_some : (o : Option ℕ) (i : ℕ) → ◌≡◌ {A = Result ℕ Refusal} (Ok i) (ok_or o Absent) → o ≡ Some i
+was_some o i q = grind arith
+
+pub returns-in_err-position : goal.returns-in_err-position
+returns-in_err-position c =
+    let p = err_from_is_err_and c.from_residual-in_err-position.result c.from_residual-in_err-position.ensures.1 in
+    let n = was_none _ _ c.in_err-position.ensures.value in
+    rw (p.1, p.2, n.1) (tag_absent _ _ c.in_ok-lists.ensures _ (sym n.0 ∙ c.tag_at.ensures))
 
 pub returns : goal.returns
-returns c = by_tag _ _ _ c.check_book-opened.ensures _ c.tag_at.ensures _ c.found_at.ensures
+returns c =
+    rw c.body_at.ensures (tag_present _ _ c.in_ok-lists.ensures _ _ (sym (was_some _ _ c.in_ok-position.ensures.value) ∙ c.tag_at.ensures))

@@ -1,7 +1,7 @@
--- The invariant and the measure of `tag_at`; Answers.antt says why they hold.
+-- The invariant of `tag_at`; Answers.antt says why it holds.
 use mathlib.Core.Path.{◌≡◌}
 use mathlib.Core.List.{List}
-use Prim.Native.Nat.{ℕ, ◌+◌, ◌-◌, ◌≤◌}
+use Prim.Native.Nat.{ℕ, ◌+◌}
 use lib.ListN.{take, drop}
 use Rattle.contents.specs.Contents.{entries_in}
 use Rattle.books.specs.Find.{tag_at}
@@ -13,7 +13,4 @@ Sought book lists tag i =
     i + tag_at tag (drop i (take lists (entries_in book))) ≡ tag_at tag (take lists (entries_in book))
 
 abbrev pub invariant-loop-index : goal.invariant-loop-index
-invariant-loop-index l = (l.index ≤ l.lists) × Sought l.book l.lists l.tag l.index
-
-abbrev pub decreases-loop-index : goal.decreases-loop-index
-decreases-loop-index l = l.lists - l.index
+invariant-loop-index l = Sought l.book l.lists l.tag l.index

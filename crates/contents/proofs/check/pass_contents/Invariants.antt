@@ -1,6 +1,6 @@
--- The invariant and the measure of `pass_contents`; Answers.antt says why they hold.
+-- The invariant of `pass_contents`; Answers.antt says why it holds.
 use mathlib.Core.List.{List}
-use Prim.Native.Nat.{ℕ, ◌-◌, ◌≤◌}
+use Prim.Native.Nat.{ℕ}
 use lib.ListN.{take, drop}
 use Rattle.contents.specs.declared.step.ContentsPlace.{ContentsPlace}
 use Rattle.contents.specs.Contents.{entries_in}
@@ -12,7 +12,4 @@ abbrev Passed : List ℕ → ℕ → ℕ → ContentsPlace → Type 0
 Passed book lists i p = Left p (drop i (take lists (entries_in book))) (start_of lists) (take lists (entries_in book))
 
 abbrev pub invariant-loop-index : goal.invariant-loop-index
-invariant-loop-index l = (l.index ≤ l.lists) × Passed l.book l.lists l.index l.place
-
-abbrev pub decreases-loop-index : goal.decreases-loop-index
-decreases-loop-index l = l.lists - l.index
+invariant-loop-index l = Passed l.book l.lists l.index l.place

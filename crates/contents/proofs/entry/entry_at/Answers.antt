@@ -7,6 +7,7 @@ use mathlib.Core.List.{List}
 use Prim.Native.Nat.{ℕ, ◌+◌, ◌*◌, ◌<◌}
 use native.Mathlib.Omega.{arith}
 use Rattle.numbers.specs.Little.{number_at}
+use Rattle.contents.specs.declared.entry.Entry.{Entry}
 use Rattle.contents.specs.Contents.{entry, entry_count, entry_at}
 use Rattle.contents.proofs.ContentLaws.{entry_there, entry_beyond}
 use Rattle.contents.proofs.entry.entry_at.Goals as goal
@@ -15,8 +16,11 @@ three : (book : List ℕ) (i t o c : ℕ) → i < entry_count book
     → t ≡ number_at book (1 + 3 * i) → o ≡ number_at book (1 + 3 * i + 1) → c ≡ number_at book (1 + 3 * i + 2) → entry t o c ≡ entry_at book i
 three book i t o c h p q r = (λ k. entry (p k) (q k) (r k)) ∙ sym (entry_there book i h)
 
+zeros : (e : Entry) → (e.tag ≡ 0) × ((e.offset ≡ 0) × (e.count ≡ 0)) → e ≡ entry 0 0 0
+zeros e h = λ k. entry (h.0 k) (h.1.0 k) (h.1.1 k)
+
 pub returns-then-entry_count-index : goal.returns-then-entry_count-index
-returns-then-entry_count-index c = sym (entry_beyond _ _ (omega arith))
+returns-then-entry_count-index c = zeros c.default.result c.default.ensures ∙ sym (entry_beyond _ _ (omega arith))
 
 pub returns : goal.returns
 returns c =

@@ -1,23 +1,24 @@
 -- Function: `elder_of` (src/climb.rt).
--- Why it holds: At each turn `elder` was passed on the way up, and `parent` is its parent.
+-- Why it holds: At each turn `elder` was passed on the way up.
 -- Measure: `elder`, which is less at each turn because a parent comes before its child.
 -- What would break it: A way that starts too high or skips a parent would be caught at the loop.
 -- One that stops at a node that ended before this one would be caught at a return.
-use Prim.Native.Nat.{ℕ, ◌-◌, ◌≤◌, ◌<◌}
+use Prim.Native.Nat.{ℕ, ◌*◌, ◌-◌, ◌≤◌, ◌<◌}
 use mathlib.Core.Path.{◌≡◌, refl, sym, ap, subst, ◌∙◌}
 use mathlib.Core.List.{List}
 use native.Mathlib.Omega.{arith}
-use lib.ListN.{length}
+use lib.ListN.{length, get_or}
+use Rattle.std.specs.Prelude.{Some, None}
 use Rattle.nodes.specs.declared.node.Node.{Node}
 use Rattle.answers.specs.Answer.{TAKEN}
 use Rattle.nodes.specs.Words.{nodes, count, node_at}
 use Rattle.nodes.proofs.WordLaws.{length_nodes}
 use Rattle.lists.specs.Check.{check_words}
-use Rattle.forest.specs.Private.Climb.{Ended, Elder}
+use Rattle.forest.specs.Private.Climb.{index_in, Linking, Ended, Elder}
 use Rattle.forest.specs.Links.{NONE, node_in, parent_of}
 use Rattle.forest.proofs.Climbing.{Passed, pass_before, pass_parent, elder_passed}
 use Rattle.forest.proofs.Containing.{AcceptedList, accepted_list, node_in_lem}
-use Rattle.forest.proofs.LinkLaws.{parent_word}
+use Rattle.forest.proofs.LinkLaws.{index_read, index_none, parent_word}
 use Rattle.forest.proofs.Parents.{parent_before}
 use Rattle.forest.proofs.climb.elder_of.Goals as goal
 
@@ -53,79 +54,82 @@ module _ (ws : List ℕ) (i : ℕ) (h : (check_words ws).answer ≡ TAKEN) (l : 
     ends : p ≡ NONE → Elder (nodes ws) i e
     ends n = elder_passed (nodes ws) ok i here e c (λ z. absurd (z (sym q ∙ n)))
 
+  -- The link read names the parent, if there is one.
+  module _ (links : List ℕ) (k : Linking (nodes ws) i links) (e : ℕ) (v : Passed (nodes ws) i e) where
+    read : get_or links (3 * e) 0 ≡ parent_of (nodes ws) e
+    read = parent_word (nodes ws) i e links v.before k
+
+    upwards : (p : ℕ) → Some p ≡ index_in (get_or links (3 * e) 0) → (p ≡ parent_of (nodes ws) e) × (p ≡ NONE → ⊥)
+    upwards p s = let w = index_read _ p s in (w.0 ∙ read, w.1)
+
+    outermost : None ≡ index_in (get_or links (3 * e) 0) → NONE ≡ parent_of (nodes ws) e
+    outermost s = sym (index_none _ s) ∙ read
+
 pub overflow_sub-elder : goal.overflow_sub-elder
 overflow_sub-elder c =
     let e = c.requires.4 in
     omega (arith, e.later)
 
-pub parent_at-parent-requires : goal.parent_at-parent-requires
-parent_at-parent-requires c =
-    let p = c.requires in
-    omega (arith, p.2, p.4.later)
+pub parent_at-requires : goal.parent_at-requires
+parent_at-requires c = let p = c.requires in omega (arith, p.2, c.loop-parent.invariant.before)
 
 pub loop-parent-init : goal.loop-parent-init
 loop-parent-init c =
     let a = c.args in
     let p = c.requires in
-    let s = starts a.list.now a.index p.0 p.1 p.4 in
-    (s, c.parent_at-parent.ensures ∙ parent_word (nodes a.list.now) a.index _ a.links.now s.before p.3)
+    starts a.list.now a.index p.0 p.1 p.4
 
 pub overflow_cast-parent : goal.overflow_cast-parent
 overflow_cast-parent c =
     let v = c.loop-parent.invariant in
     let a = c.args in
     let p = c.requires in
-    omega (arith, v.0.before, rises a.list.now a.index p.0 p.1 _ _ v.0 v.1 c.loop-parent-test.true)
+    let u = upwards a.list.now a.index p.0 p.1 a.links.now p.3 _ v _ c.in-Some.ensures in
+    omega (arith, v.before, rises a.list.now a.index p.0 p.1 _ _ v u.0 u.1)
 
 pub end_at-requires : goal.end_at-requires
 end_at-requires c =
     let v = c.loop-parent.invariant in
     let a = c.args in
     let p = c.requires in
-    omega (arith, p.1, v.0.before, rises a.list.now a.index p.0 p.1 _ _ v.0 v.1 c.loop-parent-test.true)
+    let u = upwards a.list.now a.index p.0 p.1 a.links.now p.3 _ v _ c.in-Some.ensures in
+    omega (arith, p.1, v.before, rises a.list.now a.index p.0 p.1 _ _ v u.0 u.1)
 
 pub returns-then-start-end_at : goal.returns-then-start-end_at
 returns-then-start-end_at c =
     let v = c.loop-parent.invariant in
     let a = c.args in
     let p = c.requires in
-    found a.list.now a.index p.0 p.1 _ _ v.0 v.1
-    _ c.node_at-start.ensures _ c.end_at.ensures c.if-start-end_at.true
+    let u = upwards a.list.now a.index p.0 p.1 a.links.now p.3 _ v _ c.in-Some.ensures in
+    found a.list.now a.index p.0 p.1 _ _ v u.0 _ c.node_at-start.ensures _ c.end_at.ensures c.if-start-end_at.true
 
 pub overflow_cast-elder : goal.overflow_cast-elder
 overflow_cast-elder c =
     let v = c.loop-parent.invariant in
     let a = c.args in
     let p = c.requires in
-    omega (arith, v.0.before, rises a.list.now a.index p.0 p.1 _ _ v.0 v.1 c.loop-parent-test.true)
-
-pub parent_at-parent-requires-in-loop-parent : goal.parent_at-parent-requires-in-loop-parent
-parent_at-parent-requires-in-loop-parent c =
-    let v = c.loop-parent.invariant in
-    let a = c.args in
-    let p = c.requires in
-    omega (arith, p.2, v.0.before, rises a.list.now a.index p.0 p.1 _ _ v.0 v.1 c.loop-parent-test.true)
+    let u = upwards a.list.now a.index p.0 p.1 a.links.now p.3 _ v _ c.in-Some.ensures in
+    omega (arith, v.before, rises a.list.now a.index p.0 p.1 _ _ v u.0 u.1)
 
 pub loop-parent-smaller : goal.loop-parent-smaller
 loop-parent-smaller c =
     let v = c.loop-parent.invariant in
     let a = c.args in
     let p = c.requires in
-    rises a.list.now a.index p.0 p.1 _ _ v.0 v.1 c.loop-parent-test.true
+    let u = upwards a.list.now a.index p.0 p.1 a.links.now p.3 _ v _ c.in-Some.ensures in
+    rises a.list.now a.index p.0 p.1 _ _ v u.0 u.1
 
 pub loop-parent-preserved : goal.loop-parent-preserved
 loop-parent-preserved c =
     let v = c.loop-parent.invariant in
     let a = c.args in
     let p = c.requires in
-    let up = passes a.list.now a.index p.0 p.1 _ _ v.0 v.1
-    _ c.node_at-start.ensures _ c.end_at.ensures
-    c.loop-parent-test.true c.if-start-end_at.false in
-    (up, c.parent_at-parent-in-loop-parent.ensures ∙ parent_word (nodes a.list.now) a.index _ a.links.now up.before p.3)
+    let u = upwards a.list.now a.index p.0 p.1 a.links.now p.3 _ v _ c.in-Some.ensures in
+    passes a.list.now a.index p.0 p.1 _ _ v u.0 _ c.node_at-start.ensures _ c.end_at.ensures u.1 c.if-start-end_at.false
 
 pub returns : goal.returns
 returns c =
     let v = c.loop-parent.invariant in
     let a = c.args in
     let p = c.requires in
-    ends a.list.now a.index p.0 p.1 _ _ v.0 v.1 c.loop-parent-test.false
+    ends a.list.now a.index p.0 p.1 _ _ v (outermost a.list.now a.index p.0 p.1 a.links.now p.3 _ v c.in_default.ensures) refl

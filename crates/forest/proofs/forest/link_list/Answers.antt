@@ -3,30 +3,31 @@
 -- Otherwise all links are written and the nodes counted.
 -- What would break it: A count on refusal, or room counted in nodes and not in links, would be
 -- caught at its return.
-use mathlib.Core.Path.{sym, ap, ◌∙◌}
+use mathlib.Core.Path.{refl, sym, ap}
 use native.Mathlib.Omega.{arith}
+use Rattle.std.specs.Prelude.{Err}
+use Rattle.std.proofs.lemmas.Result.{err_from_is_err_and}
+use Rattle.answers.specs.Refusal.{counted_in}
+use Rattle.answers.specs.declared.refusal.Fault.{Fault}
+use Rattle.answers.proofs.RefusalLaws.{never_taken}
 use Rattle.forest.proofs.Answering.{refused, no_room, all_linked}
 use Rattle.forest.proofs.forest.link_list.Goals as goal
 
-pub returns-then-verdict-ne-TAKEN : goal.returns-then-verdict-ne-TAKEN
-returns-then-verdict-ne-TAKEN c =
+pub returns-in_err-check_list : goal.returns-in_err-check_list
+returns-in_err-check_list c =
     let a = c.args in
-    refused a.list.now a.out.now _ c.check_list-verdict.ensures c.if-verdict-ne-TAKEN.true
+    let p = err_from_is_err_and c.from_residual.result c.from_residual.ensures.1 in
+    rw (p.1, p.2) (refused a.list.now a.out.now _ c.in_err-check_list.ensures (never_taken _))
 
-pub returns-then-out-node_count : goal.returns-then-out-node_count
-returns-then-out-node_count c =
+pub returns-then-out-linked : goal.returns-then-out-linked
+returns-then-out-linked c =
     let a = c.args in
-    no_room a.list.now a.out.now _ c.check_list-verdict.ensures c.if-verdict-ne-TAKEN.false _ (omega arith)
-    c.wrote_nothing.ensures
+    no_room a.list.now a.out.now _ c.in_ok-check_list.ensures refl _ (omega arith) (ap (λ (f : Fault). counted_in (Err f)) c.into.ensures)
 
 pub link_all-requires : goal.link_all-requires
-link_all-requires c =
-    let v = c.check_list-verdict.ensures in
-    (sym (ap (λ w. w.answer) v) ∙ c.if-verdict-ne-TAKEN.false, omega arith)
+link_all-requires c = (sym (ap (λ w. w.answer) c.in_ok-check_list.ensures), omega arith)
 
 pub returns : goal.returns
 returns c =
     let a = c.args in
-    let v = c.check_list-verdict.ensures in
-    let h = c.if-verdict-ne-TAKEN.false in
-    all_linked a.list.now a.out.now _ v h (omega arith) _ c.node_count-2.ensures _ c.wrote.ensures _ c.link_all.ensures
+    all_linked a.list.now a.out.now _ c.in_ok-check_list.ensures refl (omega arith) _ c.node_count-linked.ensures _ refl _ c.link_all.ensures

@@ -16,11 +16,11 @@ use Rattle.nodes.specs.Words.{nodes, count, node_at}
 use Rattle.answers.specs.Output.{written}
 use Rattle.nodes.proofs.WordLaws.{length_nodes}
 use Rattle.lists.specs.Check.{check_words}
-use Rattle.forest.specs.Private.Climb.{Linking, Ended, Elder, firstb, link, links_to}
+use Rattle.forest.specs.Private.Climb.{Linking, Ended, Elder, firstb, link, links_to, word_of}
 use Rattle.forest.specs.Links.{NONE, node_in, parent_of, link_words}
 use Rattle.forest.proofs.Climbing.{not_first, first_parentless, first_alone, before_parent, before_childless}
 use Rattle.forest.proofs.Containing.{AcceptedList, accepted_list, node_in_lem}
-use Rattle.forest.proofs.LinkLaws.{parent_word, joined_alone, joined_child, joined_next}
+use Rattle.forest.proofs.LinkLaws.{word_back, parent_word, joined_alone, joined_child, joined_next}
 use Rattle.forest.proofs.Parents.{sibling_read}
 use Rattle.forest.proofs.forest.link_node.Goals as goal
 
@@ -36,9 +36,6 @@ module _ (ws : List ℕ) (h : (check_words ws).answer ≡ TAKEN) (i : ℕ) (l : 
 
   -- The node before is of the same document unless this one is the first.
   module _ (b : Bool) (q : b ≡ firstb (nodes ws) i) (t : b ≡ false) where
-    later : 0 < i
-    later = (not_first (nodes ws) i (sym q ∙ t)).0
-
     ended : (n x : Node) → n ≡ node_at ws i → x ≡ node_at ws (i - 1) → x.end < n.start → Ended (nodes ws) i
     ended n x r s e =
         let f = not_first (nodes ws) i (sym q ∙ t) in
@@ -81,12 +78,6 @@ returns-then-is_first c =
     c.put_leaf.ensures
     ∙ first_joins a.list.now p.0 a.index p.1 a.out.now p.2 p.3 _ c.is_first.ensures c.if-is_first.true
 
-pub overflow_sub-before : goal.overflow_sub-before
-overflow_sub-before c =
-    let a = c.args in
-    let p = c.requires in
-    omega (arith, later a.list.now p.0 a.index p.1 _ c.is_first.ensures c.if-is_first.false)
-
 pub overflow_cast-before : goal.overflow_cast-before
 overflow_cast-before c =
     let a = c.args in
@@ -103,7 +94,7 @@ pub returns-then-node_at : goal.returns-then-node_at
 returns-then-node_at c =
     let a = c.args in
     let p = c.requires in
-    c.put_child.ensures ∙ ap (λ ws. set ws (3 * (a.index - 1) + 1) a.index) c.put_leaf-then-node_at.ensures
+    c.put_kin.ensures ∙ ap (λ ws. set ws (3 * (a.index - 1) + 1) a.index) c.put_leaf-then-node_at.ensures
     ∙ child_joins a.list.now p.0 a.index p.1 a.out.now p.2 p.3 _ c.is_first.ensures
     c.if-is_first.false _ _ c.node_at.ensures c.node_at-2.ensures c.if-node_at.true
 
@@ -126,5 +117,5 @@ returns c =
     let a = c.args in
     let p = c.requires in
     let e = c.elder_of-elder in
-    c.put_next.ensures ∙ ap (λ ws. set ws (3 * e.result + 2) a.index) c.put_leaf-2.ensures
-    ∙ next_joins a.list.now p.0 a.index p.1 a.out.now p.2 p.3 _ _ e.ensures c.parent_at-parent.ensures
+    c.put_kin-2.ensures ∙ ap (λ ws. set ws (3 * e.result + 2) a.index) c.put_leaf-2.ensures
+    ∙ next_joins a.list.now p.0 a.index p.1 a.out.now p.2 p.3 _ _ e.ensures (ap word_of c.parent_at-parent.ensures ∙ word_back _)

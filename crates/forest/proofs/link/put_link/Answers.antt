@@ -6,8 +6,7 @@ use Prim.Native.Nat.{ℕ, ◌+◌, ◌*◌}
 use mathlib.Core.Path.{◌≡◌}
 use mathlib.Core.List.{List}
 use native.Mathlib.Numerals.{towards_suc}
-use native.Mathlib.Omega.{arith}
-use lib.ListN.{set, length-set}
+use lib.ListN.{set}
 use lib.Seq.{sets}
 use Rattle.forest.specs.declared.link.Link.{Link}
 use Rattle.forest.specs.Links.{link_words}
@@ -17,12 +16,6 @@ three_stores : (ws : List ℕ) (i : ℕ) (l : Link)
     → set (set (set ws (3 * i) l.parent) (3 * i + 1) l.child) (3 * i + 2) l.next ≡ sets ws (3 * i) (link_words l)
 unfolding link_words
 three_stores ws i l = simp towards_suc
-
-pub bounds-links-at-2 : goal.bounds-links-at-2
-bounds-links-at-2 c = simp length-set (omega arith)
-
-pub bounds-links-at-3 : goal.bounds-links-at-3
-bounds-links-at-3 c = simp length-set (omega arith)
 
 pub returns : goal.returns
 returns c = three_stores _ _ _

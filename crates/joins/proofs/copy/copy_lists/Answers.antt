@@ -12,29 +12,29 @@ pub returns-then-not-has_tag : goal.returns-then-not-has_tag
 returns-then-not-has_tag c =
     let a = c.args in
     absent_first a.book.now a.lists a.ancestors a.descendants a.first.now a.second.now
-    (sym c.has_tag.ensures ∙ c.if-not-has_tag.true) _ c.refused_by.ensures
+    (sym c.has_tag.ensures ∙ c.if-not-has_tag.true)
 
 pub returns-then-not-has_tag-2 : goal.returns-then-not-has_tag-2
 returns-then-not-has_tag-2 c =
     let a = c.args in
     absent_second a.book.now a.lists a.ancestors a.descendants a.first.now a.second.now
-    (sym c.has_tag.ensures ∙ c.if-not-has_tag.false) (sym c.has_tag-2.ensures ∙ c.if-not-has_tag-2.true) _ c.refused_by-then-not-has_tag-2.ensures
+    (sym c.has_tag.ensures ∙ c.if-not-has_tag.false) (sym c.has_tag-2.ensures ∙ c.if-not-has_tag-2.true)
 
-pub returns-then-first-one : goal.returns-then-first-one
-returns-then-first-one c =
+pub returns-then-first-lengths : goal.returns-then-first-lengths
+returns-then-first-lengths c =
     let a = c.args in
     full_first a.book.now a.lists a.ancestors a.descendants a.first.now a.second.now
     (sym c.has_tag.ensures ∙ c.if-not-has_tag.false) (sym c.has_tag-2.ensures ∙ c.if-not-has_tag-2.false)
     _ _ c.tag_body-one.ensures.contents c.tag_body-two.ensures.contents
-    (omega arith) _ c.refused_by-then-first-one.ensures
+    (omega arith)
 
-pub returns-then-second-two : goal.returns-then-second-two
-returns-then-second-two c =
+pub returns-then-second-lengths : goal.returns-then-second-lengths
+returns-then-second-lengths c =
     let a = c.args in
     full_second a.book.now a.lists a.ancestors a.descendants a.first.now a.second.now
     (sym c.has_tag.ensures ∙ c.if-not-has_tag.false) (sym c.has_tag-2.ensures ∙ c.if-not-has_tag-2.false)
     _ _ c.tag_body-one.ensures.contents c.tag_body-two.ensures.contents
-    (omega arith) (omega arith) _ c.refused_by-then-second-two.ensures
+    (omega arith) (omega arith)
 
 pub returns : goal.returns
 returns c =
@@ -42,7 +42,7 @@ returns c =
     let m = copies a.book.now a.lists a.ancestors a.descendants a.first.now a.second.now
     (sym c.has_tag.ensures ∙ c.if-not-has_tag.false) (sym c.has_tag-2.ensures ∙ c.if-not-has_tag-2.false)
     _ _ c.tag_body-one.ensures.contents c.tag_body-two.ensures.contents
-    (omega arith) (omega arith) _ c.without_node.ensures in
+    (omega arith) (omega arith) in
     record {
       answer = m.answer;
       first_output = c.copy_numbers.ensures ∙ m.first_output;

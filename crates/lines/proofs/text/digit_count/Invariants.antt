@@ -1,4 +1,9 @@
--- The invariant and the measure of `digit_count`; Answers.antt says why they hold.
+-- Function: `digit_count` (src/text.rt).
+-- Why it holds: The digits counted and those of `rest` are together as many as the number's. A
+-- hundredth has two digits fewer.
+-- Measure: `rest`, the number whose digits are still to count.
+-- What would break it: A digit counted twice would be caught at the next turn. One not counted
+-- would be caught at the return.
 use mathlib.Core.Path.{◌≡◌}
 use Prim.Native.Nat.{◌+◌, ◌≤◌}
 use lib.ListN.{length}

@@ -21,4 +21,4 @@ both_put text at n table h t = rw (add-one at, (t n h).0, (t n h).1) refl
 pub returns : goal.returns
 returns c =
     let a = c.args in
-    both_put a.text.now a.at a.number a.table.now (omega arith) c.requires.2
+    both_put a.text.now a.at a.number c.table-table.result.now (omega arith) c.table-table.ensures

@@ -4,43 +4,33 @@
 -- What would break it: A refused list answered with LINKS, or wrong links taken, would be caught at
 -- its return.
 use Prim.Native.Nat.{ℕ}
-use mathlib.Core.Path.{◌≡◌, sym, ap, ◌∙◌}
-use mathlib.Core.Bool.{Bool, true, false}
-use mathlib.Core.List.{List}
-use Rattle.answers.specs.Answer.{TAKEN}
+use mathlib.Core.Path.{sym, ap, ◌∙◌}
+use Rattle.std.proofs.lemmas.Result.{err_from_is_err_and}
 use Rattle.answers.specs.declared.verdict.Verdict.{Verdict}
-use Rattle.lists.specs.Check.{check_words}
-use Rattle.linked.specs.Check.{linkedb, unlinked, check_links}
+use Rattle.answers.specs.Refusal.{verdict_of, verdict_in}
+use Rattle.answers.proofs.RefusalLaws.{never_taken}
 use Rattle.linked.proofs.Answered.{links_own, links_right, links_wrong}
 use Rattle.linked.proofs.check.check_links.Goals as goal
 
-module _ (list links : List ℕ) (v : Verdict) (q : v ≡ check_words list) where
-  own : (v.answer ≡ TAKEN → ⊥) → v ≡ check_links list links
-  own n = q ∙ sym (links_own list links (λ z. n (ap (λ w. w.answer) q ∙ z)))
+abbrev number : Verdict → ℕ
+number v = v.answer
 
-  module _ (h : v.answer ≡ TAKEN) (r : Bool) (f : (check_words list).answer ≡ TAKEN → r ≡ linkedb list links) where
-    accepted : (check_words list).answer ≡ TAKEN
-    accepted = sym (ap (λ w. w.answer) q) ∙ h
-
-    right : r ≡ true → v ≡ check_links list links
-    right t = q ∙ sym (links_right list links accepted (sym (f accepted) ∙ t))
-
-    wrong : r ≡ false → (w : Verdict) → w ≡ unlinked → w ≡ check_links list links
-    wrong t w e = e ∙ sym (links_wrong list links accepted (sym (f accepted) ∙ t))
-
-pub returns-then-verdict-ne-TAKEN : goal.returns-then-verdict-ne-TAKEN
-returns-then-verdict-ne-TAKEN c =
+pub returns-in_err-check_list : goal.returns-in_err-check_list
+returns-in_err-check_list c =
     let a = c.args in
-    own a.list.now a.links.now _ c.check_list-verdict.ensures c.if-verdict-ne-TAKEN.true
+    let e = err_from_is_err_and _ c.from_residual.ensures.1 in
+    let q = c.in_err-check_list.ensures in
+    ap verdict_in e.1 ∙ ap verdict_of e.2 ∙ q ∙ sym (links_own a.list.now a.links.now (λ t. never_taken _ (ap number q ∙ t)))
 
 pub returns-then-are_links : goal.returns-then-are_links
 returns-then-are_links c =
     let a = c.args in
-    right a.list.now a.links.now _ c.check_list-verdict.ensures c.if-verdict-ne-TAKEN.false _ c.are_links.ensures
-    c.if-are_links.true
+    let q = c.in_ok-check_list.ensures in
+    let t = sym (ap number q) in
+    q ∙ sym (links_right a.list.now a.links.now t (sym (c.are_links.ensures t) ∙ c.if-are_links.true))
 
 pub returns : goal.returns
 returns c =
     let a = c.args in
-    wrong a.list.now a.links.now _ c.check_list-verdict.ensures c.if-verdict-ne-TAKEN.false _ c.are_links.ensures
-    c.if-are_links.false _ c.without_node.ensures
+    let t = sym (ap number c.in_ok-check_list.ensures) in
+    ap verdict_of c.into.ensures ∙ sym (links_wrong a.list.now a.links.now t (sym (c.are_links.ensures t) ∙ c.if-are_links.false))

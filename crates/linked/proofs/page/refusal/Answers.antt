@@ -1,25 +1,27 @@
 -- Function: `refusal` (src/page.rt).
--- Why it holds: The verdict on the two lists is returned if it is a refusal, and LINKS otherwise.
--- What would break it: LINKS before the verdict on the lists would be caught at the first return.
+-- Why it holds: The fault of the two lists is returned if there is one, and LINKS otherwise.
+-- What would break it: LINKS before the fault of the lists would be caught at the first return.
 use mathlib.Core.Path.{◌≡◌, refl, sym, ap, ◌∙◌}
 use mathlib.Core.Bool.{cond}
-use Rattle.answers.specs.Answer.{TAKEN}
-use Rattle.answers.specs.Verdict.{refusedb}
+use Rattle.answers.specs.declared.refusal.Fault.{Fault}
 use Rattle.answers.specs.declared.verdict.Verdict.{Verdict}
-use Rattle.answers.proofs.VerdictLaws.{refuses, accepts}
+use Rattle.answers.specs.Refusal.{verdict_of}
+use Rattle.answers.specs.Verdict.{refusedb, taken}
+use Rattle.answers.proofs.RefusalLaws.{fault_refuses}
+use Rattle.answers.proofs.VerdictLaws.{accepts}
 use Rattle.linked.specs.Check.{unlinked}
 use Rattle.linked.proofs.page.refusal.Goals as goal
 
--- The verdict on the lists, by whether it is a refusal.
-module _ (v checked : Verdict) (q : v ≡ checked) where
-  own : (v.answer ≡ TAKEN → ⊥) → v ≡ cond (refusedb checked) checked unlinked
-  own n = q ∙ rw (refuses checked (λ z. n (ap (λ w. w.answer) q ∙ z))) refl
+-- The verdict on the lists, by whether they have a fault.
+module _ (checked : Verdict) where
+  own : (f : Fault) → verdict_of f ≡ checked → verdict_of f ≡ cond (refusedb checked) checked unlinked
+  own f q = q ∙ rw (ap refusedb (sym q) ∙ fault_refuses f) refl
 
-  links : v.answer ≡ TAKEN → (w : Verdict) → w ≡ unlinked → w ≡ cond (refusedb checked) checked unlinked
-  links h w e = e ∙ rw (accepts checked (sym (ap (λ x. x.answer) q) ∙ h)) refl
+  links : taken ≡ checked → (w : Verdict) → w ≡ unlinked → w ≡ cond (refusedb checked) checked unlinked
+  links q w e = e ∙ rw (accepts checked (ap (λ v. v.answer) (sym q))) refl
 
-pub returns-then-verdict-ne-TAKEN : goal.returns-then-verdict-ne-TAKEN
-returns-then-verdict-ne-TAKEN c = own _ _ c.check_two-verdict.ensures c.if-verdict-ne-TAKEN.true
+pub returns-in-Err : goal.returns-in-Err
+returns-in-Err c = own _ _ c.in-Err.ensures
 
-pub returns : goal.returns
-returns c = links _ _ c.check_two-verdict.ensures c.if-verdict-ne-TAKEN.false _ c.without_node.ensures
+pub returns-in-Ok : goal.returns-in-Ok
+returns-in-Ok c = links _ c.in-Ok.ensures _ (ap verdict_of c.into.ensures)

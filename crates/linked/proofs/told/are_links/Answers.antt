@@ -1,10 +1,9 @@
 -- Function: `are_links` (src/told.rt).
 -- Why it holds: At each turn the links are those that the nodes passed tell. After the last node,
 -- which ends its document, all of them are.
--- Measure: `count - index`, the nodes still to pass.
 -- What would break it: A node passed over would be caught at the next turn, and a last node that is
 -- not compared at the last return.
-use Prim.Native.Nat.{ℕ, suc, ◌+◌, ◌*◌, ◌-◌, ◌≤◌, ◌<◌}
+use Prim.Native.Nat.{ℕ, suc, ◌*◌, ◌-◌, ◌≤◌, ◌<◌}
 use mathlib.Core.Path.{◌≡◌, sym, ap, subst, ◌∙◌}
 use mathlib.Core.Logic.{inl, inr}
 use mathlib.Core.Bool.{Bool, true, false}
@@ -26,6 +25,7 @@ use Rattle.linked.proofs.InWords.{all_linked, not_linked, other_length}
 use Rattle.linked.proofs.Kin.{start_parentless}
 use Rattle.linked.proofs.Telling.{told_first}
 use Rattle.linked.proofs.told.are_links.Goals as goal
+use Rattle.linked.proofs.told.are_links.Goals.{then-count-gt-MOST_NODES-via-then-count-gt-MOST_NODES, then-count-gt-MOST_NODES-via-else-count-gt-MOST_NODES+then-links-count}
 
 module _ (list links : List ℕ) (n : ℕ) (q : n ≡ count list) where
   abbrev ns : List Node
@@ -74,19 +74,15 @@ module _ (list links : List ℕ) (n : ℕ) (q : n ≡ count list) where
             | inr z ↦ z ∙ not_linked list links (last.no z)
           ]
 
--- One node more.
-next_told : (ns : List Node) (links : List ℕ) (i : ℕ) → Told ns links i → Told ns links (i + 1 - 1)
-next_told ns links i t = let e : i ≡ i + 1 - 1 = omega arith in subst (Told ns links) e t
-
 pub returns-then-count-gt-MOST_NODES : goal.returns-then-count-gt-MOST_NODES
 returns-then-count-gt-MOST_NODES c h =
     let a = c.args in
-    too_long a.list.now a.links.now _ c.node_count-count.ensures c.if-count-gt-MOST_NODES.true h
-
-pub returns-then-links-count : goal.returns-then-links-count
-returns-then-links-count c h =
-    let a = c.args in
-    wrong_length a.list.now a.links.now _ c.node_count-count.ensures c.if-links-count.true
+    elim c.then-count-gt-MOST_NODES.branch [
+      | then-count-gt-MOST_NODES-via-then-count-gt-MOST_NODES w ↦
+          too_long a.list.now a.links.now _ c.node_count-count.ensures w.if-count-gt-MOST_NODES.true h
+      | then-count-gt-MOST_NODES-via-else-count-gt-MOST_NODES+then-links-count w ↦
+          wrong_length a.list.now a.links.now _ c.node_count-count.ensures w.if-links-count.true
+    ]
 
 pub returns-then-count-eq0 : goal.returns-then-count-eq0
 returns-then-count-eq0 c h =
@@ -112,14 +108,6 @@ returns-then-not-is_node_told c h =
     let a = c.args in
     let v = c.loop-index.invariant in
     not_linked a.list.now a.links.now ((c.is_node_told.ensures h (v.2 h)).no (c.if-not-is_node_told.true))
-
-pub loop-index-smaller : goal.loop-index-smaller
-loop-index-smaller c = omega arith
-
-pub loop-index-preserved : goal.loop-index-preserved
-loop-index-preserved c =
-    let v = c.loop-index.invariant in
-    (omega arith, omega arith, λ h. next_told _ _ _ ((c.is_node_told.ensures h (v.2 h)).yes (c.if-not-is_node_told.false)))
 
 pub returns : goal.returns
 returns c h =

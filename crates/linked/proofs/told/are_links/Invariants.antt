@@ -1,4 +1,4 @@
--- The invariant and the measure of `are_links`; Answers.antt says why they hold.
+-- The invariant of `are_links`; Answers.antt says why it holds.
 use Prim.Native.Nat.{◌-◌, ◌≤◌, ◌<◌}
 use mathlib.Core.Path.{◌≡◌}
 use Rattle.answers.specs.Answer.{TAKEN}
@@ -9,6 +9,3 @@ use Rattle.linked.proofs.told.are_links.Given as goal
 
 abbrev pub invariant-loop-index : goal.invariant-loop-index
 invariant-loop-index l = (0 < l.index) × (l.index ≤ l.count) × ((check_words l.list).answer ≡ TAKEN → Told (nodes l.list) l.links (l.index - 1))
-
-abbrev pub decreases-loop-index : goal.decreases-loop-index
-decreases-loop-index l = l.count - l.index

@@ -95,9 +95,6 @@ module _ (list links : List ℕ) (i : ℕ) (l : i < count list) (h : (check_word
               (n ∙ sym (passed_nextless ns ok i e here w.passed there ended)));
         }
 
-pub overflow_cast-parent : goal.overflow_cast-parent
-overflow_cast-parent c = omega (arith, c.type_inv.links (3 * (c.args.index - 1)))
-
 pub loop-parent-init : goal.loop-parent-init
 loop-parent-init c =
     let a = c.args in
@@ -119,12 +116,6 @@ returns-then-links-elder c h x t child =
     let v = c.loop-parent.invariant in
     next_wrong a.list.now a.links.now a.index p.1 h x t _ _ v.1 (v.2 h x t)
     c.loop-parent-test.true c.if-start-list.false c.if-links-elder.true
-
-pub overflow_cast-parent-in-loop-parent : goal.overflow_cast-parent-in-loop-parent
-overflow_cast-parent-in-loop-parent c = omega (arith, c.type_inv.links (3 * c.loop-parent.parent))
-
-pub loop-parent-smaller : goal.loop-parent-smaller
-loop-parent-smaller c = c.loop-parent-test.true
 
 pub loop-parent-preserved : goal.loop-parent-preserved
 loop-parent-preserved c =

@@ -23,7 +23,7 @@ use Rattle.forest.proofs.Parents.{parent_before}
 use Rattle.linked.specs.Private.Told.{LastOfDocument, NextTold, Told, AllTold, Shows}
 use Rattle.linked.proofs.Kin.{last_childless}
 use Rattle.linked.proofs.Telling.{shows_yes, shows_no}
-use Rattle.linked.proofs.WayUp.{Way, way_begins, way_up, way_ends, last_nextless}
+use Rattle.linked.proofs.WayUp.{Way, way_up, way_ends, last_nextless}
 use Rattle.linked.proofs.told.is_last_told.Goals as goal
 
 module _ (links : List ℕ) (b : ℕ) (list : List ℕ) (h : (check_words list).answer ≡ TAKEN) (l : b < count list)
@@ -75,23 +75,12 @@ returns-then-links-index c list h l last t =
     let a = c.args in
     child_wrong a.links.now a.index list h l last t c.if-links-index.true
 
-pub loop-i-init : goal.loop-i-init
-loop-i-init c =
-    let a = c.args in
-    (omega arith, λ list h l last t. way_begins (nodes list) (accepted_list list h) a.links.now a.index (omega (arith, l, length_nodes list)))
-
-pub overflow_cast-parent : goal.overflow_cast-parent
-overflow_cast-parent c = omega (arith, c.type_inv.links (3 * c.loop-i.i))
-
 pub returns-then-i-parent : goal.returns-then-i-parent
 returns-then-i-parent c list h l last t =
     let a = c.args in
     let v = c.loop-i.invariant in
     ends a.links.now a.index list h l last t _ (v.1 list h l last t) c.loop-i-test.true c.if-i-parent.true
     c.if-links-index.false
-
-pub loop-i-smaller : goal.loop-i-smaller
-loop-i-smaller c = omega arith
 
 pub loop-i-preserved : goal.loop-i-preserved
 loop-i-preserved c =

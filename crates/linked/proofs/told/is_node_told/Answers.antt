@@ -5,12 +5,12 @@
 -- caught at that case's return.
 use Prim.Native.Nat.{ℕ, suc, ◌+◌, ◌*◌, ◌-◌, ◌≤◌, ◌<◌}
 use mathlib.Core.Path.{◌≡◌, sym, subst, ◌∙◌}
-use mathlib.Core.Bool.{Bool, false}
+use mathlib.Core.Bool.{Bool}
 use mathlib.Core.List.{List}
 use native.Mathlib.Omega.{arith}
 use lib.Dec.{eqb}
 use lib.ListN.{length, get_or}
-use borrow.Author.Tests.{eqb-true, eqb-false}
+use borrow.Author.Tests.{eqb-true, eqb-false, ne_eqb}
 use Rattle.answers.specs.Answer.{TAKEN}
 use Rattle.nodes.specs.declared.node.Node.{Node}
 use Rattle.nodes.specs.Words.{nodes, count}
@@ -49,6 +49,10 @@ module _ (list links : List ℕ) (i : ℕ) (s : 0 < i) (l : i < count list) (h :
     abbrev Answers : Bool → Type 0
     Answers r = Shows ns links (Told ns links i) r
 
+    -- A word that isn't the one wanted.
+    says_no : (m n : ℕ) → (m ≡ n → ⊥) → (AllTold ns links (length ns) → ⊥) → Answers (eqb m n)
+    says_no m n d f = subst Answers (sym (ne_eqb m n d)) (shows_no ns links f)
+
     -- The node before is of another document.
     module _ (d : get_or list (4 * (i - 1)) 0 ≡ get_or list (4 * i) 0 → ⊥) where
       differ : (node_in ns (i - 1)).document ≡ (node_in ns i).document → ⊥
@@ -57,8 +61,8 @@ module _ (list links : List ℕ) (i : ℕ) (s : 0 < i) (l : i < count list) (h :
       parentless : parent_of ns i ≡ NONE
       parentless = apart_parentless ns ok (i - 1) i after here differ
 
-      parent_wrong : (get_or links (3 * i) 0 ≡ NONE → ⊥) → Answers false
-      parent_wrong n = shows_no ns links (λ all. n (all.parents i here ∙ parentless))
+      parent_wrong : (get_or links (3 * i) 0 ≡ NONE → ⊥) → Answers (eqb (get_or links (3 * i) 0) NONE)
+      parent_wrong n = says_no _ _ n (λ all. n (all.parents i here ∙ parentless))
 
       by_last : get_or links (3 * i) 0 ≡ NONE → (r : Bool)
           → ((list : List ℕ) → (check_words list).answer ≡ TAKEN → i - 1 < count list → LastOfDocument (nodes list) (i - 1)
@@ -93,8 +97,8 @@ module _ (list links : List ℕ) (i : ℕ) (s : 0 < i) (l : i < count list) (h :
         child_here : child_of ns (i - 1) ≡ i
         child_here = child_next ns ok (i - 1) i after here parent_before
 
-        child_wrong : (get_or links (3 * (i - 1) + 1) 0 ≡ i → ⊥) → Answers false
-        child_wrong n = shows_no ns links (λ all. n (all.children (i - 1) (omega (arith, here)) ∙ child_here))
+        child_wrong : (get_or links (3 * (i - 1) + 1) 0 ≡ i → ⊥) → Answers (eqb (get_or links (3 * (i - 1) + 1) 0) i)
+        child_wrong n = says_no _ _ n (λ all. n (all.children (i - 1) (omega (arith, here)) ∙ child_here))
 
         by_parent : get_or links (3 * (i - 1) + 1) 0 ≡ i → Answers (eqb (get_or links (3 * i) 0) (i - 1))
         by_parent n = record {
@@ -111,8 +115,8 @@ module _ (list links : List ℕ) (i : ℕ) (s : 0 < i) (l : i < count list) (h :
         childless : child_of ns (i - 1) ≡ NONE
         childless = ended_childless ns ok i here ended
 
-        child_none_wrong : (get_or links (3 * (i - 1) + 1) 0 ≡ NONE → ⊥) → Answers false
-        child_none_wrong n = shows_no ns links (λ all. n (all.children (i - 1) (omega (arith, here)) ∙ childless))
+        child_none_wrong : (get_or links (3 * (i - 1) + 1) 0 ≡ NONE → ⊥) → Answers (eqb (get_or links (3 * (i - 1) + 1) 0) NONE)
+        child_none_wrong n = says_no _ _ n (λ all. n (all.children (i - 1) (omega (arith, here)) ∙ childless))
 
         by_elder : get_or links (3 * (i - 1) + 1) 0 ≡ NONE → (r : Bool)
             → ((check_words list).answer ≡ TAKEN → Ended ns i → Told ns links (i - 1) → ChildTold ns links (i - 1) → Answers r) → Answers r
@@ -122,40 +126,34 @@ pub returns-then-links-index : goal.returns-then-links-index
 returns-then-links-index c h t =
     let a = c.args in
     let p = c.requires in
-    parent_wrong a.list.now a.links.now a.index p.0 p.1 h t (λ z. omega arith) c.if-links-index.true
+    by_last a.list.now a.links.now a.index p.0 p.1 h t c.if-list-before.true c.if-links-index.true _ c.is_last_told.ensures
 
-pub returns-then-list-before : goal.returns-then-list-before
-returns-then-list-before c h t =
+pub returns-else-links-index : goal.returns-else-links-index
+returns-else-links-index c h t =
     let a = c.args in
     let p = c.requires in
-    by_last a.list.now a.links.now a.index p.0 p.1 h t (λ z. omega arith) c.if-links-index.false _ c.is_last_told.ensures
-
-pub overflow_cast-links : goal.overflow_cast-links
-overflow_cast-links c = omega (arith, c.type_inv.links (3 * (c.args.index - 1) + 1))
+    parent_wrong a.list.now a.links.now a.index p.0 p.1 h t c.if-list-before.true c.if-links-index.false
 
 pub returns-then-links-before : goal.returns-then-links-before
 returns-then-links-before c h t =
     let a = c.args in
     let p = c.requires in
-    child_wrong a.list.now a.links.now a.index p.0 p.1 h t (omega arith) (omega arith) c.if-links-before.true
+    by_parent a.list.now a.links.now a.index p.0 p.1 h t c.if-list-before.false c.if-list-index.true c.if-links-before.true
 
-pub overflow_cast-result : goal.overflow_cast-result
-overflow_cast-result c = omega (arith, c.type_inv.links (3 * c.args.index))
-
-pub returns-then-list-index : goal.returns-then-list-index
-returns-then-list-index c h t =
+pub returns-else-links-before : goal.returns-else-links-before
+returns-else-links-before c h t =
     let a = c.args in
     let p = c.requires in
-    by_parent a.list.now a.links.now a.index p.0 p.1 h t (omega arith) (omega arith) c.if-links-before.false
+    child_wrong a.list.now a.links.now a.index p.0 p.1 h t c.if-list-before.false c.if-list-index.true c.if-links-before.false
 
 pub returns-then-links-before-2 : goal.returns-then-links-before-2
 returns-then-links-before-2 c h t =
     let a = c.args in
     let p = c.requires in
-    child_none_wrong a.list.now a.links.now a.index p.0 p.1 h t (omega arith) (omega arith) c.if-links-before-2.true
+    by_elder a.list.now a.links.now a.index p.0 p.1 h t c.if-list-before.false c.if-list-index.false c.if-links-before-2.true _ c.is_elder_told.ensures
 
-pub returns : goal.returns
-returns c h t =
+pub returns-else-links-before-2 : goal.returns-else-links-before-2
+returns-else-links-before-2 c h t =
     let a = c.args in
     let p = c.requires in
-    by_elder a.list.now a.links.now a.index p.0 p.1 h t (omega arith) (omega arith) c.if-links-before-2.false _ c.is_elder_told.ensures
+    child_none_wrong a.list.now a.links.now a.index p.0 p.1 h t c.if-list-before.false c.if-list-index.false c.if-links-before-2.false

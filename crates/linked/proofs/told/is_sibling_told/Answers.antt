@@ -3,9 +3,7 @@
 -- What would break it: Another word of the links compared would be caught at a return.
 use Prim.Native.Nat.{ℕ, ◌+◌, ◌*◌}
 use mathlib.Core.Path.{◌≡◌, refl}
-use mathlib.Core.Bool.{false}
 use mathlib.Core.List.{List}
-use native.Mathlib.Omega.{arith}
 use lib.Dec.{eqb}
 use lib.ListN.{get_or}
 use borrow.Author.Tests.{eq-eqb, ne_eqb}
@@ -13,7 +11,7 @@ use Rattle.linked.specs.Private.Told.{sibling_toldb}
 use Rattle.linked.proofs.told.is_sibling_told.Goals as goal
 
 module _ (links : List ℕ) (e i : ℕ) where
-  not_next : (get_or links (3 * e + 2) 0 ≡ i → ⊥) → false ≡ sibling_toldb links e i
+  not_next : (get_or links (3 * e + 2) 0 ≡ i → ⊥) → eqb (get_or links (3 * e + 2) 0) i ≡ sibling_toldb links e i
   unfolding sibling_toldb
   not_next h = rw (ne_eqb (get_or links (3 * e + 2) 0) i h) refl
 
@@ -21,15 +19,12 @@ module _ (links : List ℕ) (e i : ℕ) where
   unfolding sibling_toldb
   parents_left h = rw (eq-eqb (get_or links (3 * e + 2) 0) i h) refl
 
-pub overflow_cast-links : goal.overflow_cast-links
-overflow_cast-links c = omega (arith, c.type_inv.links (3 * c.args.elder + 2))
-
 pub returns-then-links-elder : goal.returns-then-links-elder
 returns-then-links-elder c =
     let a = c.args in
-    not_next a.links.now a.elder a.index c.if-links-elder.true
+    parents_left a.links.now a.elder a.index c.if-links-elder.true
 
-pub returns : goal.returns
-returns c =
+pub returns-else-links-elder : goal.returns-else-links-elder
+returns-else-links-elder c =
     let a = c.args in
-    parents_left a.links.now a.elder a.index c.if-links-elder.false
+    not_next a.links.now a.elder a.index c.if-links-elder.false

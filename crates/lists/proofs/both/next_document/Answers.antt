@@ -5,6 +5,10 @@
 use mathlib.Core.Path.{refl}
 use mathlib.Core.Logic.{inl, inr, ⊎_elim}
 use native.Mathlib.Omega.{arith}
+use lib.Dec.{ltb}
+use lib.ListN.{get_or}
+use borrow.Author.Tests.{ltb-true, ltb-false}
+use Rattle.laws.proofs.Tests.{either}
 use Rattle.lists.specs.Private.Walk.{node_from}
 use Rattle.lists.proofs.both.next_document.Goals as goal
 
@@ -23,10 +27,13 @@ pub returns-then-first-i : goal.returns-then-first-i
 unfolding node_from
 returns-then-first-i c = record { upcoming = inr (omega arith, refl); first_on = λ l. absurd (omega arith); second_on = λ l. omega arith }
 
-pub returns-then-second-j-2 : goal.returns-then-second-j-2
-unfolding node_from
-returns-then-second-j-2 c = record { upcoming = inr (omega arith, refl); first_on = λ l. omega arith; second_on = λ l. omega arith }
-
 pub returns : goal.returns
 unfolding node_from
-returns c = record { upcoming = inl (omega arith, refl); first_on = λ l. omega arith; second_on = λ l. omega arith }
+returns c =
+    let a = c.args in
+    let f = get_or a.first.now a.i 0 in
+    let g = get_or a.second.now a.j 0 in
+    elim (either (ltb g f)) [
+      | inl l ↦ let h = ltb-true g f l in record { upcoming = inr (omega arith, omega arith); first_on = λ _. omega arith; second_on = λ _. omega arith }
+      | inr l ↦ let h = ltb-false g f l in record { upcoming = inl (omega arith, omega arith); first_on = λ _. omega arith; second_on = λ _. omega arith }
+    ]

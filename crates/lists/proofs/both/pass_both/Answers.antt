@@ -35,7 +35,7 @@ loop-place-smaller c =
     let x = c.args in
     let l = c.loop-place in
     let d = subst (λ step. DocumentTo x.first.now x.second.now l.place step c.pass_document.new.stack)
-    c.in-Reached.is c.pass_document.ensures in
+    c.in-Some.is c.pass_document.ensures in
     let on = d.0 in
     let f = d.1.first_cut.0 in
     let s = d.1.second_cut.0 in
@@ -46,7 +46,7 @@ loop-place-preserved c =
     let x = c.args in
     let l = c.loop-place in
     (subst (λ step. DocumentTo x.first.now x.second.now l.place step c.pass_document.new.stack)
-    c.in-Reached.is c.pass_document.ensures).1
+    c.in-Some.is c.pass_document.ensures).1
 
 pub returns : goal.returns
 returns c =

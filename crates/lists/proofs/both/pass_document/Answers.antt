@@ -4,7 +4,7 @@
 -- Measure: `length second - b.at`, the words of the second list still to pass.
 -- What would break it: A run up to the wrong limit, or a node of both lists that stays in the
 -- second, would be caught at the next turn.
-use mathlib.Core.Path.{◌≡◌, sym, ap, subst}
+use mathlib.Core.Path.{◌≡◌}
 use mathlib.Core.Logic.{◌⊎◌, inl, inr}
 use mathlib.Core.List.{List}
 use Prim.Native.Nat.{ℕ, ◌≤◌, ◌<◌}
@@ -16,26 +16,27 @@ use Rattle.lists.proofs.Documents.{Standing, document_ends, first_run, first_sto
 use Rattle.lists.proofs.Documents.{same_on, same_stop, begin_stop, document_begins, document_there, document_moves}
 use Rattle.lists.proofs.both.pass_document.Goals as goal
 
--- The run of the first list has passed to `passed`, and the second list stands at `b`, before its
--- end. It stands there with the new top of the stack as well.
-beside_on : {first second : List ℕ} {d : ℕ} {stack : List ℕ} (a b passed beside : RunPlace)
+-- The second list's place b, with the top of the stack that the first list's run has left.
+abbrev beside : RunPlace → RunPlace → RunPlace
+beside b passed = record { at = b.at; start = b.start; top = passed.top }
+
+-- The run of the first list has passed to `passed`, and the second list stands at b, before its end
+-- and no further on.
+beside_on : {first second : List ℕ} {d : ℕ} {stack : List ℕ} (a b passed : RunPlace)
     → Standing first second d passed.at passed.start b.at b.start passed.top stack × RunPast a b.start passed
-    → beside ≡ record { at = b.at; start = b.start; top = passed.top }
     → (b.start ≡ PAST → ⊥)
-    → Standing first second d passed.at passed.start beside.at beside.start beside.top stack
-    × (beside.start < PAST) × (beside.start ≤ passed.start)
-beside_on {first} {second} {d} {stack} a b passed beside s q more =
+    → (b.start < PAST) × (b.start ≤ passed.start)
+beside_on {second = second} {d} a b passed s more =
     let most = ahead_most second b.at d b.start s.0.second_ahead in
-    let e : beside.start ≡ b.start = ap (λ (k : RunPlace). k.start) q in
     let up = s.1.0 in
-    (subst (λ (k : RunPlace). Standing first second d passed.at passed.start k.at k.start k.top stack) (sym q) s.0, omega arith, omega arith)
+    (omega arith, omega arith)
 
 -- In a turn the second list comes further: past its next node, where the first list has it too, or
 -- by a run.
-further : (b beside next passed turned : RunPlace) → beside.at ≡ b.at → beside.at ≤ next.at
-    → (beside.at < next.at) ⊎ (next.start < passed.start) → RunPast next passed.start turned → b.at < turned.at
-further b beside next passed turned q l (inl h) m = let on = m.1 in omega arith
-further b beside next passed turned q l (inr h) m = let o = m.2 h in omega arith
+further : (b next passed turned : RunPlace) → b.at ≤ next.at → (b.at < next.at) ⊎ (next.start < passed.start)
+    → RunPast next passed.start turned → b.at < turned.at
+further b next passed turned l (inl h) m = let on = m.1 in omega arith
+further b next passed turned l (inr h) m = let o = m.2 h in omega arith
 
 pub next_document-document-requires : goal.next_document-document-requires
 next_document-document-requires c =
@@ -63,8 +64,8 @@ returns-in_default-reach c =
 pub loop-passed-init : goal.loop-passed-init
 loop-passed-init c =
     let d = c.next_document-document in
-    let one = c.in-Reached in
-    let other = c.in-Reached-reach in
+    let one = c.in-Some in
+    let other = c.in-Some-reach in
     let w = c.requires.0 in (
       document_begins w d.ensures one.one other.other one.ensures other.ensures,
       omega arith,
@@ -89,12 +90,12 @@ pub returns-then-b-eq-PAST : goal.returns-then-b-eq-PAST
 returns-then-b-eq-PAST c =
     let l = c.loop-passed in
     let run = c.pass_run in
-    let p = c.in-Reached-pass_run.passed in
-    let s = first_run l.a l.invariant.0 run.result run.new.stack run.ensures.walked run.ensures.moved p c.in-Reached-pass_run.is in
+    let p = c.in-Some-pass_run.passed in
+    let s = first_run l.a l.invariant.0 run.result run.new.stack run.ensures.walked run.ensures.moved p c.in-Some-pass_run.is in
     let most = ahead_most c.args.first.now p.at c.next_document-document.result p.start s.0.first_ahead in
     let up = s.1.0 in
-    let f = c.in-Reached.ensures.0 in
-    let g = c.in-Reached-reach.ensures.0 in
+    let f = c.in-Some.ensures.0 in
+    let g = c.in-Some-reach.ensures.0 in
     let on = document_moves _ l.a.at l.b.at p.at l.a.start l.b.start l.invariant.1 l.invariant.2 (omega arith) s.1.1 s.1.2 in
     (omega arith, document_ends s.0 (omega arith) (omega arith))
 
@@ -102,39 +103,39 @@ pub pass_same-requires : goal.pass_same-requires
 pass_same-requires c =
     let l = c.loop-passed in
     let run = c.pass_run in
-    let p = c.in-Reached-pass_run.passed in
-    let s = first_run l.a l.invariant.0 run.result run.new.stack run.ensures.walked run.ensures.moved p c.in-Reached-pass_run.is in
-    let t = beside_on l.a l.b p c.on_top-beside.result s c.on_top-beside.ensures (λ q. omega arith) in
-    (t.0.first_cut, t.0.first_ahead, t.0.second_cut, t.0.second_ahead, t.1)
+    let p = c.in-Some-pass_run.passed in
+    let s = first_run l.a l.invariant.0 run.result run.new.stack run.ensures.walked run.ensures.moved p c.in-Some-pass_run.is in
+    let t = beside_on l.a l.b p s (λ q. omega arith) in
+    (s.0.first_cut, s.0.first_ahead, s.0.second_cut, s.0.second_ahead, t.0)
 
 pub returns-in_default-pass_same : goal.returns-in_default-pass_same
 returns-in_default-pass_same c =
     let l = c.loop-passed in
     let run = c.pass_run in
-    let p = c.in-Reached-pass_run.passed in
-    let s = first_run l.a l.invariant.0 run.result run.new.stack run.ensures.walked run.ensures.moved p c.in-Reached-pass_run.is in
-    let t = beside_on l.a l.b p c.on_top-beside.result s c.on_top-beside.ensures (λ q. omega arith) in
-    same_stop p c.on_top-beside.result t.0 t.1 c.in_default-pass_same.ensures
+    let p = c.in-Some-pass_run.passed in
+    let s = first_run l.a l.invariant.0 run.result run.new.stack run.ensures.walked run.ensures.moved p c.in-Some-pass_run.is in
+    let t = beside_on l.a l.b p s (λ q. omega arith) in
+    same_stop p (beside l.b p) s.0 t.0 c.in_default-pass_same.ensures
 
 pub pass_run-requires-in-loop-passed : goal.pass_run-requires-in-loop-passed
 pass_run-requires-in-loop-passed c =
     let l = c.loop-passed in
     let run = c.pass_run in
-    let p = c.in-Reached-pass_run.passed in
-    let s = first_run l.a l.invariant.0 run.result run.new.stack run.ensures.walked run.ensures.moved p c.in-Reached-pass_run.is in
-    let t = beside_on l.a l.b p c.on_top-beside.result s c.on_top-beside.ensures (λ q. omega arith) in
-    let n = (same_on p c.on_top-beside.result t.0 t.1 t.2 c.in-Reached-pass_same.next c.in-Reached-pass_same.ensures).0 in
+    let p = c.in-Some-pass_run.passed in
+    let s = first_run l.a l.invariant.0 run.result run.new.stack run.ensures.walked run.ensures.moved p c.in-Some-pass_run.is in
+    let t = beside_on l.a l.b p s (λ q. omega arith) in
+    let n = (same_on p (beside l.b p) s.0 t.0 t.1 c.in-Some-pass_same.next c.in-Some-pass_same.ensures).0 in
     (n.second_cut, n.second_ahead, ahead_most c.args.first.now p.at c.next_document-document.result p.start n.first_ahead, amid_held (amid_turn n.amid))
 
 pub returns-in_default-pass_run-2 : goal.returns-in_default-pass_run-2
 returns-in_default-pass_run-2 c =
     let l = c.loop-passed in
     let run = c.pass_run in
-    let p = c.in-Reached-pass_run.passed in
-    let s = first_run l.a l.invariant.0 run.result run.new.stack run.ensures.walked run.ensures.moved p c.in-Reached-pass_run.is in
-    let t = beside_on l.a l.b p c.on_top-beside.result s c.on_top-beside.ensures (λ q. omega arith) in
-    let next = c.in-Reached-pass_same.next in
-    let n = (same_on p c.on_top-beside.result t.0 t.1 t.2 next c.in-Reached-pass_same.ensures).0 in
+    let p = c.in-Some-pass_run.passed in
+    let s = first_run l.a l.invariant.0 run.result run.new.stack run.ensures.walked run.ensures.moved p c.in-Some-pass_run.is in
+    let t = beside_on l.a l.b p s (λ q. omega arith) in
+    let next = c.in-Some-pass_same.next in
+    let n = (same_on p (beside l.b p) s.0 t.0 t.1 next c.in-Some-pass_same.ensures).0 in
     let then = c.pass_run-in-loop-passed in
     second_stop next n then.result then.new.stack then.ensures.walked c.in_default-pass_run-2.is
 
@@ -142,39 +143,31 @@ pub loop-passed-smaller : goal.loop-passed-smaller
 loop-passed-smaller c =
     let l = c.loop-passed in
     let run = c.pass_run in
-    let p = c.in-Reached-pass_run.passed in
-    let s = first_run l.a l.invariant.0 run.result run.new.stack run.ensures.walked run.ensures.moved p c.in-Reached-pass_run.is in
-    let b = c.on_top-beside in
-    let t = beside_on l.a l.b p b.result s b.ensures (λ q. omega arith) in
-    let next = c.in-Reached-pass_same.next in
-    let n = same_on p b.result t.0 t.1 t.2 next c.in-Reached-pass_same.ensures in
+    let p = c.in-Some-pass_run.passed in
+    let s = first_run l.a l.invariant.0 run.result run.new.stack run.ensures.walked run.ensures.moved p c.in-Some-pass_run.is in
+    let t = beside_on l.a l.b p s (λ q. omega arith) in
+    let next = c.in-Some-pass_same.next in
+    let n = same_on p (beside l.b p) s.0 t.0 t.1 next c.in-Some-pass_same.ensures in
     let then = c.pass_run-in-loop-passed in
-    let turned = c.in-Reached-pass_run-2.turned in
-    let m = second_run next n.0 then.result then.new.stack then.ensures.walked then.ensures.moved turned c.in-Reached-pass_run-2.is in
+    let turned = c.in-Some-pass_run-2.turned in
+    let m = second_run next n.0 then.result then.new.stack then.ensures.walked then.ensures.moved turned c.in-Some-pass_run-2.is in
     let cut = m.0.second_cut.0 in
-    let more = further l.b b.result next p turned (ap (λ (k : RunPlace). k.at) b.ensures) n.1 n.2 m.1 in
+    let more = further l.b next p turned n.1 n.2 m.1 in
     omega arith
 
 pub loop-passed-preserved : goal.loop-passed-preserved
 loop-passed-preserved c =
     let l = c.loop-passed in
     let run = c.pass_run in
-    let p = c.in-Reached-pass_run.passed in
-    let s = first_run l.a l.invariant.0 run.result run.new.stack run.ensures.walked run.ensures.moved p c.in-Reached-pass_run.is in
-    let b = c.on_top-beside in
-    let t = beside_on l.a l.b p b.result s b.ensures (λ q. omega arith) in
-    let next = c.in-Reached-pass_same.next in
-    let n = same_on p b.result t.0 t.1 t.2 next c.in-Reached-pass_same.ensures in
+    let p = c.in-Some-pass_run.passed in
+    let s = first_run l.a l.invariant.0 run.result run.new.stack run.ensures.walked run.ensures.moved p c.in-Some-pass_run.is in
+    let t = beside_on l.a l.b p s (λ q. omega arith) in
+    let next = c.in-Some-pass_same.next in
+    let n = same_on p (beside l.b p) s.0 t.0 t.1 next c.in-Some-pass_same.ensures in
     let then = c.pass_run-in-loop-passed in
-    let turned = c.in-Reached-pass_run-2.turned in
-    let m = second_run next n.0 then.result then.new.stack then.ensures.walked then.ensures.moved turned c.in-Reached-pass_run-2.is in
-    let more = further l.b b.result next p turned (ap (λ (k : RunPlace). k.at) b.ensures) n.1 n.2 m.1 in
+    let turned = c.in-Some-pass_run-2.turned in
+    let m = second_run next n.0 then.result then.new.stack then.ensures.walked then.ensures.moved turned c.in-Some-pass_run-2.is in
+    let more = further l.b next p turned n.1 n.2 m.1 in
     let on = s.1.1 in
     let far = l.invariant.1 in
-    let at_a = ap (λ (k : RunPlace). k.at) c.on_top-a.ensures in (
-      subst
-          (λ (k : RunPlace). Standing c.args.first.now c.args.second.now c.next_document-document.result k.at k.start turned.at turned.start k.top then.new.stack)
-          (sym c.on_top-a.ensures) m.0,
-      omega arith,
-      inl (omega arith),
-    )
+    (m.0, omega arith, inl (omega arith))

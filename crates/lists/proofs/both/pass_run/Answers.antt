@@ -1,6 +1,7 @@
 -- Function: `pass_run` (src/both.rt).
 -- Why it holds: Before each turn, the run has come to a place of the list and has taken the walk
--- along both lists with it. Each turn passes one node.
+-- along both lists with it. Each turn passes one node. At the document's end the limit is reached,
+-- since none is above PAST.
 -- Measure: `length words - place.at`, the words of the list still to pass.
 -- What would break it: A turn that passed no node, or one that passed a node from the limit on,
 -- would be caught at the next turn.
@@ -31,12 +32,25 @@ returns-in_default c =
           c.loop-place-test.true _ _ c.pass_next.ensures c.in_default.is;
     }
 
+pub returns-then-reached-eq-PAST : goal.returns-then-reached-eq-PAST
+returns-then-reached-eq-PAST c =
+    let x = c.args in
+    let l = c.loop-place in
+    let i = (along_on x.words.now x.document x.limit x.begun x.stack.now l.place l.stack l.invariant
+    c.loop-place-test.true _ _ c.pass_next.ensures _ c.in-Some.is).1 in
+    let on = i.on in
+    let most = i.most in
+    record {
+      moved = (i.cut, i.ahead, (omega arith, on, λ l. ⊎_elim (λ m. m) (λ q. absurd (omega arith)) i.moved));
+      walked = i.walked;
+    }
+
 pub loop-place-smaller : goal.loop-place-smaller
 loop-place-smaller c =
     let x = c.args in
     let l = c.loop-place in
     let next = along_on x.words.now x.document x.limit x.begun x.stack.now l.place l.stack l.invariant
-    c.loop-place-test.true _ _ c.pass_next.ensures _ c.in-Reached.is in
+    c.loop-place-test.true _ _ c.pass_next.ensures _ c.in-Some.is in
     let on = next.0 in
     let cut = next.1.cut in
     omega arith
@@ -46,7 +60,7 @@ loop-place-preserved c =
     let x = c.args in
     let l = c.loop-place in
     (along_on x.words.now x.document x.limit x.begun x.stack.now l.place l.stack l.invariant
-    c.loop-place-test.true _ _ c.pass_next.ensures _ c.in-Reached.is).1
+    c.loop-place-test.true _ _ c.pass_next.ensures _ c.in-Some.is).1
 
 pub returns : goal.returns
 returns c =

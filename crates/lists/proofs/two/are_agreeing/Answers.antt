@@ -3,12 +3,16 @@
 -- lists are and none of their nodes are at odds.
 -- What would break it: A list that isn't tested, or another merge, would be caught at its return.
 use mathlib.Core.Path.{◌≡◌, sym, ◌∙◌}
-use mathlib.Core.Bool.{true, false, not, not-not}
+use mathlib.Core.Bool.{true, false, not, not-not, true≢false}
 use mathlib.Core.List.{List}
 use Prim.Native.Nat.{ℕ}
 use lib.Dec.{eqb}
 use borrow.Author.Tests.{eq-eqb, ne_eqb, eqb-true}
+use Rattle.std.specs.Prelude.{Result, Ok, Err, is_ok}
 use Rattle.answers.specs.Answer.{TAKEN}
+use Rattle.answers.specs.declared.refusal.Refusal.{Refusal}
+use Rattle.answers.specs.Refusal.{answer_in}
+use Rattle.answers.proofs.RefusalLaws.{never_taken}
 use Rattle.nodes.specs.Words.{nodes}
 use Rattle.laws.proofs.Tests.{same_test}
 use Rattle.lists.specs.Check.{word_fault}
@@ -18,6 +22,7 @@ use Rattle.answers.specs.Verdict.{refusedb}
 use Rattle.lists.proofs.Merging.{joint_iff, merge_taken_iff}
 use Rattle.lists.proofs.Pairing.{two_taken_iff}
 use Rattle.lists.proofs.Taken.{whole_words, words_check}
+use Rattle.lists.proofs.two.are_agreeing.Goals.{Then-is_ok-2, then-is_ok, else-is_ok}
 use Rattle.lists.proofs.two.are_agreeing.Goals as goal
 
 module _ (xs ys : List ℕ) where
@@ -28,11 +33,11 @@ module _ (xs ys : List ℕ) where
   no : ((check_two xs ys).answer ≡ TAKEN → ⊥) → false ≡ not (refusedb (check_two xs ys))
   no h = sym (ne_eqb (check_two xs ys).answer TAKEN h) ∙ answers
 
-  no_first : (f : ℕ) → f ≡ word_fault xs → (f ≡ TAKEN → ⊥) → false ≡ not (refusedb (check_two xs ys))
-  no_first f q h = no (λ t. h (q ∙ ((words_check xs).0 ((two_taken_iff xs ys).0 t).0).0))
+  no_first : (word_fault xs ≡ TAKEN → ⊥) → false ≡ not (refusedb (check_two xs ys))
+  no_first h = no (λ t. h ((words_check xs).0 ((two_taken_iff xs ys).0 t).0).0)
 
-  no_second : (f : ℕ) → f ≡ word_fault ys → (f ≡ TAKEN → ⊥) → false ≡ not (refusedb (check_two xs ys))
-  no_second f q h = no (λ t. h (q ∙ ((words_check ys).0 ((two_taken_iff xs ys).0 t).1).0))
+  no_second : (word_fault ys ≡ TAKEN → ⊥) → false ≡ not (refusedb (check_two xs ys))
+  no_second h = no (λ t. h ((words_check ys).0 ((two_taken_iff xs ys).0 t).1).0)
 
   -- The merge is taken exactly when the two lists are.
   merged : word_fault xs ≡ TAKEN → word_fault ys ≡ TAKEN
@@ -49,26 +54,43 @@ module _ (xs ys : List ℕ) where
           let t = (two_taken_iff xs ys).0 (eqb-true _ _ h) in
           eq-eqb _ _ ((merge_taken_iff (nodes xs) (nodes ys)).1 (((words_check xs).0 t.0).1, ((words_check ys).0 t.1).1, (joint_iff _ _).1 t.2))
 
-pub returns-then-word_fault-ne-TAKEN : goal.returns-then-word_fault-ne-TAKEN
-returns-then-word_fault-ne-TAKEN c =
-    let a = c.args in
-    no_first a.ancestors.now a.descendants.now _ c.word_fault.ensures c.if-word_fault-ne-TAKEN.true
+-- What the check of the words answers tells their fault.
+no_fault : (ws : List ℕ) (r : Result (Unit {0}) Refusal) → answer_in r ≡ word_fault ws → is_ok r ≡ true → word_fault ws ≡ TAKEN
+no_fault ws (Ok _) q h = sym q
+no_fault ws (Err f) q h = absurd (true≢false (sym h))
 
-pub returns-then-word_fault-ne-TAKEN-2 : goal.returns-then-word_fault-ne-TAKEN-2
-returns-then-word_fault-ne-TAKEN-2 c =
+a_fault : (ws : List ℕ) (r : Result (Unit {0}) Refusal) → answer_in r ≡ word_fault ws → is_ok r ≡ false → word_fault ws ≡ TAKEN → ⊥
+a_fault ws (Ok _) q h t = absurd (true≢false h)
+a_fault ws (Err f) q h t = never_taken f (q ∙ t)
+
+-- Where both are tested and neither has a fault, both lists are whole.
+both_whole : (c : Then-is_ok-2) → (word_fault c.args.ancestors.now ≡ TAKEN) × (word_fault c.args.descendants.now ≡ TAKEN)
+both_whole c =
+    elim c.if-is_ok.branch [
+      | then-is_ok w ↦ (
+        no_fault _ _ c.check_whole.ensures (sym w.if-is_ok.ensures.value),
+        no_fault _ _ w.check_whole-then-is_ok.ensures (sym w.is_ok-then-is_ok.ensures.value ∙ sym w.value-is ∙ c.if-is_ok-2.true),
+      )
+      | else-is_ok w ↦ absurd (true≢false (sym c.if-is_ok-2.true ∙ w.value-is ∙ w.if-is_ok.false))
+    ]
+
+pub returns-then-is_ok-2 : goal.returns-then-is_ok-2
+returns-then-is_ok-2 c =
+    let w = both_whole (goal.at.returns-then-is_ok-2 c).Then-is_ok-2 in
+    c.pass_both.ensures ∙ merged c.args.ancestors.now c.args.descendants.now w.0 w.1
+
+pub returns-else-is_ok-2 : goal.returns-else-is_ok-2
+returns-else-is_ok-2 c =
     let a = c.args in
-    no_second a.ancestors.now a.descendants.now _ c.word_fault-2.ensures c.if-word_fault-ne-TAKEN-2.true
+    c.if-is_ok-2.false
+    ∙ elim c.if-is_ok.branch [
+      | then-is_ok w ↦ no_second a.ancestors.now a.descendants.now
+          (a_fault _ _ w.check_whole-then-is_ok.ensures (sym w.is_ok-then-is_ok.ensures.value ∙ sym w.value-is ∙ c.if-is_ok-2.false))
+      | else-is_ok w ↦ no_first a.ancestors.now a.descendants.now (a_fault _ _ c.check_whole.ensures (sym w.if-is_ok.ensures.value))
+    ]
 
 pub pass_both-requires : goal.pass_both-requires
 pass_both-requires c =
-    let a = c.args in (
-      (whole_words a.ancestors.now).0 (sym c.word_fault.ensures ∙ c.if-word_fault-ne-TAKEN.false),
-      (whole_words a.descendants.now).0 (sym c.word_fault-2.ensures ∙ c.if-word_fault-ne-TAKEN-2.false),
-    )
-
-pub returns : goal.returns
-returns c =
     let a = c.args in
-    c.pass_both.ensures
-    ∙ merged a.ancestors.now a.descendants.now (sym c.word_fault.ensures ∙ c.if-word_fault-ne-TAKEN.false)
-    (sym c.word_fault-2.ensures ∙ c.if-word_fault-ne-TAKEN-2.false)
+    let w = both_whole (goal.at.pass_both-requires c).Then-is_ok-2 in
+    ((whole_words a.ancestors.now).0 w.0, (whole_words a.descendants.now).0 w.1)

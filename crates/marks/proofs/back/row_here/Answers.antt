@@ -35,8 +35,8 @@ overflow_add-level c = let low = before_low c.args.depth c.args.mark c.requires.
 pub returns-then-mark-eq-TEXT : goal.returns-then-mark-eq-TEXT
 returns-then-mark-eq-TEXT c = text_row _ _ _ _ _ _ c.open_before.ensures c.if-mark-eq-TEXT.true
 
-pub overflow_sub-result : goal.overflow_sub-result
-overflow_sub-result c = let deep = c.requires.1 c.if-mark-eq-TEXT.false in omega (arith, deep)
+pub overflow_sub-end : goal.overflow_sub-end
+overflow_sub-end c = let deep = c.requires.1 c.if-mark-eq-TEXT.false in omega (arith, deep)
 
-pub returns : goal.returns
-returns c = element_row _ _ _ _ _ _ c.open_before.ensures c.if-mark-eq-TEXT.false
+pub returns-else-mark-eq-TEXT : goal.returns-else-mark-eq-TEXT
+returns-else-mark-eq-TEXT c = element_row _ _ _ _ _ _ c.open_before.ensures c.if-mark-eq-TEXT.false

@@ -1,40 +1,40 @@
 -- Function: `pass_marks` (src/mark.rt).
 -- Why it holds: What is left to walk leads to the answer of the whole walk. So the first refusal
 -- and the place at the end are the whole walk's.
--- Measure: `length marks - passed`, the marks still to pass.
 -- What would break it: A walk that stopped one mark early, or took marks that end with an element
 -- open, would be caught at its return.
+use mathlib.Core.Path.{sym, ap, ◌∙◌}
 use native.Mathlib.Omega.{arith}
+use borrow.Author.Tests.{eqb-true, eqb-false}
+use Rattle.marks.specs.Private.Walk.{numbered}
 use Rattle.marks.proofs.Passing.{walk_start, walk_on, walk_stop, none_passed, left_open, all_closed}
 use Rattle.marks.proofs.mark.pass_marks.Goals as goal
+use Rattle.marks.proofs.mark.pass_marks.Goals.{then-is_empty-via-then-is_empty, then-is_empty-via-else-is_empty+then-place-gt0}
 
 pub loop-passed-init : goal.loop-passed-init
-loop-passed-init c = (omega arith, walk_start _)
+loop-passed-init c = walk_start _
 
 pub pass_mark-step-requires : goal.pass_mark-step-requires
-pass_mark-step-requires c = let w = c.loop-passed.invariant.1 in (omega (arith, w.depth), omega (arith, w.rows))
+pass_mark-step-requires c = let w = c.loop-passed.invariant in (omega (arith, w.depth), omega (arith, w.rows))
 
 pub returns-in_default : goal.returns-in_default
 returns-in_default c =
-    let l = c.loop-passed in
-    let a = c.args in
-    walk_stop a.marks.now l.invariant.1 (omega arith) _ c.pass_mark-step.ensures _ c.in_default.is
+    let q = c.in_default.is in
+    rw q (walk_stop c.args.marks.now c.loop-passed.invariant (omega arith) _ (ap numbered (sym q) ∙ c.pass_mark-step.ensures))
 
 pub loop-passed-preserved : goal.loop-passed-preserved
-loop-passed-preserved c =
+loop-passed-preserved c = walk_on c.args.marks.now c.loop-passed.invariant (omega arith) _ (ap numbered (sym c.in-Ok.is) ∙ c.pass_mark-step.ensures)
+
+pub returns-then-is_empty : goal.returns-then-is_empty
+returns-then-is_empty c =
     let l = c.loop-passed in
-    let a = c.args in
-    (omega arith, walk_on a.marks.now l.invariant.1 (omega arith) _ c.pass_mark-step.ensures _ c.in-Reached.is)
-
-pub returns-then-passed-eq0 : goal.returns-then-passed-eq0
-returns-then-passed-eq0 c = none_passed c.args.marks.now c.loop-passed.invariant.1 (omega arith) c.if-passed-eq0.true
-
-pub returns-then-place-gt0 : goal.returns-then-place-gt0
-returns-then-place-gt0 c =
-    let a = c.args in
-    left_open a.marks.now c.loop-passed.invariant.1 (omega arith) (omega arith)
+    elim c.then-is_empty.branch [
+      | then-is_empty-via-then-is_empty w ↦ let e = eqb-true _ _ (sym c.is_empty.ensures ∙ w.if-is_empty.true) in
+          none_passed c.args.marks.now l.invariant (omega arith) (omega (arith, e))
+      | then-is_empty-via-else-is_empty+then-place-gt0 w ↦ left_open c.args.marks.now l.invariant (omega arith) (omega arith)
+    ]
 
 pub returns : goal.returns
 returns c =
-    let a = c.args in
-    all_closed a.marks.now c.loop-passed.invariant.1 (omega arith) c.if-passed-eq0.false (omega arith)
+    let n = eqb-false _ _ (sym c.is_empty.ensures ∙ c.if-is_empty.false) in
+    all_closed c.args.marks.now c.loop-passed.invariant (omega arith) (λ z. n (omega arith)) (omega arith)

@@ -3,13 +3,17 @@
 -- counted on the way, and the rows are written last.
 -- What would break it: A refusal out of its turn, room for marks in place of rows, or another count
 -- would be caught at its return.
-use mathlib.Core.Path.{◌≡◌, sym, ap, ◌∙◌}
+use mathlib.Core.Path.{◌≡◌, refl, sym, ap, ◌∙◌}
 use mathlib.Core.List.{List}
 use Prim.Native.Nat.{ℕ, ◌*◌, ◌/◌, ◌≤◌, ◌<◌}
 use native.Mathlib.Omega.{arith}
 use lib.ListN.{length}
 use borrow.Author.Tests.{lt-ltb, le-ltb}
+use Rattle.std.specs.Prelude.{Err}
+use Rattle.std.proofs.lemmas.Result.{err_from_is_err_and}
 use Rattle.answers.specs.Answer.{TAKEN, LONG, ROOM}
+use Rattle.answers.specs.Refusal.{counted_in}
+use Rattle.answers.specs.declared.refusal.Fault.{Fault}
 use Rattle.nodes.specs.Words.{MOST_NODES}
 use Rattle.answers.specs.Output.{written}
 use Rattle.answers.specs.declared.verdict.Counted.{Counted}
@@ -68,32 +72,33 @@ module _ (document : ℕ) (marks out : List ℕ) where
 pub returns-then-marks-gt-MOST_NODES : goal.returns-then-marks-gt-MOST_NODES
 returns-then-marks-gt-MOST_NODES c =
     let a = c.args in
-    long a.document a.marks.now a.out.now _ (omega arith) c.wrote_nothing.ensures
+    long a.document a.marks.now a.out.now _ (omega arith) (ap (λ (f : Fault). counted_in (Err f)) c.into.ensures)
 
-pub returns-in_default : goal.returns-in_default
-returns-in_default c =
+pub returns-in_err-rows : goal.returns-in_err-rows
+returns-in_err-rows c =
     let a = c.args in
-    let o = one_refused a.marks.now _ c.pass_marks-step.ensures _ c.in_default.is in
-    faulty a.document a.marks.now a.out.now _ _ (omega arith) (c.answer_in.ensures ∙ o.0, o.1) c.wrote_nothing-in_default.ensures
+    let p = err_from_is_err_and c.from_residual.result c.from_residual.ensures.1 in
+    let o = one_refused a.marks.now _ c.in_err-rows.ensures in
+    rw (p.1, p.2) (faulty a.document a.marks.now a.out.now _ _ (omega arith) o refl)
 
 pub returns-then-row_count-rows : goal.returns-then-row_count-rows
 returns-then-row_count-rows c =
     let a = c.args in
-    let g = all_passed a.marks.now _ c.pass_marks-step.ensures _ c.in-Reached.is in
+    let g = all_passed a.marks.now _ c.in_ok-rows.ensures in
     let taken = check_make a.marks.now (omega arith) g.0 in
     let few = g.1 in
-    no_room a.document a.marks.now a.out.now taken _ (omega arith) c.wrote_nothing-then-row_count-rows.ensures
+    no_room a.document a.marks.now a.out.now taken _ (omega arith) (ap (λ (f : Fault). counted_in (Err f)) c.into-then-row_count-rows.ensures)
 
 pub write_rows-requires : goal.write_rows-requires
 write_rows-requires c =
     let a = c.args in
-    let g = all_passed a.marks.now _ c.pass_marks-step.ensures _ c.in-Reached.is in
+    let g = all_passed a.marks.now _ c.in_ok-rows.ensures in
     let taken = check_make a.marks.now (omega arith) g.0 in
     (taken, g.1, omega arith)
 
 pub returns : goal.returns
 returns c =
     let a = c.args in
-    let g = all_passed a.marks.now _ c.pass_marks-step.ensures _ c.in-Reached.is in
+    let g = all_passed a.marks.now _ c.in_ok-rows.ensures in
     let taken = check_make a.marks.now (omega arith) g.0 in
-    whole a.document a.marks.now a.out.now taken _ _ _ g.1 (omega arith) c.wrote.ensures c.write_rows.ensures
+    whole a.document a.marks.now a.out.now taken _ _ _ g.1 (omega arith) refl c.write_rows.ensures

@@ -1,6 +1,5 @@
 -- Function: `count_tag` (src/pick.rt).
 -- Why it holds: The count is that of the rows passed, and each row with the tag adds one.
--- Measure: `length table / ROW_WORDS - index`, the rows still to pass.
 -- What would break it: A row of another tag counted, or the last row passed over, would be caught
 -- at the loop or at the return.
 use mathlib.Core.Path.{◌≡◌, sym, ap, ◌∙◌}
@@ -23,28 +22,26 @@ module _ (tag : ℕ) (table : List ℕ) (index : ℕ) (h : index < length table 
   counted_no k = rw (firsts_no tag table index h r e k) f
 
 pub loop-index-init : goal.loop-index-init
-loop-index-init c = let a = c.args in (omega arith, sym (ap length (firsts_none a.tag a.table.now)))
+loop-index-init c = let a = c.args in sym (ap length (firsts_none a.tag a.table.now))
 
 pub overflow_add-found : goal.overflow_add-found
 overflow_add-found c =
     let a = c.args in
     let l = c.loop-index in
-    omega (arith, firsts_few a.tag a.table.now l.index, l.invariant.1)
+    omega (arith, firsts_few a.tag a.table.now l.index, l.invariant)
 
 pub loop-index-preserved : goal.loop-index-preserved
 loop-index-preserved c =
     let l = c.loop-index in
     let a = c.args in
-    let q = c.row_at-row.ensures in (
-      omega arith,
-      elim c.if-row-tag.branch [
-        | then-row-tag w ↦ w.found-is ∙ counted_yes a.tag a.table.now l.index (omega arith) _ q l.invariant.1 w.if-row-tag.true
-        | else-row-tag w ↦ w.found-is ∙ counted_no a.tag a.table.now l.index (omega arith) _ q l.invariant.1 w.if-row-tag.false
-      ],
-    )
+    let q = c.row_at-row.ensures in
+    elim c.if-row-tag.branch [
+      | then-row-tag w ↦ w.found-is ∙ counted_yes a.tag a.table.now l.index (omega arith) _ q l.invariant w.if-row-tag.true
+      | else-row-tag w ↦ w.found-is ∙ counted_no a.tag a.table.now l.index (omega arith) _ q l.invariant w.if-row-tag.false
+    ]
 
 pub returns : goal.returns
 returns c =
     let a = c.args in
     let l = c.loop-index in
-    l.invariant.1 ∙ ap length (firsts_all a.tag a.table.now l.index (omega arith))
+    l.invariant ∙ ap length (firsts_all a.tag a.table.now l.index (omega arith))

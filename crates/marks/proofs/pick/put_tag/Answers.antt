@@ -1,7 +1,6 @@
 -- Function: `put_tag` (src/pick.rt).
 -- Why it holds: The words written are those of the nodes picked from the rows passed. Each row with
 -- the tag adds its own.
--- Measure: `length table / ROW_WORDS - index`, the rows still to pass.
 -- What would break it: A node of another tag copied, or one written over another, would be caught
 -- at the loop.
 use mathlib.Core.Path.{◌≡◌, refl, sym, ap, ◌∙◌}
@@ -58,13 +57,13 @@ unfolding picked_words
 ends tag table out₀ index found out h p = p.output ∙ ap (λ ns. written (words_in words_of ns) out₀) (firsts_all tag table index h)
 
 pub loop-index-init : goal.loop-index-init
-loop-index-init c = (omega arith, starts _ _ _)
+loop-index-init c = starts _ _ _
 
 pub overflow_add-found : goal.overflow_add-found
 overflow_add-found c =
     let a = c.args in
     let l = c.loop-index in
-    omega (arith, firsts_few a.tag a.table.now l.index, l.invariant.1.few)
+    omega (arith, firsts_few a.tag a.table.now l.index, l.invariant.few)
 
 pub loop-index-preserved : goal.loop-index-preserved
 loop-index-preserved c =
@@ -74,18 +73,16 @@ loop-index-preserved c =
     let out = s.args.out.now in
     let q = c.row_at-row.ensures in
     let i = l.index in
-    let p = l.invariant.1 in (
-      omega arith,
-      elim c.if-row-tag.branch [
-        | then-row-tag w ↦ added_yes s.args.tag table out i (omega arith) _ q _ _ p _ _ s.requires w.if-row-tag.true (w.out-is ∙ w.put_node.ensures) w.found-is
-        | else-row-tag w ↦ added_no s.args.tag table out i (omega arith) _ q _ _ p _ _ w.if-row-tag.false w.out-is w.found-is
-      ],
-    )
+    let p = l.invariant in
+    elim c.if-row-tag.branch [
+      | then-row-tag w ↦ added_yes s.args.tag table out i (omega arith) _ q _ _ p _ _ s.requires w.if-row-tag.true (w.out-is ∙ w.put_node.ensures) w.found-is
+      | else-row-tag w ↦ added_no s.args.tag table out i (omega arith) _ q _ _ p _ _ w.if-row-tag.false w.out-is w.found-is
+    ]
 
 pub shape_of-out : goal.shape_of-out
-shape_of-out c = c.loop-index.invariant.1.same
+shape_of-out c = c.loop-index.invariant.same
 
 pub returns : goal.returns
 returns c =
     let a = c.args in
-    ends a.tag a.table.now a.out.now _ _ _ (omega arith) c.loop-index.invariant.1
+    ends a.tag a.table.now a.out.now _ _ _ (omega arith) c.loop-index.invariant

@@ -1,11 +1,10 @@
--- The invariant and the measure of `put_tag`; Answers.antt says why they hold.
+-- The invariant of `put_tag`; Answers.antt says why they hold.
 use mathlib.Core.Path.{◌≡◌}
 use mathlib.Core.List.{List}
-use Prim.Native.Nat.{ℕ, ◌-◌, ◌/◌, ◌≤◌}
+use Prim.Native.Nat.{ℕ}
 use lib.ListN.{length}
 use Rattle.nodes.specs.Words.{words_of}
 use Rattle.answers.specs.Output.{words_in, written}
-use Rattle.marks.specs.Table.{ROW_WORDS}
 use Rattle.marks.proofs.Picking.{firsts_with}
 use Rattle.marks.proofs.pick.put_tag.Given as goal
 
@@ -16,7 +15,4 @@ pub record Puts (tag : ℕ) (table out₀ : List ℕ) (index found : ℕ) (out :
   pub output : out ≡ written (words_in words_of (firsts_with tag table index)) out₀
 
 abbrev pub invariant-loop-index : goal.invariant-loop-index
-invariant-loop-index l = (l.index ≤ length l.table / ROW_WORDS) × Puts l.tag l.table l.initial.out l.index l.found l.out
-
-abbrev pub decreases-loop-index : goal.decreases-loop-index
-decreases-loop-index l = length l.table / ROW_WORDS - l.index
+invariant-loop-index l = Puts l.tag l.table l.initial.out l.index l.found l.out

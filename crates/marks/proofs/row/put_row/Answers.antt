@@ -5,8 +5,7 @@ use mathlib.Core.Path.{◌≡◌}
 use mathlib.Core.List.{List}
 use Prim.Native.Nat.{ℕ, ◌+◌}
 use native.Mathlib.Numerals.{towards_suc}
-use native.Mathlib.Omega.{arith}
-use lib.ListN.{set, length-set}
+use lib.ListN.{set}
 use lib.Seq.{sets}
 use Rattle.nodes.specs.Words.{words_of}
 use Rattle.marks.specs.declared.row.Row.{Row}
@@ -18,18 +17,6 @@ five_stores : (ws : List ℕ) (at : ℕ) (r : Row)
     (at + 4) r.tag ≡ sets ws at (row_words r)
 unfolding row_words words_of
 five_stores ws at r = simp towards_suc
-
-pub bounds-out-at-2 : goal.bounds-out-at-2
-bounds-out-at-2 c = simp length-set (omega arith)
-
-pub bounds-out-at-3 : goal.bounds-out-at-3
-bounds-out-at-3 c = simp length-set (omega arith)
-
-pub bounds-out-at-4 : goal.bounds-out-at-4
-bounds-out-at-4 c = simp length-set (omega arith)
-
-pub bounds-out-at-5 : goal.bounds-out-at-5
-bounds-out-at-5 c = simp length-set (omega arith)
 
 pub returns : goal.returns
 returns c = five_stores _ _ _

@@ -2,15 +2,20 @@
 -- Why it holds: The tests are those of `fitsb` for a mark that is no close, one by one.
 -- What would break it: A comparison with a row that isn't the last one left, or a faulty mark let
 -- through, would be caught at its return.
-use mathlib.Core.Path.{◌≡◌, sym, ◌∙◌}
+use mathlib.Core.Path.{◌≡◌, refl, sym, ◌∙◌}
 use mathlib.Core.Logic.{inl, inr}
-use mathlib.Core.Bool.{Bool, true, false, ◌||◌}
+use mathlib.Core.Bool.{true, false, ◌&&◌, ◌||◌}
 use mathlib.Core.List.{List}
 use Prim.Native.Nat.{ℕ, ◌-◌, ◌<◌}
-use lib.Dec.{ltb}
-use borrow.Author.Tests.{ltb-true, eqb-true, eq-eqb, ne_eqb}
+use lib.Dec.{ltb, eqb}
+use borrow.Author.Tests.{ltb-true, eqb-true, ne_eqb}
+use Rattle.std.specs.Prelude.{Result, Ok, Err, is_ok}
 use Rattle.answers.specs.Answer.{TAKEN}
+use Rattle.answers.specs.Refusal.{answer_in}
+use Rattle.answers.specs.declared.refusal.Refusal.{Refusal}
+use Rattle.answers.proofs.RefusalLaws.{never_taken}
 use Rattle.laws.proofs.Tests.{or_read}
+use Rattle.nodes.specs.Node.{sameb}
 use Rattle.marks.specs.declared.mark.MarkPlace.{MarkPlace}
 use Rattle.marks.specs.declared.row.Row.{Row}
 use Rattle.marks.specs.Back.{same_rowb}
@@ -18,46 +23,61 @@ use Rattle.marks.specs.Mark.{CLOSE, TEXT, textb, mark_fault}
 use Rattle.marks.specs.Table.{row_in}
 use Rattle.marks.specs.Private.Walk.{open_before, row_here, fitsb}
 use Rattle.marks.proofs.unnumber.is_fitting.Goals as goal
+use Rattle.marks.proofs.unnumber.is_fitting.Goals.{then-is_opened, else-is_opened}
 
-opened : (depth mark : ℕ) (b : Bool) → b ≡ (textb mark || ltb 0 depth) → b ≡ true → (mark ≡ TEXT → ⊥) → 0 < depth
-opened depth mark b e h t = elim (or_read (textb mark) (sym e ∙ h)) [ inl k ↦ absurd (t (eqb-true _ _ k)) | inr k ↦ ltb-true _ _ k ]
+opened : (depth mark : ℕ) → true ≡ (textb mark || ltb 0 depth) → (mark ≡ TEXT → ⊥) → 0 < depth
+opened depth mark e t = elim (or_read (textb mark) (sym e)) [ inl k ↦ absurd (t (eqb-true _ _ k)) | inr k ↦ ltb-true _ _ k ]
 
-module _ (rs : List Row) (document position : ℕ) (kept : List ℕ) (q : MarkPlace) (mark : ℕ) (n : mark ≡ CLOSE → ⊥) (b : Bool)
-    (e : b ≡ (textb mark || ltb 0 q.depth)) where
-  unopened : b ≡ false → false ≡ fitsb rs document position kept q mark
+module _ (rs : List Row) (document position : ℕ) (kept : List ℕ) (q : MarkPlace) (mark : ℕ) (n : mark ≡ CLOSE → ⊥) where
+  unopened : false ≡ (textb mark || ltb 0 q.depth) → false ≡ fitsb rs document position kept q mark
   unfolding fitsb
-  unopened h = rw (ne_eqb mark CLOSE n, ← e, h)
+  unopened e = rw (ne_eqb mark CLOSE n, ← e)
 
-  module _ (h : b ≡ true) (before fault : ℕ) (eb : before ≡ open_before q.depth mark) (ef : fault ≡ mark_fault position before mark) where
-    faulty : (fault ≡ TAKEN → ⊥) → false ≡ fitsb rs document position kept q mark
+  module _ (e : true ≡ (textb mark || ltb 0 q.depth)) (before : ℕ) (eb : before ≡ open_before q.depth mark) where
+    faulty : (r : Result (Unit {0}) Refusal) → answer_in r ≡ mark_fault position before mark → is_ok r ≡ false
+        → false ≡ fitsb rs document position kept q mark
     unfolding fitsb
-    faulty f = rw (ne_eqb mark CLOSE n, ← e, h, ← eb, ← ef, ne_eqb fault TAKEN f)
+    faulty (Ok _) f k = cc
+    faulty (Err r) f k = rw (ne_eqb mark CLOSE n, ← e, ← eb, ← f, ne_eqb _ TAKEN (never_taken r))
 
-    compared : fault ≡ TAKEN → (x y : Row) → x ≡ row_here document position kept q.depth mark → y ≡ row_in rs (q.rows - 1) → (same : Bool)
-        → same ≡ same_rowb x y → same ≡ fitsb rs document position kept q mark
+    compared : (r : Result (Unit {0}) Refusal) → answer_in r ≡ mark_fault position before mark → is_ok r ≡ true
+        → (x y : Row) → x ≡ row_here document position kept q.depth mark → y ≡ row_in rs (q.rows - 1) → same_rowb x y ≡ fitsb rs document position kept q mark
     unfolding fitsb
-    compared f x y ex ey same s = rw (ne_eqb mark CLOSE n, ← e, h, ← eb, ← ef, eq-eqb fault TAKEN f, ← ex, ← ey) s
+    compared (Ok _) f k x y ex ey = rw (ne_eqb mark CLOSE n, ← e, ← eb, ← f, ← ex, ← ey) refl
+    compared (Err r) f k x y ex ey = cc
 
-pub returns-then-not-is_opened : goal.returns-then-not-is_opened
-returns-then-not-is_opened c =
-    unopened _ _ _ _ _ _ c.requires.0 _ c.is_opened.ensures c.if-not-is_opened.true
+-- The rows are the same where their words are.
+same_words : (x y : Row)
+    → ((eqb x.node.document y.node.document && (eqb x.node.start y.node.start && (eqb x.node.end y.node.end && eqb x.node.level y.node.level)))
+    && eqb x.tag y.tag) ≡ same_rowb x y
+unfolding same_rowb sameb
+same_words x y = refl
 
 pub open_before-requires : goal.open_before-requires
-open_before-requires c =
-    (c.requires.0, opened _ _ _ c.is_opened.ensures c.if-not-is_opened.false)
-
-pub returns-then-mark_fault-ne-TAKEN : goal.returns-then-mark_fault-ne-TAKEN
-returns-then-mark_fault-ne-TAKEN c =
-    faulty _ _ _ _ _ _ c.requires.0 _ c.is_opened.ensures c.if-not-is_opened.false _ _
-    c.open_before.ensures c.mark_fault.ensures c.if-mark_fault-ne-TAKEN.true
+open_before-requires c = (c.requires.0, opened _ _ c.if-is_opened.ensures)
 
 pub row_here-requires : goal.row_here-requires
 row_here-requires c =
     let p = c.requires in
-    (p.0, opened _ _ _ c.is_opened.ensures c.if-not-is_opened.false, p.1)
+    elim c.if-is_opened.branch [
+      | then-is_opened w ↦ (p.0, opened _ _ w.if-is_opened.ensures, p.1)
+      | else-is_opened w ↦ cc
+    ]
 
-pub returns : goal.returns
-returns c =
-    compared _ _ _ _ _ _ c.requires.0 _ c.is_opened.ensures (c.if-not-is_opened.false) _ _
-    c.open_before.ensures c.mark_fault.ensures c.if-mark_fault-ne-TAKEN.false _ _ c.row_here.ensures
-    c.row_at.ensures _ c.is_same_row.ensures
+pub returns-then-is_ok : goal.returns-then-is_ok
+returns-then-is_ok c =
+    elim c.if-is_opened.branch [
+      | then-is_opened w ↦ c.eq.ensures ∙ same_words _ _
+          ∙ compared _ _ _ _ _ _ c.requires.0 w.if-is_opened.ensures _ w.open_before.ensures _ w.check_mark.ensures
+          (sym w.is_ok.ensures.value ∙ sym w.value-is ∙ c.if-is_ok.true) _ _ c.row_here.ensures c.row_at.ensures
+      | else-is_opened w ↦ cc
+    ]
+
+pub returns-else-is_ok : goal.returns-else-is_ok
+returns-else-is_ok c =
+    c.if-is_ok.false
+    ∙ elim c.if-is_opened.branch [
+      | then-is_opened w ↦ faulty _ _ _ _ _ _ c.requires.0 w.if-is_opened.ensures _ w.open_before.ensures _ w.check_mark.ensures
+          (sym w.is_ok.ensures.value ∙ sym w.value-is ∙ c.if-is_ok.false)
+      | else-is_opened w ↦ unopened _ _ _ _ _ _ c.requires.0 w.if-is_opened.ensures
+    ]

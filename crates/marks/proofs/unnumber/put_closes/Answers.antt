@@ -1,33 +1,19 @@
 -- Function: `put_closes` (src/unnumber.rt).
--- Why it holds: At each turn the output begins with `put` closes and is otherwise as it was.
--- Measure: `count - put`, the closes still to put.
--- What would break it: A close put elsewhere, or one too few, would be caught at the next turn or
--- at the return.
-use mathlib.Core.Path.{◌≡◌, refl, ap, ◌∙◌}
-use Prim.Native.Nat.{zero-le}
-use native.Mathlib.Omega.{arith}
-use lib.ListN.{set, replicate, length-set}
+-- Why it holds: The first `count` words are filled with closes, and the others are as they were.
+-- What would break it: One close too few, or another word, would be caught at the return.
+use mathlib.Core.Path.{◌≡◌, refl}
+use mathlib.Core.List.{List, ◌++◌}
+use Prim.Native.Nat.{ℕ, ◌≤◌}
+use lib.ListN.{length, take, drop, replicate, length-replicate}
+use Rattle.std.proofs.Common.{length-take-le}
 use Rattle.answers.specs.Output.{written}
 use Rattle.marks.specs.Mark.{CLOSE}
-use Rattle.marks.proofs.Tagging.{close_more}
 use Rattle.marks.proofs.unnumber.put_closes.Goals as goal
 
-pub loop-put-init : goal.loop-put-init
+all_put : (count : ℕ) (out front : List ℕ) → count ≤ length out → front ≡ replicate (length (take count out)) CLOSE
+    → front ++ drop count out ≡ written (replicate count CLOSE) out
 unfolding written
-loop-put-init c = (zero-le, refl, refl)
-
-pub loop-put-preserved : goal.loop-put-preserved
-loop-put-preserved c =
-    let l = c.loop-put in
-    let out = c.args.out.now in (
-      omega arith,
-      length-set l.out l.put CLOSE ∙ l.invariant.1,
-      ap (λ ws. set ws l.put CLOSE) l.invariant.2 ∙ close_more l.put out (omega arith),
-    )
+all_put count out front h e = rw (e, length-take-le count out h, length-replicate count CLOSE) refl
 
 pub returns : goal.returns
-returns c =
-    let l = c.loop-put in
-    let a = c.args in
-    let e : l.put ≡ a.count = omega arith in
-    l.invariant.2 ∙ ap (λ k. written (replicate k CLOSE) a.out.now) e
+returns c = all_put _ _ _ c.requires (c.fill.ensures.after (λ y e. e))

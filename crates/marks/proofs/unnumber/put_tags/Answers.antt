@@ -1,13 +1,12 @@
 -- Function: `put_tags` (src/unnumber.rt).
 -- Why it holds: The tags from the index on, put into the output, give the same as all tags put into
 -- the output as it was.
--- Measure: `length table / ROW_WORDS - index`, the rows still to pass.
 -- What would break it: A tag put one mark off, or a row passed over, would be caught at the next
 -- turn.
 use borrow.Author.Rules.{rules}
 use mathlib.Core.Path.{◌≡◌, refl, ◌∙◌}
 use mathlib.Core.List.{List}
-use Prim.Native.Nat.{ℕ, ◌+◌, ◌-◌, ◌/◌, ◌≤◌, ◌<◌, zero-le}
+use Prim.Native.Nat.{ℕ, ◌+◌, ◌-◌, ◌/◌, ◌≤◌, ◌<◌}
 use native.Mathlib.Omega.{arith}
 use lib.ListN.{length, drop, set, length-set}
 use Rattle.laws.specs.Choose.{All}
@@ -34,7 +33,7 @@ unfolding tagged
 put_all ws out i h = rw (rows_beyond ws i h) refl
 
 pub loop-index-init : goal.loop-index-init
-loop-index-init c = (zero-le, refl, refl)
+loop-index-init c = (refl, refl)
 
 pub overflow_sub-out : goal.overflow_sub-out
 overflow_sub-out c =
@@ -54,9 +53,9 @@ bounds-out-row c =
 pub loop-index-preserved : goal.loop-index-preserved
 loop-index-preserved c =
     let l = c.loop-index in
-    (omega arith, length-set l.out _ _ ∙ l.invariant.1, put_on _ l.out l.index _ c.row_at-row.ensures (omega arith) ∙ l.invariant.2)
+    (length-set l.out _ _ ∙ l.invariant.0, put_on _ l.out l.index _ c.row_at-row.ensures (omega arith) ∙ l.invariant.1)
 
 pub returns : goal.returns
 returns c =
     let l = c.loop-index in
-    put_all _ l.out l.index (omega arith) ∙ l.invariant.2
+    put_all _ l.out l.index (omega arith) ∙ l.invariant.1

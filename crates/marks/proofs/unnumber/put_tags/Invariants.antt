@@ -1,14 +1,10 @@
--- The invariant and the measure of `put_tags`; Answers.antt says why they hold.
+-- The invariant of `put_tags`; Answers.antt says why they hold.
 use mathlib.Core.Path.{◌≡◌}
-use Prim.Native.Nat.{◌-◌, ◌/◌, ◌≤◌}
 use lib.ListN.{length, drop}
 use Rattle.marks.specs.Back.{tagged}
-use Rattle.marks.specs.Table.{ROW_WORDS, rows}
+use Rattle.marks.specs.Table.{rows}
 use Rattle.marks.proofs.unnumber.put_tags.Given as goal
 
 abbrev pub invariant-loop-index : goal.invariant-loop-index
 invariant-loop-index l =
-    (l.index ≤ length l.table / ROW_WORDS) × (length l.out ≡ length l.initial.out) × (tagged (drop l.index (rows l.table)) l.out ≡ tagged (rows l.table) l.initial.out)
-
-abbrev pub decreases-loop-index : goal.decreases-loop-index
-decreases-loop-index l = length l.table / ROW_WORDS - l.index
+    (length l.out ≡ length l.initial.out) × (tagged (drop l.index (rows l.table)) l.out ≡ tagged (rows l.table) l.initial.out)

@@ -1,4 +1,4 @@
--- The invariant and the measure of `reads_back`; Answers.antt says why they hold.
+-- The invariant of `reads_back`; Answers.antt says why they hold.
 use mathlib.Core.Path.{◌≡◌}
 use mathlib.Core.List.{List}
 use Prim.Native.Nat.{ℕ, ◌≤◌}
@@ -16,8 +16,5 @@ pub record Reads (rs : List Row) (document last : ℕ) (kept : List ℕ) (q : Ma
   pub few : q.rows ≤ length rs
   pub same : reads_back rs document position kept q ≡ all_read_back rs document last
 
-abbrev pub invariant-loop-position : goal.invariant-loop-position
-invariant-loop-position l = Reads (rows l.table) l.document l.last l.closes l.place l.position
-
-abbrev pub decreases-loop-position : goal.decreases-loop-position
-decreases-loop-position l = l.position
+abbrev pub invariant-loop-before : goal.invariant-loop-before
+invariant-loop-before l = Reads (rows l.table) l.document l.last l.closes l.place l.before

@@ -9,9 +9,9 @@ use mathlib.Core.List.{List}
 use Prim.Native.Nat.{ℕ, ◌<◌}
 use native.Mathlib.Omega.{arith}
 use borrow.Author.Tests.{lt-ltb, le-ltb, ne_eqb}
+use Rattle.std.specs.Prelude.{Some}
 use Rattle.nodes.specs.Node.{MOST_LEVELS}
 use Rattle.marks.specs.declared.mark.MarkPlace.{MarkPlace}
-use Rattle.marks.specs.declared.mark.Step.TheVariants.{Reached}
 use Rattle.marks.specs.declared.row.Row.{Row}
 use Rattle.marks.specs.Mark.{CLOSE, TEXT}
 use Rattle.marks.specs.Private.Walk.{before_mark, closes_before, mark_here, fitsb, SteppedBack}
@@ -24,7 +24,7 @@ module _ (rs : List Row) (document position : ℕ) (kept : List ℕ) (q : MarkPl
   full h d = rw (sym m ∙ h) (le-ltb q.depth MOST_LEVELS (omega arith))
 
   closed : mark ≡ CLOSE → q.depth < MOST_LEVELS → (p : MarkPlace) → p ≡ before_mark q CLOSE → (after : List ℕ)
-      → after ≡ closes_before kept position q.depth CLOSE → SteppedBack rs document position kept q (Reached p) after
+      → after ≡ closes_before kept position q.depth CLOSE → SteppedBack rs document position kept q (Some p) after
   unfolding fitsb
   closed h d p ep after ea = rw (sym m ∙ h) (lt-ltb q.depth MOST_LEVELS d, ep, ea)
 
@@ -32,7 +32,7 @@ module _ (rs : List Row) (document position : ℕ) (kept : List ℕ) (q : MarkPl
     unfit : b ≡ false → fitsb rs document position kept q (mark_here rs q.rows position) ≡ false
     unfit h = rw (← m) (sym e ∙ h)
 
-    fit : b ≡ true → (mark ≡ CLOSE → ⊥) → (p : MarkPlace) → p ≡ before_mark q mark → SteppedBack rs document position kept q (Reached p) kept
+    fit : b ≡ true → (mark ≡ CLOSE → ⊥) → (p : MarkPlace) → p ≡ before_mark q mark → SteppedBack rs document position kept q (Some p) kept
     unfolding closes_before
     fit h n p ep = rw (← m, ne_eqb mark CLOSE n) (sym e ∙ h, ep, refl)
 

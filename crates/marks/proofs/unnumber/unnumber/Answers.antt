@@ -10,7 +10,11 @@ use Prim.Native.Nat.{ℕ, ◌/◌, ◌≤◌, ◌<◌}
 use native.Mathlib.Omega.{arith}
 use lib.ListN.{length, replicate, length-replicate}
 use borrow.Author.Tests.{ne_eqb}
+use Rattle.std.proofs.lemmas.Result.{err_from_is_err_and}
 use Rattle.answers.specs.Answer.{TAKEN, ROOM, TABLE}
+use Rattle.answers.specs.Refusal.{number_of}
+use Rattle.answers.specs.declared.refusal.Refusal.{Refusal}
+use Rattle.answers.proofs.RefusalLaws.{never_taken}
 use Rattle.laws.specs.Choose.{All}
 use Rattle.answers.specs.Output.{written, answer_of, if_taken, output_of}
 use Rattle.laws.proofs.Choices.{all_map}
@@ -45,72 +49,68 @@ module _ (table out : List ℕ) where
   Answers r after = record { answer : r ≡ unnumber_outcome table out; output : after ≡ unnumber_output table out }
 
   -- What a refused call answers and leaves, and what a taken one does.
-  refuses : (k : ℕ) → answer_of (check_table table) (table_marks table) out ≡ k → (k ≡ TAKEN → ⊥) → (r : Unnumbered) → r ≡ unnumbered k 0 0
-      → Answers r out
+  refuses : (k : ℕ) → answer_of (check_table table) (table_marks table) out ≡ k → (k ≡ TAKEN → ⊥) → Answers (unnumbered k 0 0) out
   unfolding unnumber_outcome unnumber_output output_of if_taken
-  refuses k a n r e = rw (e, a, ne_eqb k TAKEN n) (record { answer = refl; output = refl })
+  refuses k a n = rw (a, ne_eqb k TAKEN n) (record { answer = refl; output = refl })
 
   takes : answer_of (check_table table) (table_marks table) out ≡ TAKEN
       → Answers (unnumbered TAKEN (document_of (rows table)) (length (table_marks table))) (written (table_marks table) out)
   unfolding unnumber_outcome unnumber_output output_of if_taken
   takes a = rw a (record { answer = refl; output = refl })
 
-  module _ (fault : ℕ) (q : fault ≡ row_fault table) where
-    checked : (fault ≡ TAKEN → ⊥) → check_table table ≡ fault
+  words_faulty : (r : Refusal) → number_of r ≡ row_fault table → Answers (unnumbered (number_of r) 0 0) out
+  unfolding check_table
+  words_faulty r q =
+      let n = never_taken r in
+      let e : check_table table ≡ number_of r = rw (← q, ne_eqb (number_of r) TAKEN n) in
+      refuses (number_of r) (rw e (answer_fault (number_of r) (table_marks table) out n)) n
+
+  module _ (whole : TAKEN ≡ row_fault table) (b : Bool) (e : b ≡ numberedb (rows table)) where
+    no_table : b ≡ false → Answers (unnumbered TABLE 0 0) out
     unfolding check_table
-    checked n = rw (← q, ne_eqb fault TAKEN n)
+    no_table h = refuses TABLE (rw (← whole, ← e, h) (answer_fault TABLE (table_marks table) out (λ z. omega arith))) (λ z. omega arith)
 
-    words_faulty : (fault ≡ TAKEN → ⊥) → (r : Unnumbered) → r ≡ unnumbered fault 0 0
-        → Answers r out
-    words_faulty n = refuses fault (rw (checked n) (answer_fault fault (table_marks table) out n)) n
-
-    module _ (whole : fault ≡ TAKEN) (b : Bool) (e : b ≡ numberedb (rows table)) where
-      no_table : b ≡ false → (r : Unnumbered) → r ≡ unnumbered TABLE 0 0 → Answers r out
+    module _ (h : b ≡ true) (root : Row) (first : root ≡ row_in (rows table) 0) where
+      accepted : check_table table ≡ TAKEN
       unfolding check_table
-      no_table h = refuses TABLE (rw (← q, whole, ← e, h) (answer_fault TABLE (table_marks table) out (λ z. omega arith))) (λ z. omega arith)
+      accepted = rw (← whole, ← e, h) refl
 
-      module _ (h : b ≡ true) (root : Row) (first : root ≡ row_in (rows table) 0) where
-        accepted : check_table table ≡ TAKEN
-        unfolding check_table
-        accepted = rw (← q, whole, ← e, h) refl
+      last : root.node.end ≡ length (table_marks table)
+      last = ap (λ r. r.node.end) first ∙ sym (count_marks table)
 
-        last : root.node.end ≡ length (table_marks table)
-        last = ap (λ r. r.node.end) first ∙ sym (count_marks table)
+      no_room : length out < root.node.end → Answers (unnumbered ROOM 0 0) out
+      no_room l = refuses ROOM (answer_room (check_table table) (table_marks table) out accepted (omega (arith, last))) (λ z. omega arith)
 
-        no_room : length out < root.node.end → (r : Unnumbered) → r ≡ unnumbered ROOM 0 0
-            → Answers r out
-        no_room l = refuses ROOM (answer_room (check_table table) (table_marks table) out accepted (omega (arith, last))) (λ z. omega arith)
+      roomy : root.node.end ≤ length out → answer_of (check_table table) (table_marks table) out ≡ TAKEN
+      roomy l = answer_taken (check_table table) (table_marks table) out accepted (omega (arith, last))
 
-        roomy : root.node.end ≤ length out → answer_of (check_table table) (table_marks table) out ≡ TAKEN
-        roomy l = answer_taken (check_table table) (table_marks table) out accepted (omega (arith, last))
+      marks_put : (closed after : List ℕ) → closed ≡ written (replicate root.node.end CLOSE) out → after ≡ tagged (rows table) closed
+          → after ≡ written (table_marks table) out
+      unfolding table_marks
+      marks_put closed after ec ea =
+          ea
+          ∙ ap (tagged (rows table)) ec
+          ∙ ap (λ r. tagged (rows table) (written (replicate r.node.end CLOSE) out)) first
+          ∙ puts_marks (rows table) (sym e ∙ h) out
 
-        marks_put : (closed after : List ℕ) → closed ≡ written (replicate root.node.end CLOSE) out → after ≡ tagged (rows table) closed
-            → after ≡ written (table_marks table) out
-        unfolding table_marks
-        marks_put closed after ec ea =
-            ea
-            ∙ ap (tagged (rows table)) ec
-            ∙ ap (λ r. tagged (rows table) (written (replicate r.node.end CLOSE) out)) first
-            ∙ puts_marks (rows table) (sym e ∙ h) out
+      taken : root.node.end ≤ length out → (closed after : List ℕ) → closed ≡ written (replicate root.node.end CLOSE) out
+          → after ≡ tagged (rows table) closed
+          → Answers (unnumbered TAKEN root.node.document root.node.end) after
+      unfolding document_of
+      taken l closed after ec ea =
+          let t = takes (roomy l) in
+          record {
+            answer = (λ i. unnumbered TAKEN (first i).node.document (last i)) ∙ t.answer;
+            output = marks_put closed after ec ea ∙ t.output;
+          }
 
-        taken : root.node.end ≤ length out → (closed after : List ℕ) → closed ≡ written (replicate root.node.end CLOSE) out
-            → after ≡ tagged (rows table) closed
-            → Answers (unnumbered TAKEN root.node.document root.node.end) after
-        unfolding document_of
-        taken l closed after ec ea =
-            let t = takes (roomy l) in
-            record {
-              answer = (λ i. unnumbered TAKEN (first i).node.document (last i)) ∙ t.answer;
-              output = marks_put closed after ec ea ∙ t.output;
-            }
-
-pub returns-then-fault-ne-TAKEN : goal.returns-then-fault-ne-TAKEN
-returns-then-fault-ne-TAKEN c = words_faulty _ _ _ c.row_fault-fault.ensures c.if-fault-ne-TAKEN.true _ c.no_marks.ensures
+pub returns-in_err-check_rows : goal.returns-in_err-check_rows
+returns-in_err-check_rows c =
+    let p = err_from_is_err_and c.from_residual.result c.from_residual.ensures.1 in
+    rw (p.1, p.2) (words_faulty _ _ _ c.in_err-check_rows.ensures)
 
 pub returns-then-not-is_numbered : goal.returns-then-not-is_numbered
-returns-then-not-is_numbered c =
-    no_table _ _ _ c.row_fault-fault.ensures c.if-fault-ne-TAKEN.false _ c.is_numbered.ensures
-    c.if-not-is_numbered.true _ c.no_marks-then-not-is_numbered.ensures
+returns-then-not-is_numbered c = no_table _ _ c.in_ok-check_rows.ensures _ c.is_numbered.ensures c.if-not-is_numbered.true
 
 pub row_at-root-requires : goal.row_at-root-requires
 row_at-root-requires c =
@@ -119,9 +119,7 @@ row_at-root-requires c =
 
 pub returns-then-out-count : goal.returns-then-out-count
 returns-then-out-count c =
-    no_room _ _ _ c.row_fault-fault.ensures c.if-fault-ne-TAKEN.false _ c.is_numbered.ensures
-    c.if-not-is_numbered.false _ c.row_at-root.ensures
-    (omega arith) _ c.no_marks-then-out-count.ensures
+    no_room _ _ c.in_ok-check_rows.ensures _ c.is_numbered.ensures c.if-not-is_numbered.false _ c.row_at-root.ensures (omega arith)
 
 pub put_tags-requires : goal.put_tags-requires
 put_tags-requires c =
@@ -129,5 +127,5 @@ put_tags-requires c =
 
 pub returns : goal.returns
 returns c =
-    taken _ _ _ c.row_fault-fault.ensures c.if-fault-ne-TAKEN.false _ c.is_numbered.ensures (c.if-not-is_numbered.false)
+    taken _ _ c.in_ok-check_rows.ensures _ c.is_numbered.ensures (c.if-not-is_numbered.false)
     _ c.row_at-root.ensures (omega arith) _ _ c.put_closes.ensures c.put_tags.ensures

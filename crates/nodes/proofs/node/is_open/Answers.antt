@@ -2,26 +2,16 @@
 -- Why it holds: The documents are compared first, and the end with the start only within one
 -- document, as `openb` does.
 -- What would break it: A strict comparison, or a document left out, would be caught at its return.
-use mathlib.Core.Path.{◌≡◌}
-use mathlib.Core.Bool.{false}
-use lib.Dec.{leb}
-use borrow.Author.Tests.{eq-eqb, ne_eqb}
-use native.Mathlib.Omega.{arith}
-use Rattle.nodes.specs.declared.node.Node.{Node}
+use Rattle.std.proofs.Common.{arith}
+use Rattle.std.proofs.lemmas.Grind.{common_steps}
+use Rattle.std.proofs.lemmas.Bool.Decides.{nat_tests}
 use Rattle.nodes.specs.Node.{openb}
 use Rattle.nodes.proofs.node.is_open.Goals as goal
 
-module _ (n e : Node) where
-  documents : (e.document ≡ n.document → ⊥) → false ≡ openb n e
-  unfolding openb
-  documents h = rw (ne_eqb _ _ h)
-
-  ends : e.document ≡ n.document → leb n.start e.end ≡ openb n e
-  unfolding openb
-  ends d = rw (eq-eqb _ _ d)
-
 pub returns-then-e-n : goal.returns-then-e-n
-returns-then-e-n c = documents _ _ c.if-e-n.true
+unfolding openb
+returns-then-e-n c = grind (arith, common_steps, nat_tests)
 
-pub returns : goal.returns
-returns c = ends _ _ (omega arith)
+pub returns-else-e-n : goal.returns-else-e-n
+unfolding openb
+returns-else-e-n c = grind (arith, common_steps, nat_tests)

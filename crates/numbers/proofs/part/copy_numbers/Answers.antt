@@ -1,16 +1,16 @@
 -- Function: `copy_numbers` (src/part.rt).
 -- Why it holds: The words begin with the numbers read so far, and each store adds the next number
 -- to them. The loop ends where the numbers or the words end.
--- Measure: `length words₀ - index`, the words still to fill.
 -- What would break it: A number stored one place off would be caught at the next turn, and a loop
 -- that ends too early at its return.
 use mathlib.Core.Path.{◌≡◌, refl, sym, ap, ◌∙◌}
 use mathlib.Core.List.{List, [], ◌∷◌}
-use Prim.Native.Nat.{ℕ, ◌+◌, ◌≤◌, ◌<◌, zero-le}
+use Prim.Native.Nat.{ℕ, ◌+◌, ◌<◌, min}
 use native.Mathlib.Numerals.{add-one}
 use native.Mathlib.Omega.{arith}
 use lib.ListN.{length, take, set, length-set}
-use lib.Seq.{take_all, take-suc, length-take-le}
+use lib.Seq.{take-suc, length-take-le}
+use Rattle.std.proofs.lemmas.List.{take_min}
 use Rattle.answers.specs.Output.{written}
 use Rattle.answers.proofs.OutputLaws.{written_more}
 use Rattle.numbers.specs.Little.{numbers, number_count, number_at}
@@ -31,40 +31,27 @@ one_more bs out ws i n h r q e =
     let m = written_more (take i (numbers bs)) (number_at bs i ∷ []) out (omega arith) in
     rw (e, q, add-one i, take-suc (numbers bs) i 0 (omega arith)) (rw t at m)
 
-module _ (bs out ws : List ℕ) (i : ℕ) (e : ws ≡ written (take i (numbers bs)) out) where
-  full : i ≡ length out → ws ≡ copied bs out
-  unfolding copied
-  full h = rw (← h) e
-
-  all_read : i ≤ length out → number_count bs ≤ i → ws ≡ copied bs out
-  unfolding copied
-  all_read h m =
-      let l = length_numbers bs in
-      let all = take_all i (numbers bs) (omega arith) ∙ sym (take_all (length out) (numbers bs) (omega arith)) in
-      e ∙ ap (λ ns. written ns out) all
+all_written : (bs out ws : List ℕ) (i n : ℕ) → n ≡ min (length out) (number_count bs) → i ≡ n
+    → ws ≡ written (take i (numbers bs)) out → ws ≡ copied bs out
+unfolding copied
+all_written bs out ws i n q h e =
+    let all = ap (λ k. take k (numbers bs)) (h ∙ q ∙ ap (min (length out)) (sym (length_numbers bs))) ∙ take_min (length out) (numbers bs) in
+    e ∙ ap (λ ns. written ns out) all
 
 pub loop-index-init : goal.loop-index-init
-loop-index-init c = (zero-le, zero-le, refl, none_yet c.args.bytes.now c.args.words.now)
+loop-index-init c = (refl, none_yet c.args.bytes.now c.args.words.now)
 
 pub loop-index-preserved : goal.loop-index-preserved
 loop-index-preserved c =
     let l = c.loop-index in
     let a = c.args in
-    let h : l.index < number_count a.bytes.now = c.if-index-bytes.true in (
-      omega arith,
-      omega arith,
-      length-set l.words l.index c.number_at.result ∙ l.invariant.2,
-      one_more a.bytes.now a.words.now l.words l.index _ h (omega arith) c.number_at.ensures l.invariant.3,
+    let e = c.min-index-end.ensures in (
+      length-set l.words l.index c.number_at.result ∙ l.invariant.0,
+      one_more a.bytes.now a.words.now l.words l.index _ (omega arith) (omega arith) c.number_at.ensures l.invariant.1,
     )
 
-pub returns-else-index-bytes : goal.returns-else-index-bytes
-returns-else-index-bytes c =
+pub returns : goal.returns
+returns c =
     let l = c.loop-index in
     let a = c.args in
-    all_read a.bytes.now a.words.now l.words l.index l.invariant.3 (omega arith) c.if-index-bytes.false
-
-pub returns-after-loop-index : goal.returns-after-loop-index
-returns-after-loop-index c =
-    let l = c.loop-index in
-    let a = c.args in
-    full a.bytes.now a.words.now l.words l.index l.invariant.3 (omega arith)
+    all_written a.bytes.now a.words.now l.words l.index _ c.min-index-end.ensures (omega arith) l.invariant.1

@@ -6,11 +6,12 @@
 -- would be caught at its return.
 use mathlib.Core.Path.{◌≡◌, sym, ap, ◌∙◌}
 use mathlib.Core.List.{List, []}
-use Prim.Native.Nat.{ℕ, ◌+◌, ◌-◌, ◌≤◌}
+use Prim.Native.Nat.{ℕ, ◌-◌, ◌≤◌, min}
 use native.Mathlib.Omega.{arith}
 use lib.ListN.{length, take, drop, length-drop, drop_of_length-le}
-use lib.Seq.{take_all, take-nil}
+use lib.Seq.{take-nil}
 use Rattle.numbers.specs.Part.{part_of}
+use Rattle.std.proofs.lemmas.List.{take_min}
 use Rattle.numbers.proofs.Places.{before_the_end, at_the_beginning}
 use Rattle.numbers.proofs.part.part_of.Goals as goal
 
@@ -19,23 +20,13 @@ module _ (bs : List ℕ) (from count : ℕ) where
   unfolding part_of
   beyond h = sym (ap (take count) (drop_of_length-le bs {i = from} h) ∙ take-nil count)
 
-  to_the_end : length bs - from ≤ count → take (length bs - from) (drop from bs) ≡ part_of bs from count
+  within : (n k : ℕ) → n ≡ min count (length bs - from) → k ≡ n → take k (drop from bs) ≡ part_of bs from count
   unfolding part_of
-  to_the_end h =
-      let e = length-drop from bs in
-      take_all (length bs - from) (drop from bs) (omega arith) ∙ sym (take_all count (drop from bs) (omega arith))
-
-  within : take (from + count - from) (drop from bs) ≡ part_of bs from count
-  unfolding part_of
-  within =
-      let e : from + count - from ≡ count = omega arith in
-      ap (λ k. take k (drop from bs)) e
+  within n k e q =
+      ap (λ m. take m (drop from bs)) (q ∙ e ∙ ap (min count) (sym (length-drop from bs))) ∙ take_min count (drop from bs)
 
 pub returns-then-bytes-from : goal.returns-then-bytes-from
 returns-then-bytes-from c = record { contents = beyond _ _ _ (omega arith); place = at_the_beginning _ _ _ (omega arith) }
 
-pub returns-then-bytes-from-2 : goal.returns-then-bytes-from-2
-returns-then-bytes-from-2 c = record { contents = to_the_end _ _ _ (omega arith); place = before_the_end _ _ _ _ (omega arith) (omega arith) }
-
 pub returns : goal.returns
-returns c = record { contents = within _ _ _; place = before_the_end _ _ _ _ (omega arith) (omega arith) }
+returns c = record { contents = within _ _ _ _ _ c.min.ensures (omega arith); place = before_the_end _ _ _ _ (omega arith) (omega arith) }

@@ -1,24 +1,14 @@
 -- Function: `hand_ancestor` (src/ancestors.rt).
--- Why it holds: An ancestor that isn't open at the first descendant after it has no run. Any other
--- hands out what is left of its run from a start on.
--- What would break it: A run that is wrongly taken to be empty, or a start that is passed, would be
--- caught at a return.
+-- Why it holds: The first descendant is in the run, and what is left of the run from a start on is
+-- handed out.
+-- What would break it: A run cut short, or a start that is passed, would be caught at the return.
 use Prim.Native.Nat.{◌/◌}
-use mathlib.Core.Path.{sym, subst, ◌∙◌}
+use mathlib.Core.Path.{◌≡◌, sym, subst}
+use mathlib.Core.Bool.{true}
 use Rattle.nodes.specs.Words.{node_at}
-use Rattle.tickets.specs.declared.ticket.Order.TheVariants.{Ancestor}
-use Rattle.pairs.specs.Private.Sweep.{Running}
-use Rattle.pairs.proofs.Stretches.{all_fit}
-use Rattle.pairs.proofs.Zones.{run_none, end_placed, ahead_placed, serve_run}
+use Rattle.pairs.specs.Private.Sweep.{Running, runningb}
+use Rattle.pairs.proofs.Zones.{end_placed, ahead_placed, serve_run}
 use Rattle.pairs.proofs.ancestors.hand_ancestor.Goals as goal
-
-pub returns-then-not-is_running : goal.returns-then-not-is_running
-returns-then-not-is_running c =
-    let a = c.args in
-    let p = c.requires in
-    let none = run_none a.descendants.now (node_at a.ancestors.now (a.i / 4)) a.relation a.past a.from _ _ p.5
-    c.node_from-ancestor.ensures c.is_running.ensures (c.if-not-is_running.true) in
-    record { guess = p.4; handed = all_fit Ancestor _ _ _ _ none }
 
 pub run_end-end-requires : goal.run_end-end-requires
 run_end-end-requires c =
@@ -26,8 +16,8 @@ run_end-end-requires c =
     let p = c.requires in (
       p.3.1,
       p.4,
-      subst (λ n. Running a.descendants.now n (a.from / 4)) (sym c.node_from-ancestor.ensures) p.5,
-      sym c.is_running.ensures ∙ c.if-not-is_running.false,
+      subst (λ n. Running a.descendants.now n (a.from / 4)) (sym c.node_from.ensures) p.5,
+      subst (λ n. runningb a.descendants.now n (a.from / 4) ≡ true) (sym c.node_from.ensures) p.6,
     )
 
 pub first_from-ahead-requires : goal.first_from-ahead-requires
@@ -35,7 +25,7 @@ first_from-ahead-requires c =
     let a = c.args in
     let p = c.requires in
     let e = c.run_end-end.ensures in
-    let t = end_placed a.descendants.now (node_at a.ancestors.now (a.i / 4)) a.from _ 0 0 _ p.3 p.5 c.node_from-ancestor.ensures e.aligned e.index in
+    let t = end_placed a.descendants.now (node_at a.ancestors.now (a.i / 4)) a.from _ 0 0 _ p.3 p.5 c.node_from.ensures e.aligned e.index in
     (p.3, t.0, t.1)
 
 pub hand_run-handed-requires : goal.hand_run-handed-requires
@@ -44,8 +34,8 @@ hand_run-handed-requires c =
     let p = c.requires in
     let e = c.run_end-end.ensures in
     let f = c.first_from-ahead.ensures in
-    let t = end_placed a.descendants.now (node_at a.ancestors.now (a.i / 4)) a.from _ 0 0 _ p.3 p.5 c.node_from-ancestor.ensures e.aligned e.index in
-    let s = ahead_placed a.descendants.now (node_at a.ancestors.now (a.i / 4)) a.from _ _ a.past _ p.3 p.5 c.node_from-ancestor.ensures e.aligned e.index f.aligned f.index in
+    let t = end_placed a.descendants.now (node_at a.ancestors.now (a.i / 4)) a.from _ 0 0 _ p.3 p.5 c.node_from.ensures e.aligned e.index in
+    let s = ahead_placed a.descendants.now (node_at a.ancestors.now (a.i / 4)) a.from _ _ a.past _ p.3 p.5 c.node_from.ensures e.aligned e.index f.aligned f.index in
     (p.0, p.1, p.2, s.0, t.0, s.1, s.2)
 
 pub returns : goal.returns
@@ -54,6 +44,6 @@ returns c =
     let p = c.requires in
     let e = c.run_end-end.ensures in
     let f = c.first_from-ahead.ensures in
-    let s = serve_run a.descendants.now (node_at a.ancestors.now (a.i / 4)) a.from _ _ a.past _ p.3 p.5 c.node_from-ancestor.ensures e.aligned e.index a.relation f.aligned f.index
+    let s = serve_run a.descendants.now (node_at a.ancestors.now (a.i / 4)) a.from _ _ a.past _ p.3 p.5 c.node_from.ensures e.aligned e.index a.relation f.aligned f.index
     a.out.now a.written c.hand_run-handed.ensures in
     record { guess = e.aligned; handed = s }

@@ -47,8 +47,8 @@ overflow_add-k c =
     let t = c.loop-k-test.true in
     search rules
 
-pub pair_with_descendants-handed-requires : goal.pair_with_descendants-handed-requires
-pair_with_descendants-handed-requires c =
+pub hand_group-handed-requires : goal.hand_group-handed-requires
+hand_group-handed-requires c =
     let p = c.requires in
     let l = c.loop-k in
     let m = l.invariant.4 in
@@ -64,7 +64,7 @@ returns-then-not-handed c =
     let t = c.loop-k-test.true in
     child_stop a.descendants.now (node_at a.ancestors.now (a.i / 4)) a.from l.k _ _ (p.3.0, i.4, omega (arith, p.4)) (omega (arith, p.4))
     p.5 i.5 (omega (arith, p.6, i.4, p.4)) c.node_from.ensures c.if-node_from-level.true i.1
-    _ _ c.pair_with_descendants-handed.ensures (not_read _ c.if-not-handed.true) i.7
+    _ _ c.hand_group-handed.ensures (not_read _ c.if-not-handed.true) i.7
 
 pub overflow_add-k-then-node_from-level : goal.overflow_add-k-then-node_from-level
 overflow_add-k-then-node_from-level c =
@@ -80,10 +80,10 @@ loop-k-preserved-then-node_from-level c =
     let l = c.loop-k in
     let i = l.invariant in
     let t = c.loop-k-test.true in
-    let done : c.pair_with_descendants-handed.result.done ≡ true = not_none _ c.if-not-handed.false in
+    let done : c.hand_group-handed.result.done ≡ true = not_none _ c.if-not-handed.false in
     let left = child_on a.descendants.now (node_at a.ancestors.now (a.i / 4)) a.from l.k _ _ (p.3.0, i.4, omega (arith, p.4)) (omega (arith, p.4))
     p.5 i.5 (omega (arith, p.6, i.4, p.4)) c.node_from.ensures c.if-node_from-level.true i.1
-    _ _ c.pair_with_descendants-handed.ensures done i.7 in (
+    _ _ c.hand_group-handed.ensures done i.7 in (
       omega arith,
       i.1,
       i.2,

@@ -14,7 +14,7 @@ returns-in-Inside c =
     let a = c.args in
     let p = c.requires in
     rw c.in-Inside.is
-    (served_as Ancestor a.out.now a.written (node_at a.ancestors.now (a.i / 4)) c.pair_with_descendants.ensures
+    (served_as Ancestor a.out.now a.written (node_at a.ancestors.now (a.i / 4)) c.hand_group.ensures
     (run_stretch a.descendants.now (node_at a.ancestors.now (a.i / 4)) a.from a.to p.5 p.6))
 
 pub returns-in-Directly : goal.returns-in-Directly

@@ -21,17 +21,6 @@ returns-then-to-k c =
       held = λ j l m. absurd (omega arith);
     }
 
-pub returns-then-ancestors-zone : goal.returns-then-ancestors-zone
-returns-then-ancestors-zone c =
-    let p = c.requires in
-    record {
-      zone_placed = p.1;
-      zone_later = omega arith;
-      next_placed = (omega arith, omega arith, omega arith);
-      next_later = omega arith;
-      held = λ j l m. absurd (omega arith);
-    }
-
 pub returns-then-not-is_after : goal.returns-then-not-is_after
 returns-then-not-is_after c =
     let p = c.requires in

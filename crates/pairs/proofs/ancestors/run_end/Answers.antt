@@ -53,8 +53,8 @@ returns-then-not-is_running-2 c =
       index = further_stops a.descendants.now a.ancestor a.from _ f (sym c.is_running-2.ensures ∙ c.if-not-is_running-2.true);
     }
 
-pub past_strides-far-requires : goal.past_strides-far-requires
-past_strides-far-requires c =
+pub past_run-requires : goal.past_run-requires
+past_run-requires c =
     let a = c.args in
     let p = c.requires in
     let f = near_in a.descendants.now a.ancestor a.from p.0 p.2 (sym c.is_running.ensures ∙ c.if-not-is_running.false)
@@ -67,6 +67,5 @@ returns c =
     let p = c.requires in
     let f = near_in a.descendants.now a.ancestor a.from p.0 p.2 (sym c.is_running.ensures ∙ c.if-not-is_running.false)
     _ c.past_guess-near.ensures (sym c.is_running-2.ensures ∙ c.if-not-is_running-2.false) in
-    let g = c.past_strides-far.ensures in
     let e = c.past_run.ensures in
-    record { aligned = e.aligned; index = e.index ∙ g.3 ∙ f.3 }
+    record { aligned = e.aligned; index = e.index ∙ f.3 }

@@ -19,8 +19,8 @@ first_match-from-requires c =
     let p = c.requires in
     ((omega arith, omega arith, omega arith), p.3, subst (λ d. Upon d (opened a.used a.stack.now)) (sym c.node_from.ensures) p.4)
 
-pub pair_with_ancestors-requires : goal.pair_with_ancestors-requires
-pair_with_ancestors-requires c =
+pub hand_group-requires : goal.hand_group-requires
+hand_group-requires c =
     let a = c.args in
     let p = c.requires in
     let m = c.first_match-from.ensures in
@@ -35,4 +35,4 @@ returns c =
     let f = c.first_from-ahead.ensures in
     let n = c.node_from.ensures in
     serve_ahead a.stack.now _ a.used _ a.past f.index a.relation (node_at a.descendants.now (a.at / 4)) _ n m.matches a.out.now
-    a.written c.pair_with_ancestors.ensures
+    a.written c.hand_group.ensures

@@ -23,7 +23,7 @@ use Rattle.pairs.proofs.descendants.sweep_descendants.Goals as goal
 
 pub samples-init : goal.samples-init
 unfolding leaders followers
-samples-init c =
+samples-init g c =
     let a = c.args in
     let same : 4 * a.first / 4 ≡ a.first = omega arith in
     let r = ready_start a.ancestors.now a.descendants.now c.requires.0 a.first _ c.requires.1 in (
@@ -38,13 +38,13 @@ samples-init c =
     )
 
 pub node_from-descendant-requires : goal.node_from-descendant-requires
-node_from-descendant-requires c = (c.samples.invariant.1.at, c.samples-test.true)
+node_from-descendant-requires g c = (c.samples.invariant.1.at, c.samples-test.true)
 
 pub still_open-left-requires : goal.still_open-left-requires
-still_open-left-requires c = (c.samples.invariant.1.stands c.samples-test.true).used_in
+still_open-left-requires g c = (c.samples.invariant.1.stands c.samples-test.true).used_in
 
 pub open_before-opened-requires : goal.open_before-opened-requires
-open_before-opened-requires c =
+open_before-opened-requires g c =
     let a = c.args in
     let l = c.samples in
     let s = c.still_open-left.ensures in
@@ -53,7 +53,7 @@ open_before-opened-requires c =
     (taken_as a.ancestors.now a.descendants.now c.requires.0, here.0, here.1)
 
 pub hand_descendant-handed-requires : goal.hand_descendant-handed-requires
-hand_descendant-handed-requires c =
+hand_descendant-handed-requires g c =
     let a = c.args in
     let l = c.samples in
     let o = c.open_before-opened.ensures in
@@ -63,7 +63,7 @@ hand_descendant-handed-requires c =
     (l.invariant.1.at, test, t.opening.used_in, t.opening.held.stands.chain, t.upon)
 
 pub returns-then-not-handed : goal.returns-then-not-handed
-returns-then-not-handed c =
+returns-then-not-handed g c =
     let a = c.args in
     let l = c.samples in
     let test = c.samples-test.true in
@@ -76,13 +76,13 @@ returns-then-not-handed c =
     c.hand_descendant-handed.ensures (not_read _ c.if-not-handed.true) left.1
 
 pub overflow_add-j : goal.overflow_add-j
-overflow_add-j c =
+overflow_add-j g c =
     let t = c.samples-test.true in
     let fits = c.well_formed in
     omega arith
 
 pub samples-preserved : goal.samples-preserved
-samples-preserved c =
+samples-preserved g c =
     let a = c.args in
     let l = c.samples in
     let test = c.samples-test.true in
@@ -102,7 +102,7 @@ samples-preserved c =
     )
 
 pub returns : goal.returns
-returns c =
+returns g c =
     let a = c.args in
     let l = c.samples in
     let at = l.invariant.1.at in

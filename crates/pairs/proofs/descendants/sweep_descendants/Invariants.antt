@@ -16,11 +16,11 @@ use Rattle.pairs.proofs.SweepStart.{Tells}
 use Rattle.pairs.proofs.descendants.sweep_descendants.Given as goal
 
 abbrev pub invariant-samples : goal.invariant-samples
-invariant-samples l =
+invariant-samples g l =
     (length l.out ≡ length l.initial.out) × Ready l.ancestors l.descendants l.j l.used l.passed l.stack × (l.handed.done ≡ true)
     × ((place : Place) → Started place l.descendants l.first l.past → Tells place l.descendants l.least l.j
     × (serve pair_words PAIR_WORDS l.out l.handed.count (rest_of l.relation Descendant place (drop (l.j / 4) (nodes l.descendants)) (nodes l.ancestors))
     ≡ served_all (asked l.relation Descendant) place l.initial.out l.ancestors l.descendants))
 
 abbrev pub decreases-samples : goal.decreases-samples
-decreases-samples l = length l.descendants - l.j
+decreases-samples g l = length l.descendants - l.j

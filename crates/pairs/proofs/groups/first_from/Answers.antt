@@ -4,7 +4,8 @@
 -- Measure: `to - k`, the words of the stretch still to search.
 -- What would break it: A follower that is passed although it starts late enough, or a word one off,
 -- would be caught at the next turn.
-use mathlib.Core.Path.{◌≡◌, refl}
+use Prim.Native.Nat.{◌+◌, ◌/◌}
+use mathlib.Core.Path.{◌≡◌, refl, ◌∙◌}
 use native.Mathlib.Omega.{arith}
 use Rattle.laws.specs.Choose.{first_at}
 use Rattle.pairs.specs.Private.Sweep.{stretch, starts_from}
@@ -41,9 +42,22 @@ loop-k-preserved c =
       start_later a.followers.now l.k a.to a.start _ l.invariant.0 p.1 l.invariant.2 _ (omega arith) c.node_from.ensures (omega arith),
     )
 
-pub returns : goal.returns
-returns c =
+pub returns-else-start-eq0 : goal.returns-else-start-eq0
+returns-else-start-eq0 c =
     let a = c.args in
     let p = c.requires in
     let l = c.loop-k in
-    record { aligned = omega arith; index = start_none a.followers.now l.k a.to a.start _ l.invariant.0 p.1 l.invariant.2 (omega arith) }
+    let e : a.to / 4 ≡ l.k / 4 = omega (arith, l.invariant.1) in
+    record { aligned = omega arith; index = e ∙ start_none a.followers.now l.k a.to a.start _ l.invariant.0 p.1 l.invariant.2 (omega arith) }
+
+pub returns-else-start-node_from : goal.returns-else-start-node_from
+returns-else-start-node_from c =
+    let a = c.args in
+    let p = c.requires in
+    let l = c.loop-k in
+    let e : a.to / 4 ≡ (l.k + 4) / 4 = omega (arith, l.invariant.0, l.invariant.1) in
+    let later = start_later a.followers.now l.k a.to a.start _ l.invariant.0 p.1 l.invariant.2 _ (omega arith) c.node_from.ensures (omega arith) in
+    record {
+      aligned = omega arith;
+      index = e ∙ start_none a.followers.now (l.k + 4) a.to a.start _ (omega arith, omega arith, omega (arith, p.1)) p.1 later (omega (arith, l.invariant.0));
+    }

@@ -12,7 +12,6 @@ pub returns : goal.returns
 returns c =
     let a = c.args in
     let p = c.requires in
-    let f = c.fitting-fit.ensures in
-    let n = c.fitting-fit.result in
-    counted_in a.order a.leader a.followers.now a.from a.to (a.from + 4 * n - a.from) n p.1 p.2 p.3 (omega arith) f.asked a.out.now _ a.written
-    c.put_group.ensures f.most
+    let n = c.min-fit.result in
+    counted_in a.order a.leader a.followers.now a.from a.to (a.from + 4 * n - a.from) n p.1 p.2 p.3 (omega arith) (omega arith) a.out.now _ a.written
+    c.put_group.ensures (omega arith)

@@ -1,6 +1,5 @@
 -- Function: `put_group` (src/groups.rt).
 -- Why it holds: At each turn, serving what is left of the group gives what serving all of it gives.
--- Measure: `count followers - k`, the followers still to come.
 -- What would break it: A pair stored one off, or a skipped follower, would be caught at the next
 -- turn.
 use Prim.Native.Nat.{◌+◌, zero-le}

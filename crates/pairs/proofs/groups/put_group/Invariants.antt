@@ -1,5 +1,5 @@
--- The invariant and the measure of `put_group`; Answers.antt says why they hold.
-use Prim.Native.Nat.{◌+◌, ◌-◌, ◌≤◌}
+-- The invariant of `put_group`; Answers.antt says why it holds.
+use Prim.Native.Nat.{◌+◌, ◌≤◌}
 use mathlib.Core.Path.{◌≡◌}
 use lib.ListN.{length, drop}
 use Rattle.nodes.specs.Words.{nodes, count}
@@ -10,6 +10,3 @@ abbrev pub invariant-loop-k : goal.invariant-loop-k
 invariant-loop-k l =
     (l.k ≤ count l.followers) × (length l.out ≡ length l.initial.out)
     × (served_group l.order l.out (l.written + l.k) l.leader (drop l.k (nodes l.followers)) ≡ served_group l.order l.initial.out l.written l.leader (nodes l.followers))
-
-abbrev pub decreases-loop-k : goal.decreases-loop-k
-decreases-loop-k l = count l.followers - l.k

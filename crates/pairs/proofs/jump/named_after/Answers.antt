@@ -1,6 +1,6 @@
 -- Function: `named_after` (src/jump.rt).
 -- Why it holds: At each turn, the links of the ancestor at `i` lie in the words, as `i` only falls.
--- What is returned is zero or the words of whole nodes.
+-- What is returned is nothing, or the words of whole nodes.
 -- Measure: `i`, the index of the ancestor whose links are read.
 -- What would break it: A walk to a parent that isn't earlier would be caught at the next turn, and
 -- a word inside a node at the return.

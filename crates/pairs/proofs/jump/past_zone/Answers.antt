@@ -6,12 +6,17 @@
 use Rattle.pairs.proofs.Jumps.{jump_one}
 use Rattle.pairs.proofs.jump.past_zone.Goals as goal
 
+pub returns-then-not-this : goal.returns-then-not-this
+returns-then-not-this g c =
+    let p = c.requires in
+    jump_one c.args.ancestors.now c.args.i p.1 p.2
+
 pub returns-then-links-at : goal.returns-then-links-at
-returns-then-links-at c =
+returns-then-links-at g c =
     let p = c.requires in
     jump_one c.args.ancestors.now c.args.i p.1 p.2
 
 pub returns-then-links-at-2 : goal.returns-then-links-at-2
-returns-then-links-at-2 c =
+returns-then-links-at-2 g c =
     let p = c.requires in
     jump_one c.args.ancestors.now c.args.i p.1 p.2

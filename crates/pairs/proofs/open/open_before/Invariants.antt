@@ -10,8 +10,8 @@ use Rattle.pairs.specs.Private.Sweep.{Opening}
 use Rattle.pairs.proofs.open.open_before.Given as goal
 
 abbrev pub invariant-loop-i : goal.invariant-loop-i
-invariant-loop-i l =
+invariant-loop-i g l =
     Opening l.ancestors l.descendant l.reached l.i l.stack × All (λ e. openb l.descendant e ≡ true) (opened l.reached l.stack)
 
 abbrev pub decreases-loop-i : goal.decreases-loop-i
-decreases-loop-i l = length l.ancestors - l.i
+decreases-loop-i g l = length l.ancestors - l.i

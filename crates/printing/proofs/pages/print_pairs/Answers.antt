@@ -7,7 +7,6 @@
 use borrow.Author.Rules.{rules}
 use mathlib.Core.Path.{refl, sym, ◌∙◌}
 use native.Mathlib.Omega.{arith}
-use Rattle.laws.proofs.Tests.{never}
 use Rattle.printing.proofs.Counting.{counted_none, counted_more, counted_all, counted_less, counted_few}
 use Rattle.printing.proofs.PageLines.{page_answer}
 use Rattle.printing.proofs.pages.print_pairs.Goals as goal
@@ -17,25 +16,17 @@ loop-stdout-init c =
     let a = c.args in
     (refl, refl, counted_none a.ancestors.now a.descendants.now _ c.fresh-ticket.ensures)
 
-pub returns-then-verdict-ne-TAKEN : goal.returns-then-verdict-ne-TAKEN
-returns-then-verdict-ne-TAKEN c =
+pub returns-then-is_err : goal.returns-then-is_err
+returns-then-is_err c =
     let made = c.make_lines-lines.ensures.page in
-    record { answer = c.stopped.ensures.answer ∙ page_answer _ _ _ _ _ made; count = λ w. absurd (never w c.stopped.ensures.whole) }
-
-pub returns-then-not-write_all : goal.returns-then-not-write_all
-returns-then-not-write_all c =
-    let made = c.make_lines-lines.ensures.page in
-    record {
-      answer = c.stopped-then-not-write_all.ensures.answer ∙ sym c.if-verdict-ne-TAKEN.false ∙ page_answer _ _ _ _ _ made;
-      count = λ w. absurd (never w c.stopped-then-not-write_all.ensures.whole);
-    }
+    record { answer = sym c.if-page-ne-TAKEN.false ∙ page_answer _ _ _ _ _ made; count = tt }
 
 pub overflow_add-count : goal.overflow_add-count
 overflow_add-count c =
     let made = c.make_lines-lines.ensures.page in
     let at = c.loop-stdout in
     let a = c.args in
-    let taken = sym (page_answer _ _ _ _ _ made) ∙ c.if-verdict-ne-TAKEN.false in
+    let taken = sym (page_answer _ _ _ _ _ made) ∙ c.if-page-ne-TAKEN.false in
     let few = counted_few a.ancestors.now a.descendants.now at.ticket at.count at.invariant.2 at.out _ made taken in
     omega (arith, few)
 
@@ -44,10 +35,10 @@ returns-then-page c =
     let made = c.make_lines-lines.ensures.page in
     let at = c.loop-stdout in
     let a = c.args in
-    let taken = sym (page_answer _ _ _ _ _ made) ∙ c.if-verdict-ne-TAKEN.false in
+    let taken = sym (page_answer _ _ _ _ _ made) ∙ c.if-page-ne-TAKEN.false in
     record {
       answer = sym taken;
-      count = λ w. counted_all a.ancestors.now a.descendants.now at.ticket at.count at.invariant.2 at.out _ made taken c.if-page.true;
+      count = counted_all a.ancestors.now a.descendants.now at.ticket at.count at.invariant.2 at.out _ made taken c.if-page.true;
     }
 
 pub loop-stdout-smaller : goal.loop-stdout-smaller
@@ -55,7 +46,7 @@ loop-stdout-smaller c =
     let made = c.make_lines-lines.ensures.page in
     let at = c.loop-stdout in
     let a = c.args in
-    let taken = sym (page_answer _ _ _ _ _ made) ∙ c.if-verdict-ne-TAKEN.false in
+    let taken = sym (page_answer _ _ _ _ _ made) ∙ c.if-page-ne-TAKEN.false in
     counted_less a.ancestors.now a.descendants.now at.ticket at.count at.invariant.2 at.out _ made taken c.if-page.false (omega (arith, at.invariant.0, c.requires.0))
 
 pub loop-stdout-preserved : goal.loop-stdout-preserved
@@ -63,5 +54,5 @@ loop-stdout-preserved c =
     let made = c.make_lines-lines.ensures.page in
     let at = c.loop-stdout in
     let a = c.args in
-    let taken = sym (page_answer _ _ _ _ _ made) ∙ c.if-verdict-ne-TAKEN.false in
+    let taken = sym (page_answer _ _ _ _ _ made) ∙ c.if-page-ne-TAKEN.false in
     (search rules, search rules, counted_more a.ancestors.now a.descendants.now at.ticket at.count at.invariant.2 at.out _ made taken)

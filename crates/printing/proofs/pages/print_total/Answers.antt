@@ -3,13 +3,15 @@
 -- written as the line has.
 -- What would break it: A part that reached beyond the buffer would be caught where the part is
 -- taken.
-use mathlib.Core.Path.{sym, subst}
-use mathlib.Core.List.{List}
-use Prim.Native.Nat.{ℕ, ◌≤◌}
-use lib.ListN.{length}
+use mathlib.Core.Path.{sym}
+use lib.Seq.{length-take-le}
 use Rattle.lines.specs.Line.{total_line}
-use Rattle.answers.proofs.OutputLaws.{no_shorter}
+use Rattle.printing.proofs.PageLines.{part_fits}
 use Rattle.printing.proofs.pages.print_total.Goals as goal
 
-pub slice_bounds-part_of-end : goal.slice_bounds-part_of-end
-slice_bounds-part_of-end c = subst (λ (text : List ℕ). 32 ≤ length text) (sym c.put_total-bytes.ensures.text) (no_shorter (total_line _) _)
+pub slice_bounds-text-end : goal.slice_bounds-text-end
+slice_bounds-text-end c = part_fits (total_line _) _ _ _ c.put_total-bytes.ensures.length c.put_total-bytes.ensures.text
+
+pub slice_bounds-write_all-end : goal.slice_bounds-write_all-end
+slice_bounds-write_all-end c =
+    sym (length-take-le _ _ (part_fits (total_line _) _ _ _ c.put_total-bytes.ensures.length c.put_total-bytes.ensures.text))

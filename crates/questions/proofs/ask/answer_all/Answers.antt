@@ -1,7 +1,6 @@
 -- Function: `answer_all` (src/ask.rt).
 -- Why it holds: Before each turn, what the questions from `index` on make of the rest of the output
 -- is what is left of the whole answer. Each turn stores one page and passes its words.
--- Measure: `question_count questions - index`, the questions still to answer.
 -- What would break it: A question lent another part of the output would be caught where it is lent,
 -- and a rest that begins elsewhere at the next turn. A page after the 32nd would be caught at its
 -- store.

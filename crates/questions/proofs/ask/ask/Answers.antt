@@ -3,38 +3,39 @@
 -- of the book. After both, each question is answered in turn.
 -- What would break it: A refusal that counts its questions, or loses the node of a faulty book,
 -- would be caught at its return.
-use mathlib.Core.Path.{sym, ◌∙◌}
+use mathlib.Core.Path.{sym, ap, ◌∙◌}
 use native.Mathlib.Omega.{arith}
+use Rattle.answers.specs.Refusal.{verdict_of}
+use Rattle.questions.specs.Question.{questions_in}
+use Rattle.questions.specs.Ask.{refused_pages, padded}
 use Rattle.questions.proofs.Answering.{call_refused, call_answered, book_refused, book_good}
 use Rattle.questions.proofs.QuestionLaws.{few_questions}
 use Rattle.questions.proofs.ask.ask.Goals as goal
+use Rattle.questions.proofs.ask.ask.Goals.{in-Ok, in-Err-check_book}
 
-pub returns-then-answer-ne-TAKEN : goal.returns-then-answer-ne-TAKEN
-returns-then-answer-ne-TAKEN c =
+pub returns-in-Err : goal.returns-in-Err
+returns-in-Err c =
     let a = c.args in
-    call_refused a.book.now a.questions.now a.out.now _ c.check_questions-answer.ensures c.if-answer-ne-TAKEN.true
-    _ c.without_node.ensures _ c.refuse_all.ensures
+    rw c.into.ensures
+    (call_refused a.book.now a.questions.now a.out.now _ c.in-Err.ensures _
+    (c.refuse_all.ensures ∙ ap (λ v. padded (refused_pages v (questions_in a.questions.now))) (c.into-in-Err.ensures ∙ ap verdict_of c.from.ensures)))
 
-pub overflow_cast-count : goal.overflow_cast-count
-overflow_cast-count c =
-    let few = few_questions _ (sym c.check_questions-answer.ensures ∙ c.if-answer-ne-TAKEN.false) in
-    omega arith
+pub overflow_cast-result : goal.overflow_cast-result
+overflow_cast-result c = omega (arith, few_questions _ (sym c.in_default.ensures), c.question_count.ensures)
 
-pub returns-then-verdict-ne-TAKEN : goal.returns-then-verdict-ne-TAKEN
-returns-then-verdict-ne-TAKEN c =
+pub answer_book-pages-requires : goal.answer_book-pages-requires
+answer_book-pages-requires c =
     let a = c.args in
-    book_refused a.book.now a.questions.now a.out.now _ c.check_questions-answer.ensures c.if-answer-ne-TAKEN.false
-    _ c.check_book-opened.ensures c.if-verdict-ne-TAKEN.true _ c.question_count-count.ensures _ c.refuse_all-then-verdict-ne-TAKEN.ensures
-
-pub answer_book-requires : goal.answer_book-requires
-answer_book-requires c =
-    let a = c.args in
-    book_good a.book.now a.questions.now a.out.now _ c.check_questions-answer.ensures c.if-answer-ne-TAKEN.false
-    _ c.check_book-opened.ensures c.if-verdict-ne-TAKEN.false
+    book_good a.book.now a.questions.now a.out.now c.in_default.ensures _ c.in-Ok.ensures
 
 pub returns : goal.returns
 returns c =
-    let p = c.answer_book in
     let a = c.args in
-    call_answered a.book.now a.questions.now a.out.now _ c.check_questions-answer.ensures c.if-answer-ne-TAKEN.false
-    _ c.question_count-count.ensures _ _ p.ensures.answer p.ensures.output
+    elim c.match-check_book.branch [
+      | in-Ok w ↦ rw (w.pages-is, w.out-is)
+          (call_answered a.book.now a.questions.now a.out.now c.in_default.ensures _ c.question_count.ensures
+          _ _ w.answer_book-pages.ensures.answer w.answer_book-pages.ensures.output)
+      | in-Err-check_book w ↦ rw (w.pages-is, w.out-is)
+          (book_refused a.book.now a.questions.now a.out.now c.in_default.ensures _ w.in-Err-check_book.ensures _ c.question_count.ensures _
+          (w.refuse_all-pages.ensures ∙ ap (λ v. padded (refused_pages v (questions_in a.questions.now))) w.into-in-Err-check_book.ensures))
+    ]

@@ -9,4 +9,4 @@ use Rattle.questions.proofs.ask.no_page.Goals as goal
 
 pub returns : goal.returns
 returns c =
-    c.refused_page.ensures ∙ ap (λ (v : Verdict). refused_page v (ticket_words 0 0 0 0 0 0)) c.without_node.ensures
+    c.refused_page.ensures ∙ ap (λ (v : Verdict). refused_page v (ticket_words 0 0 0 0 0 0)) c.into.ensures

@@ -1,16 +1,18 @@
 -- Function: `refuse_all` (src/ask.rt).
 -- Why it holds: Before each turn the pages are the refusals of the questions before `index`, and
 -- zeros. The loop ends after the last question, or where the pages are full.
--- Measure: `MOST_QUESTIONS - index`, the pages still to store.
 -- What would break it: A page of another question, or without its ticket, would be caught at the
 -- next turn. A loop that ends before the last question would be caught at the return.
 use mathlib.Core.Path.{◌≡◌, sym, ap, ◌∙◌}
 use mathlib.Core.List.{List}
-use Prim.Native.Nat.{ℕ, ◌+◌, ◌≤◌, ◌<◌}
+use mathlib.Core.Logic.{inl, inr}
+use Prim.Native.Nat.{ℕ, ◌+◌, ◌≤◌, ◌<◌, min}
+use lib.Dec.{ltb}
 use native.Mathlib.Omega.{arith}
 use lib.ListN.{take, drop, set}
 use borrow.Author.Tests.{ltb-true, ltb-false}
 use Rattle.laws.proofs.Choices.{map_drop}
+use Rattle.laws.proofs.Tests.{either}
 use Rattle.answers.specs.declared.verdict.Verdict.{Verdict}
 use Rattle.ticket_words.specs.declared.page.PageWords.{PageWords}
 use Rattle.questions.specs.declared.question.Question.{Question}
@@ -41,6 +43,13 @@ module _ (words : List ℕ) (v : Verdict) where
     full : MOST_QUESTIONS ≤ index → pages ≡ padded (whole words v)
     full h = e ∙ padded_full (whole words v) index h
 
+    stored : (end : ℕ) → end ≡ min (question_count words) MOST_QUESTIONS → end ≤ index → pages ≡ padded (whole words v)
+    stored end n h =
+        elim (either (ltb index (question_count words))) [
+          | inl k ↦ full (omega (arith, n, ltb-true index (question_count words) k))
+          | inr k ↦ all (ltb-false index (question_count words) k)
+        ]
+
 pub loop-index-init : goal.loop-index-init
 loop-index-init c = padded_none _ c.no_page-none.ensures
 
@@ -53,13 +62,8 @@ loop-index-preserved c =
     let a = c.args in
     next a.questions.now a.verdict _ l.index l.invariant (omega arith) (omega (arith, ltb-true)) _ c.question_at-question.ensures _ c.refused_page.ensures
 
-pub returns-else-index-question_count : goal.returns-else-index-question_count
-returns-else-index-question_count c =
+pub returns : goal.returns
+returns c =
     let l = c.loop-index in
     let a = c.args in
-    all a.questions.now a.verdict _ l.index l.invariant (omega (arith, ltb-false))
-
-pub returns-after-loop-index : goal.returns-after-loop-index
-returns-after-loop-index c =
-    let a = c.args in
-    full a.questions.now a.verdict _ c.loop-index.index c.loop-index.invariant (omega arith)
+    stored a.questions.now a.verdict _ l.index l.invariant _ (c.min-index-end.ensures ∙ ap (λ n. min n MOST_QUESTIONS) c.question_count.ensures) c.loop-index-test.false

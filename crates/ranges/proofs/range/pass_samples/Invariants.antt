@@ -1,5 +1,5 @@
--- The invariant and the measure of `pass_samples`; Answers.antt says why they hold.
-use Prim.Native.Nat.{◌-◌, ◌≤◌}
+-- The invariant of `pass_samples`; Answers.antt says why it holds.
+use Prim.Native.Nat.{◌≤◌}
 use Rattle.nodes.specs.Words.{count}
 use Rattle.readings.specs.Sample.{samples_in}
 use Rattle.ranges.proofs.Passing.{Reached}
@@ -7,7 +7,4 @@ use Rattle.ranges.proofs.range.pass_samples.Given as goal
 
 abbrev pub invariant-loop-index : goal.invariant-loop-index
 invariant-loop-index l =
-    (l.index ≤ count l.samples) × Reached l.zone (samples_in l.samples l.readings) l.present l.range l.index
-
-abbrev pub decreases-loop-index : goal.decreases-loop-index
-decreases-loop-index l = count l.samples - l.index
+    (l.index ≤ count l.samples) × Reached l.zone (samples_in l.samples l.readings) l.range l.index

@@ -4,14 +4,15 @@
 -- What would break it: A low taken for a high would be caught at the first return. A first value
 -- compared with what stood there before would be caught at the second.
 use mathlib.Core.Path.{sym, ap}
-use mathlib.Core.Bool.{Bool}
+use Rattle.std.specs.Prelude.{Option}
+use Rattle.ranges.specs.declared.range.Range.{Range}
 use Rattle.ranges.specs.Private.Passing.{taken_in}
 use Rattle.ranges.proofs.range.taken_in.Goals as goal
 
-pub returns-then-present : goal.returns-then-present
-returns-then-present c =
+pub returns-in-Some : goal.returns-in-Some
+returns-in-Some c =
     let a = c.args in
-    rw (c.lower_of.ensures, c.higher_of.ensures) (sym (ap (λ (b : Bool). taken_in b a.range a.percent) c.if-present.true))
+    rw (c.lower_of.ensures, c.higher_of.ensures) (sym (ap (λ (r : Option Range). taken_in r a.percent) c.in-Some.is))
 
-pub returns : goal.returns
-returns c = sym (ap (λ (b : Bool). taken_in b c.args.range c.args.percent) c.if-present.false)
+pub returns-in-None : goal.returns-in-None
+returns-in-None c = sym (ap (λ (r : Option Range). taken_in r c.args.percent) c.in-None.is)

@@ -1,34 +1,34 @@
 -- Function: `kept_part` (src/opening.rt).
--- Why it holds: The verdict that `check_book` answers is the book's own. So a refused book gives an
+-- Why it holds: The check refuses exactly the books that are refused. So a refused book gives an
 -- empty part, and an accepted one gives all of it.
 -- What would break it: Bytes kept although refused, or dropped although accepted, would be caught
 -- at a return.
-use mathlib.Core.Path.{◌≡◌, refl, sym, ap, ◌∙◌}
+use mathlib.Core.Path.{◌≡◌, refl, sym}
+use mathlib.Core.Bool.{true, false}
 use mathlib.Core.List.{List, []}
 use Prim.Native.Nat.{ℕ}
-use native.Mathlib.Omega.{arith}
-use Rattle.answers.specs.Answer.{TAKEN}
+use Rattle.std.specs.Prelude.{Result, Ok, Err}
+use Rattle.std.specs.Result.{is_ok}
+use Rattle.laws.proofs.Tests.{never}
+use Rattle.answers.specs.declared.refusal.Fault.{Fault}
 use Rattle.contents.specs.Contents.{MOST_LISTS}
-use Rattle.books.specs.declared.book.Opened.{Opened}
-use Rattle.books.specs.Book.{book_verdict, check_book_up_to, check_book}
+use Rattle.books.specs.Book.{check_book, opened_in}
+use Rattle.books.proofs.BookLaws.{opened_ok, opened_err}
 use Rattle.readers.specs.Reader.{kept_of}
 use Rattle.readers.proofs.Kept.{kept_nothing, kept_whole}
 use Rattle.readers.proofs.opening.kept_part.Goals as goal
 
-module _ (book : List ℕ) (o : Opened) (e : o ≡ check_book book) where
-  -- The verdict is the book's own.
-  own : o.verdict.answer ≡ (book_verdict book).answer
-  unfolding check_book_up_to
-  own = ap (λ p. p.verdict.answer) e
+module _ (book : List ℕ) where
+  refused : (r : Result ℕ Fault) → opened_in r ≡ check_book book → is_ok r ≡ false → [] ≡ kept_of book
+  refused (Ok lists) e h = absurd (never refl h)
+  refused (Err f) e h = sym (kept_nothing MOST_LISTS book (opened_err book f e).1)
 
-  refused : (o.verdict.answer ≡ TAKEN → ⊥) → [] ≡ kept_of book
-  refused h = sym (kept_nothing MOST_LISTS book (λ t. h (own ∙ t)))
+  accepted : (r : Result ℕ Fault) → opened_in r ≡ check_book book → is_ok r ≡ true → book ≡ kept_of book
+  accepted (Ok lists) e h = sym (kept_whole book (opened_ok book lists e).0)
+  accepted (Err f) e h = absurd (never h refl)
 
-  accepted : o.verdict.answer ≡ TAKEN → book ≡ kept_of book
-  accepted h = sym (kept_whole book (sym own ∙ h))
+pub returns-then-is_ok : goal.returns-then-is_ok
+returns-then-is_ok c = record { contents = accepted _ _ c.check_book.ensures (sym c.if-is_ok.ensures.value); place = refl }
 
-pub returns-then-verdict-ne-TAKEN : goal.returns-then-verdict-ne-TAKEN
-returns-then-verdict-ne-TAKEN c = record { contents = refused _ _ c.check_book-opened.ensures c.if-verdict-ne-TAKEN.true; place = refl }
-
-pub returns : goal.returns
-returns c = record { contents = accepted _ _ c.check_book-opened.ensures (omega arith); place = refl }
+pub returns-else-is_ok : goal.returns-else-is_ok
+returns-else-is_ok c = record { contents = refused _ _ c.check_book.ensures (sym c.if-is_ok.ensures.value); place = refl }

@@ -1,8 +1,8 @@
 -- Function: `body_in` (src/reader.rt).
--- Why it holds: `open` gives a reader over what is kept of the bytes, and `body` gives the tag's
--- body from that reader. Only the contracts of these two are used.
--- What would break it: Another reader than the one that `open` returns, or another tag than the
--- caller's, would be caught at the return.
+-- Why it holds: `Reader::open` gives a reader over what is kept of the bytes, and `body` gives the
+-- tag's body from that reader. Only the contracts of these two are used.
+-- What would break it: Another reader than the one that `Reader::open` returns, or another tag than
+-- the caller's, would be caught at the return.
 use Rattle.readers.specs.Reader.{kept_body_up_to, kept_place_up_to}
 use Rattle.readers.proofs.reader.body_in.Goals as goal
 

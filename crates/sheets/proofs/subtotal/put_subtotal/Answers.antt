@@ -6,8 +6,7 @@ use Prim.Native.Nat.{ℕ, ◌+◌, ◌*◌}
 use mathlib.Core.Path.{◌≡◌}
 use mathlib.Core.List.{List}
 use native.Mathlib.Numerals.{towards_suc}
-use native.Mathlib.Omega.{arith}
-use lib.ListN.{set, length-set}
+use lib.ListN.{set}
 use lib.Seq.{sets}
 use Rattle.sheets.specs.declared.subtotal.Subtotal.{Subtotal}
 use Rattle.sheets.specs.Sheet.{subtotal_words}
@@ -17,12 +16,6 @@ three_stores : (ws : List ℕ) (i : ℕ) (t : Subtotal)
     → set (set (set ws (3 * i) t.samples) (3 * i + 1) t.present) (3 * i + 2) t.sum ≡ sets ws (3 * i) (subtotal_words t)
 unfolding subtotal_words
 three_stores ws i t = simp towards_suc
-
-pub bounds-out-at-2 : goal.bounds-out-at-2
-bounds-out-at-2 c = simp length-set (omega arith)
-
-pub bounds-out-at-3 : goal.bounds-out-at-3
-bounds-out-at-3 c = simp length-set (omega arith)
 
 pub returns : goal.returns
 returns c = three_stores _ _ _

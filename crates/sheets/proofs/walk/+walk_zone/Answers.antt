@@ -10,7 +10,7 @@ use Rattle.std.proofs.Common.{ℕ, refl, ap, subst, ◌∙◌, ◌+◌, arith}
 use Rattle.sheets.specs.Private.Walk.{FirstAfter, end_text}
 use Rattle.sheets.proofs.Limits.{row_stretch}
 use Rattle.sheets.proofs.RowPlaces.{rows_none, rows_join, rows_before}
-use Rattle.sheets.proofs.SampleLaws.{no_stretch, stretch_small, stretch_join}
+use Rattle.sheets.proofs.SampleLaws.{no_row, no_stretch, stretch_small, stretch_join}
 use Rattle.sheets.proofs.Walking.{Child, walk_start, child_read, child_none, child_deep, walk_child}
 use Rattle.sheets.proofs.walk.+walk_zone.Goals as goal
 use Rattle.sheets.proofs.walk.+walk_zone.Goals.{In-loop-own}
@@ -27,9 +27,10 @@ child_at t c =
 pub loop-own-init : goal.loop-own-init
 loop-own-init t c =
     let a = c.args in
-    let p = c.requires in (
+    let p = c.requires in
+    let z = c.default-subtotal.ensures in (
       walk_start a.zones.now a.samples.now p.lists a.zone a.sample p.there p.started (a.zone + 1) refl,
-      c.nothing-subtotal.ensures ∙ no_stretch a.samples.now a.hundredths.now a.sample,
+      no_row _ z.0 z.1.0 z.1.1 ∙ no_stretch a.samples.now a.hundredths.now a.sample,
       rows_none a.zones.now a.samples.now a.hundredths.now a.out.now (a.zone + 1),
       refl,
     )

@@ -5,12 +5,12 @@
 -- Measure: `count zones - zone`, the zones still to walk.
 -- What would break it: A walk that began one level too deep, or samples left before a zone, would
 -- be caught at the call.
-use mathlib.Core.Path.{refl, sym, subst, ◌∙◌}
+use mathlib.Core.Path.{refl, subst, ◌∙◌}
 use Prim.Native.Nat.{◌<◌, zero-le}
 use native.Mathlib.Nat.{not-suc-le-zero}
 use native.Mathlib.Omega.{arith}
 use Rattle.nodes.specs.Words.{count}
-use Rattle.sheets.specs.Private.Walk.{NoneAfter, FirstAfter}
+use Rattle.sheets.specs.Private.Walk.{FirstAfter}
 use Rattle.sheets.proofs.Limits.{sound_word, zones_ok}
 use Rattle.sheets.proofs.RowPlaces.{rows_none, rows_join, rows_all}
 use Rattle.sheets.proofs.Walking.{by_left}
@@ -27,13 +27,6 @@ loop-zone-init c =
       refl,
     )
 
-pub pass_samples-outside-requires : goal.pass_samples-outside-requires
-pass_samples-outside-requires c =
-    let l = c.loop-zone in
-    let a = c.args in
-    let p = c.requires in
-    (p.measured, l.invariant.1, subst (λ n. NoneAfter a.samples.now n l.sample) (sym c.node_at.ensures) (l.invariant.2 (omega arith)))
-
 pub walk_zone-walked-requires : goal.walk_zone-walked-requires
 walk_zone-walked-requires c =
     let l = c.loop-zone in
@@ -49,11 +42,6 @@ walk_zone-walked-requires c =
       deep = omega (arith, (sound_word a.zones.now (zones_ok a.zones.now a.samples.now p.lists) l.zone h).lowest);
     }
 
-pub loop-zone-smaller : goal.loop-zone-smaller
-loop-zone-smaller c =
-    let walked = c.walk_zone-walked.ensures.below in
-    omega (arith, walked.later, walked.end)
-
 pub loop-zone-preserved : goal.loop-zone-preserved
 loop-zone-preserved c =
     let l = c.loop-zone in
@@ -67,9 +55,6 @@ loop-zone-preserved c =
           (omega (arith, walked.below.later)) walked.below.end l.invariant.3 walked.output,
       c.walk_zone-walked.auto.out ∙ l.invariant.4,
     )
-
-pub shape_of-out : goal.shape_of-out
-shape_of-out c = c.loop-zone.invariant.4
 
 pub returns : goal.returns
 returns c =

@@ -4,7 +4,6 @@
 -- What would break it: A number one off, or a leader of another document taken for the place's own,
 -- would be caught at its return.
 use mathlib.Core.Path.{◌≡◌}
-use native.Mathlib.Omega.{arith}
 use borrow.Author.Tests.{eq-eqb, ne_eqb}
 use Prim.Native.Nat.{ℕ, ◌+◌}
 use Rattle.nodes.specs.declared.node.Node.{Node}
@@ -28,18 +27,18 @@ module _ (place : Place) (x : Node) where
     unfolding past_from
     another d s = rw (q, eq-eqb _ _ d, ne_eqb _ _ s)
 
-    own : k.document ≡ x.document → k.leader ≡ x.start → k.follower + 1 ≡ past_from place x
+    own : k.document ≡ x.document → k.leader ≡ x.start → (n : ℕ) → n ≡ k.follower → n + 1 ≡ past_from place x
     unfolding past_from
-    own d s = rw (q, eq-eqb _ _ d, eq-eqb _ _ s)
+    own d s n e = rw (q, eq-eqb _ _ d, eq-eqb _ _ s, e)
 
-pub returns-then-key-leader : goal.returns-then-key-leader
-returns-then-key-leader c = elsewhere _ _ _ c.in-After.is c.if-key-leader.true
+pub returns-in-After : goal.returns-in-After
+returns-in-After c = own _ _ _ c.in-After.is c.if-key-leader.true c.if-key-leader-2.true _ c.from.ensures
 
-pub returns-then-key-leader-2 : goal.returns-then-key-leader-2
-returns-then-key-leader-2 c = another _ _ _ c.in-After.is (omega arith) c.if-key-leader-2.true
+pub returns-in_default : goal.returns-in_default
+returns-in_default c = another _ _ _ c.in-After.is c.if-key-leader.true c.if-key-leader-2.false
 
-pub returns-in-Fresh : goal.returns-in-Fresh
-returns-in-Fresh c = fresh _ _ c.in-Fresh.is
+pub returns-in_default-2 : goal.returns-in_default-2
+returns-in_default-2 c = elsewhere _ _ _ c.in-After.is c.if-key-leader.false
 
-pub returns-else-key-leader-2 : goal.returns-else-key-leader-2
-returns-else-key-leader-2 c = own _ _ _ c.in-After.is (omega arith) (omega arith)
+pub returns-in_default-3 : goal.returns-in_default-3
+returns-in_default-3 c = fresh _ _ c.in_default.is

@@ -1,18 +1,14 @@
 -- Function: `served_count` (src/leader.rt).
 -- Why it holds: At each turn, the search has passed k leaders, each of which stands before the
 -- leader of the place.
--- Measure: `count leaders - k`, the leaders still to search.
 -- What would break it: A leader passed over, or an index one off, would be caught at a return or at
 -- the next turn.
 use mathlib.Core.Path.{sym, ap, ◌∙◌}
 use mathlib.Core.Bool.{not}
 use native.Mathlib.Omega.{arith}
 use Rattle.tickets.specs.Leaders.{servedb, served_in}
-use Rattle.tickets.proofs.Search.{search_start, search_found, search_on, search_end}
+use Rattle.tickets.proofs.Search.{search_found, search_on, search_end}
 use Rattle.tickets.proofs.leader.served_count.Goals as goal
-
-pub loop-k-init : goal.loop-k-init
-loop-k-init c = search_start _ _
 
 pub returns-then-not-is_served : goal.returns-then-not-is_served
 unfolding served_in
@@ -31,4 +27,4 @@ loop-k-preserved c =
 
 pub returns : goal.returns
 unfolding served_in
-returns c = search_end _ c.args.leaders.now _ _ c.loop-k.invariant (omega arith)
+returns c = omega (arith, search_end _ c.args.leaders.now _ c.loop-k.k c.loop-k.invariant (omega arith))

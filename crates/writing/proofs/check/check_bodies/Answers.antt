@@ -1,18 +1,18 @@
 -- Function: `check_bodies` (src/check.rt).
 -- Why it holds: The verdict on the bodies still to be checked is the verdict on all. Each turn
 -- checks the first of them, which the contents keep short and within the nodes.
--- Measure: `length entries / WANTED_WORDS - index`, the lists still to check.
 -- What would break it: A body cut one node off, or one checked out of turn, would be caught at the
 -- next turn. A wrong list named would be caught at its return.
 use borrow.Author.Rules.{rules}
 use mathlib.Core.Path.{◌≡◌, refl, sym, ap, subst, ◌∙◌}
 use mathlib.Core.Bool.{true}
 use mathlib.Core.List.{List, ◌∷◌}
-use Prim.Native.Nat.{ℕ, ◌+◌, ◌*◌, ◌-◌, ◌/◌, ◌%◌, ◌≤◌, ◌<◌, zero-le}
+use Prim.Native.Nat.{ℕ, ◌+◌, ◌*◌, ◌-◌, ◌/◌, ◌%◌, ◌≤◌, ◌<◌}
 use native.Mathlib.Omega.{arith}
 use lib.ListN.{length, get_or, take, drop, length-drop, drop_of_length-le}
 use lib.Seq.{drop-drop, length-take-le}
 use borrow.Author.Tests.{eq-eqb}
+use Rattle.std.proofs.lemmas.Result.{err_from_is_err_and}
 use Rattle.answers.specs.Answer.{TAKEN}
 use Rattle.nodes.specs.Words.{NODE_WORDS, MOST_NODES, nodes}
 use Rattle.nodes.proofs.WordLaws.{length_nodes, nodes_take, nodes_drop}
@@ -23,7 +23,7 @@ use Rattle.lists.specs.Check.{check_nodes, check_words}
 use Rattle.answers.specs.Verdict.{in_list, taken}
 use Rattle.lists.proofs.Taken.{whole_words}
 use Rattle.books.specs.Book.{check_bodies}
-use Rattle.books.proofs.BookLaws.{bodies_on, bodies_stop, bodies_end}
+use Rattle.books.proofs.BookLaws.{bodies_on, bodies_stop, bodies_end, Named, passed_on, named_in}
 use Rattle.writing.specs.declared.wanted.Wanted.{Wanted}
 use Rattle.writing.specs.Wanted.{WANTED_WORDS, want, wanted, laid_out, contents_for, bodies_for, size_for, wanted_fault}
 use Rattle.writing.proofs.BodyOffsets.{laid_first, laid_end}
@@ -120,27 +120,26 @@ module _ (entries list : List ℕ) (whole : length list % NODE_WORDS ≡ 0) (goo
       bodies_end index _ (ap (λ ws. check_bodies index (bodies_for ws (nodes (drop from list)))) (sym none) ∙ p.left)
 
 pub loop-index-init : goal.loop-index-init
-loop-index-init c =
-    (zero-le, starts c.args.entries.now c.args.list.now c.requires.0 c.requires.1)
+loop-index-init c = starts c.args.entries.now c.args.list.now c.requires.0 c.requires.1
 
 pub overflow_add-to : goal.overflow_add-to
 overflow_add-to c =
     let l = c.loop-index in
-    let b = within c.args.entries.now c.args.list.now c.requires.0 c.requires.1 l.from l.index l.invariant.1 (omega arith)
+    let b = within c.args.entries.now c.args.list.now c.requires.0 c.requires.1 l.from l.index l.invariant (omega arith)
     _ c.wanted_at-wanted.ensures in
     search rules
 
 pub offset_bounds-list-from : goal.offset_bounds-list-from
 offset_bounds-list-from c =
     let l = c.loop-index in
-    let b = within c.args.entries.now c.args.list.now c.requires.0 c.requires.1 l.from l.index l.invariant.1 (omega arith)
+    let b = within c.args.entries.now c.args.list.now c.requires.0 c.requires.1 l.from l.index l.invariant (omega arith)
     _ c.wanted_at-wanted.ensures in
     search rules
 
 pub slice_bounds-check_list-end : goal.slice_bounds-check_list-end
 slice_bounds-check_list-end c =
     let l = c.loop-index in
-    let b = within c.args.entries.now c.args.list.now c.requires.0 c.requires.1 l.from l.index l.invariant.1 (omega arith)
+    let b = within c.args.entries.now c.args.list.now c.requires.0 c.requires.1 l.from l.index l.invariant (omega arith)
     _ c.wanted_at-wanted.ensures in
     search rules
 
@@ -149,22 +148,24 @@ overflow_cast-number c =
     let m = wanted_few c.args.entries.now (nodes c.args.list.now) c.requires.1 in
     search rules
 
-pub returns-then-verdict-ne-TAKEN : goal.returns-then-verdict-ne-TAKEN
-returns-then-verdict-ne-TAKEN c =
+pub returns-in_err-map_err : goal.returns-in_err-map_err
+returns-in_err-map_err c =
     let l = c.loop-index in
-    stopped c.args.entries.now c.args.list.now c.requires.0 c.requires.1 l.from l.index l.invariant.1 (omega arith)
-    _ c.wanted_at-wanted.ensures _ c.check_list-verdict.ensures c.if-verdict-ne-TAKEN.true
+    let p = err_from_is_err_and c.from_residual.result c.from_residual.ensures.1 in
+    let n : Named l.index c.check_list.result c.map_err.result = search rules in
+    let f = named_in l.index _ _ n _ c.in_err-map_err.was in
+    rw (p.1, p.2)
+    (f.0 ∙ stopped c.args.entries.now c.args.list.now c.requires.0 c.requires.1 l.from l.index l.invariant (omega arith)
+    _ c.wanted_at-wanted.ensures _ c.check_list.ensures f.1)
 
 pub loop-index-preserved : goal.loop-index-preserved
 loop-index-preserved c =
-    let l = c.loop-index in (
-      omega arith,
-      one_more c.args.entries.now c.args.list.now c.requires.0 c.requires.1 l.from l.index l.invariant.1 (omega arith)
-          _ c.wanted_at-wanted.ensures _ c.check_list-verdict.ensures (omega arith),
-    )
+    let l = c.loop-index in
+    let n : Named l.index c.check_list.result c.map_err.result = search rules in
+    one_more c.args.entries.now c.args.list.now c.requires.0 c.requires.1 l.from l.index l.invariant (omega arith)
+    _ c.wanted_at-wanted.ensures _ c.check_list.ensures (passed_on l.index _ _ n _ c.in_ok-map_err.was)
 
 pub returns : goal.returns
 returns c =
     let l = c.loop-index in
-    c.without_node.ensures
-    ∙ all_checked c.args.entries.now c.args.list.now c.requires.0 c.requires.1 l.from l.index l.invariant.1 (omega arith)
+    all_checked c.args.entries.now c.args.list.now c.requires.0 c.requires.1 l.from l.index l.invariant (omega arith)

@@ -1,13 +1,13 @@
--- The invariant and the measure of `check_bodies`; Answers.antt says why they hold.
+-- The invariant of `check_bodies`; Answers.antt says why it holds.
 use mathlib.Core.Path.{◌≡◌}
 use mathlib.Core.Bool.{true}
 use mathlib.Core.List.{List}
-use Prim.Native.Nat.{ℕ, ◌+◌, ◌*◌, ◌-◌, ◌/◌, ◌≤◌}
+use Prim.Native.Nat.{ℕ, ◌+◌, ◌*◌}
 use lib.ListN.{length, drop}
 use Rattle.nodes.specs.Words.{nodes}
 use Rattle.contents.specs.Contents.{contents_end, laidb}
 use Rattle.books.specs.Book.{check_bodies}
-use Rattle.writing.specs.Wanted.{WANTED_WORDS, wanted, laid_out, bodies_for}
+use Rattle.writing.specs.Wanted.{wanted, laid_out, bodies_for}
 use Rattle.writing.proofs.check.check_bodies.Given as goal
 
 -- Where the bodies start.
@@ -23,7 +23,4 @@ pub record Checks (entries list : List ℕ) (from index : ℕ) : Type 0 where
       ≡ check_bodies 0 (bodies_for (wanted entries) (nodes list))
 
 abbrev pub invariant-loop-index : goal.invariant-loop-index
-invariant-loop-index l = (l.index ≤ length l.entries / WANTED_WORDS) × Checks l.entries l.list l.from l.index
-
-abbrev pub decreases-loop-index : goal.decreases-loop-index
-decreases-loop-index l = length l.entries / WANTED_WORDS - l.index
+invariant-loop-index l = Checks l.entries l.list l.from l.index

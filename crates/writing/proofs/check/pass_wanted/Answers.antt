@@ -1,14 +1,13 @@
 -- Function: `pass_wanted` (src/check.rt).
 -- Why it holds: The walk from the place reached answers as the whole walk does, and the next body
 -- starts there. Each turn passes the list that comes next.
--- Measure: `lists - index`, the lists still to pass.
 -- What would break it: A list passed over, or a body that starts elsewhere, would be caught at the
 -- next turn. A walk that ends too early would be caught at its return.
 use borrow.Author.Rules.{rules}
 use mathlib.Core.Path.{◌≡◌, refl, sym, subst, ap, ◌∙◌}
 use mathlib.Core.Logic.{inl, inr}
 use mathlib.Core.List.{List, ◌∷◌}
-use Prim.Native.Nat.{ℕ, ◌+◌, ◌*◌, ◌/◌, ◌≤◌, ◌<◌, zero-le}
+use Prim.Native.Nat.{ℕ, ◌+◌, ◌*◌, ◌/◌, ◌≤◌, ◌<◌}
 use native.Mathlib.Omega.{arith}
 use lib.Dec.{eqb, leb}
 use lib.ListN.{length, get_or, drop, drop_of_length-le}
@@ -18,8 +17,8 @@ use Rattle.laws.proofs.Tests.{either, and_read}
 use Rattle.numbers.specs.Little.{NODE_BYTES}
 use Rattle.contents.specs.declared.entry.Entry.{Entry}
 use Rattle.contents.specs.declared.step.ContentsPlace.{ContentsPlace}
-use Rattle.contents.specs.declared.step.Step.{Step}
-use Rattle.contents.specs.declared.step.Step.TheVariants.{Reached, Refused}
+use Rattle.std.specs.Prelude.{Result, Ok, Err}
+use Rattle.answers.specs.declared.refusal.Refusal.{Refusal}
 use Rattle.contents.specs.Contents.{entry, contents_end}
 use Rattle.contents.specs.Passing.{start_of, passesb, after_entry, step_of}
 use Rattle.contents.specs.Private.Walk.{Kept}
@@ -31,9 +30,9 @@ use Rattle.writing.proofs.check.pass_wanted.Invariants.{Passed}
 use Rattle.writing.proofs.check.pass_wanted.Goals as goal
 
 -- If a list is passed, its body ends at the next place, and it isn't too long.
-Ends : ContentsPlace → Entry → Step → Type 0
-Ends p e (Reached q) = (q.end ≡ p.end + NODE_BYTES * e.count) × (e.count ≤ MOST_NODES)
-Ends p e (Refused answer) = Unit {0}
+Ends : ContentsPlace → Entry → Result ContentsPlace Refusal → Type 0
+Ends p e (Ok q) = (q.end ≡ p.end + NODE_BYTES * e.count) × (e.count ≤ MOST_NODES)
+Ends p e (Err refusal) = Unit {0}
 
 ends : (p : ContentsPlace) (e : Entry) → Ends p e (step_of p e)
 unfolding Ends step_of after_entry passesb
@@ -43,7 +42,7 @@ ends p e =
       | inr h ↦ rw h tt
     ]
 
-passed_ends : (p : ContentsPlace) (e : Entry) (r : Step) → r ≡ step_of p e → (q : ContentsPlace) → r ≡ Reached q
+passed_ends : (p : ContentsPlace) (e : Entry) (r : Result ContentsPlace Refusal) → r ≡ step_of p e → (q : ContentsPlace) → r ≡ Ok q
     → (q.end ≡ p.end + NODE_BYTES * e.count) × (e.count ≤ MOST_NODES)
 unfolding Ends
 passed_ends p e r s q h = subst (Ends p e) (sym s ∙ h) (ends p e)
@@ -62,14 +61,14 @@ module _ (entries : List ℕ) (lists : ℕ) (n : lists ≡ length entries / WANT
 
   module _ (index : ℕ) (p : ContentsPlace) (l : Passed entries lists index p) where
     module _ (h : index < lists) (w : Wanted) (q : w ≡ get_or (wanted entries) index (want 0 0))
-        (r : Step) (s : r ≡ step_of p (entry w.tag p.end w.count)) where
+        (r : Result ContentsPlace Refusal) (s : r ≡ step_of p (entry w.tag p.end w.count)) where
       next : Left p (entry w.tag p.end w.count ∷ laid_out (p.end + NODE_BYTES * w.count) (drop (index + 1) (wanted entries)))
           (start_of lists) (contents_for (wanted entries))
       unfolding laid_out
       next = subst (λ ws. Left p (laid_out p.end ws) (start_of lists) (contents_for (wanted entries)))
           (wanted_from entries index (omega arith) w q) l.left
 
-      one_more : (reached : ContentsPlace) → r ≡ Reached reached → Passed entries lists (index + 1) reached
+      one_more : (reached : ContentsPlace) → r ≡ Ok reached → Passed entries lists (index + 1) reached
       one_more reached k =
           let e = passed_ends p (entry w.tag p.end w.count) r s reached k in
           let far = l.most in
@@ -80,11 +79,11 @@ module _ (entries : List ℕ) (lists : ℕ) (n : lists ≡ length entries / WANT
                 (sym e.0) on;
           }
 
-      stopped : (answer : ℕ) → r ≡ Refused answer → Kept (start_of (length entries / WANTED_WORDS)) (contents_for (wanted entries)) r
-      stopped answer k =
-          rw (← n) (kept_stop (start_of lists) (contents_for (wanted entries)) p (entry w.tag p.end w.count) _ next r s answer k)
+      stopped : (refusal : Refusal) → r ≡ Err refusal → Kept (start_of (length entries / WANTED_WORDS)) (contents_for (wanted entries)) r
+      stopped refusal k =
+          rw (← n) (kept_stop (start_of lists) (contents_for (wanted entries)) p (entry w.tag p.end w.count) _ next r s refusal k)
 
-    all_passed : lists ≤ index → Kept (start_of (length entries / WANTED_WORDS)) (contents_for (wanted entries)) (Reached p)
+    all_passed : lists ≤ index → Kept (start_of (length entries / WANTED_WORDS)) (contents_for (wanted entries)) (Ok p)
     unfolding laid_out
     all_passed h =
         let c = length_wanted entries in
@@ -93,27 +92,25 @@ module _ (entries : List ℕ) (lists : ℕ) (n : lists ≡ length entries / WANT
         (subst (λ ws. Left p (laid_out p.end ws) (start_of lists) (contents_for (wanted entries))) none l.left))
 
 pub loop-index-init : goal.loop-index-init
-loop-index-init c = (zero-le, starts c.args.entries.now _ c.wanted_count-lists.ensures _ c.start_of-place.ensures)
+loop-index-init c = starts c.args.entries.now _ c.wanted_count-lists.ensures _ c.start_of-place.ensures
 
-pub overflow_cast-place : goal.overflow_cast-place
+pub overflow_cast-entry : goal.overflow_cast-entry
 unfolding contents_end
-overflow_cast-place c = search rules
+overflow_cast-entry c = search rules
 
 pub returns-in_default : goal.returns-in_default
 returns-in_default c =
     let l = c.loop-index in
-    stopped c.args.entries.now _ c.wanted_count-lists.ensures l.index l.place l.invariant.1 (omega arith)
+    stopped c.args.entries.now _ c.wanted_count-lists.ensures l.index l.place l.invariant (omega arith)
     _ c.wanted_at-wanted.ensures _ c.pass_entry-step.ensures _ c.in_default.is
 
 pub loop-index-preserved : goal.loop-index-preserved
 loop-index-preserved c =
-    let l = c.loop-index in (
-      omega arith,
-      one_more c.args.entries.now _ c.wanted_count-lists.ensures l.index l.place l.invariant.1 (omega arith)
-          _ c.wanted_at-wanted.ensures _ c.pass_entry-step.ensures _ c.in-Reached.is,
-    )
+    let l = c.loop-index in
+    one_more c.args.entries.now _ c.wanted_count-lists.ensures l.index l.place l.invariant (omega arith)
+    _ c.wanted_at-wanted.ensures _ c.pass_entry-step.ensures _ c.in-Ok.is
 
 pub returns : goal.returns
 returns c =
     let l = c.loop-index in
-    all_passed c.args.entries.now _ c.wanted_count-lists.ensures l.index l.place l.invariant.1 (omega arith)
+    all_passed c.args.entries.now _ c.wanted_count-lists.ensures l.index l.place l.invariant (omega arith)

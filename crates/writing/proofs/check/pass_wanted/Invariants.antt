@@ -1,6 +1,6 @@
--- The invariant and the measure of `pass_wanted`; Answers.antt says why they hold.
+-- The invariant of `pass_wanted`; Answers.antt says why it holds.
 use mathlib.Core.List.{List}
-use Prim.Native.Nat.{ℕ, ◌+◌, ◌*◌, ◌-◌, ◌≤◌}
+use Prim.Native.Nat.{ℕ, ◌+◌, ◌*◌, ◌≤◌}
 use lib.ListN.{drop}
 use Rattle.contents.specs.declared.step.ContentsPlace.{ContentsPlace}
 use Rattle.contents.specs.Contents.{contents_end}
@@ -15,7 +15,4 @@ pub record Passed (entries : List ℕ) (lists index : ℕ) (p : ContentsPlace) :
   pub left : Left p (laid_out p.end (drop index (wanted entries))) (start_of lists) (contents_for (wanted entries))
 
 abbrev pub invariant-loop-index : goal.invariant-loop-index
-invariant-loop-index l = (l.index ≤ l.lists) × Passed l.entries l.lists l.index l.place
-
-abbrev pub decreases-loop-index : goal.decreases-loop-index
-decreases-loop-index l = l.lists - l.index
+invariant-loop-index l = Passed l.entries l.lists l.index l.place

@@ -1,13 +1,12 @@
 -- Function: `put_contents` (src/put.rt).
 -- Why it holds: At each turn the entries still to be stored complete the whole. Each turn stores
 -- the first of them, and the next body starts where the last ended.
--- Measure: `lists - index`, the entries still to store.
 -- What would break it: An offset that doesn't move on with the bodies, or an entry stored one place
 -- off, would be caught at the next turn.
 use borrow.Author.Rules.{rules}
 use mathlib.Core.Path.{◌≡◌, refl, sym, ap, ◌∙◌}
 use mathlib.Core.List.{List, ◌∷◌, flat_map}
-use Prim.Native.Nat.{ℕ, ◌+◌, ◌*◌, ◌/◌, ◌≤◌, ◌<◌, zero-le}
+use Prim.Native.Nat.{ℕ, ◌+◌, ◌*◌, ◌/◌, ◌≤◌, ◌<◌}
 use native.Mathlib.Omega.{arith}
 use lib.ListN.{length, get_or, drop, drop_of_length-le}
 use lib.Seq.{sets, length-sets}
@@ -68,7 +67,7 @@ ends entries out₀ out lists end₀ start n e room s h =
     ∙ sets_written (words_in bytes_of (length (wanted entries) ∷ words_in entry_numbers (contents_for (wanted entries)))) out₀ (omega arith)
 
 pub loop-index-init : goal.loop-index-init
-loop-index-init c = (zero-le, starts _ _ _)
+loop-index-init c = starts _ _ _
 
 pub overflow_cast-end : goal.overflow_cast-end
 unfolding contents_end
@@ -84,15 +83,15 @@ loop-index-preserved c =
     let entries = c.args.entries.now in
     let q = c.wanted_at-wanted.ensures in
     let w = wanted_at entries l.index (omega arith) _ q (λ w. w.count ≤ MOST_NODES) c.requires.1 in
-    (omega arith, one_more entries _ _ l.index l.end l.out l.invariant.1 _ _ (omega arith) w q c.put_entry.ensures)
+    one_more entries _ _ l.index l.end l.out l.invariant _ _ (omega arith) w q c.put_entry.ensures
 
 pub shape_of-out : goal.shape_of-out
 shape_of-out c =
-    c.loop-index.invariant.1.same ∙ ap length c.put_number.ensures ∙ length_put _ _ _ (omega arith)
+    c.loop-index.invariant.same ∙ ap length c.put_number.ensures ∙ length_put _ _ _ (omega arith)
 
 pub returns : goal.returns
 returns c =
     let l = c.loop-index in
     let a = c.args in
     ends a.entries.now a.out.now l.out _ _ _ c.wanted_count-lists.ensures c.contents_end-end.ensures
-    (omega arith) c.put_number.ensures (all_stored _ _ _ l.index l.end l.out l.invariant.1 (omega arith))
+    (omega arith) c.put_number.ensures (all_stored _ _ _ l.index l.end l.out l.invariant (omega arith))

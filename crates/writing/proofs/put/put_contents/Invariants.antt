@@ -1,7 +1,7 @@
--- The invariant and the measure of `put_contents`; Answers.antt says why they hold.
+-- The invariant of `put_contents`; Answers.antt says why it holds.
 use mathlib.Core.Path.{◌≡◌}
 use mathlib.Core.List.{List}
-use Prim.Native.Nat.{ℕ, ◌+◌, ◌*◌, ◌-◌, ◌≤◌}
+use Prim.Native.Nat.{ℕ, ◌+◌, ◌*◌, ◌≤◌}
 use lib.ListN.{length, drop}
 use lib.Seq.{sets}
 use Rattle.writing.specs.Wanted.{wanted}
@@ -16,7 +16,4 @@ pub record Puts (entries out₀ : List ℕ) (end₀ index end : ℕ) (out : List
   pub whole : sets out (4 * (1 + 3 * index)) (laid_bytes end (drop index (wanted entries))) ≡ sets out₀ 4 (laid_bytes end₀ (wanted entries))
 
 abbrev pub invariant-loop-index : goal.invariant-loop-index
-invariant-loop-index l = (l.index ≤ l.lists) × Puts l.entries l.initial.out l.initial.end l.index l.end l.out
-
-abbrev pub decreases-loop-index : goal.decreases-loop-index
-decreases-loop-index l = l.lists - l.index
+invariant-loop-index l = Puts l.entries l.initial.out l.initial.end l.index l.end l.out

@@ -1,12 +1,11 @@
 -- Function: `put_numbers` (src/put.rt).
 -- Why it holds: At each turn the words still to be stored complete the whole, and each store takes
 -- the first of them.
--- Measure: `length words - index`, the words still to store.
 -- What would break it: A word stored one place off would be caught at the next turn. A loop that
 -- ends too early would be caught at its return.
 use mathlib.Core.Path.{◌≡◌, refl, sym, ap, ◌∙◌}
 use mathlib.Core.List.{List, ◌∷◌, flat_map}
-use Prim.Native.Nat.{ℕ, ◌+◌, ◌*◌, ◌≤◌, ◌<◌, zero-le}
+use Prim.Native.Nat.{ℕ, ◌+◌, ◌*◌, ◌≤◌, ◌<◌}
 use native.Mathlib.Numerals.{add-one}
 use native.Mathlib.Omega.{arith}
 use lib.ListN.{length, get_or, drop, drop_of_length-le}
@@ -44,22 +43,19 @@ module _ (words out₀ : List ℕ) (from index : ℕ) (out : List ℕ) (p : Puts
       ap (λ ws. sets out (4 * (from + index)) (words_in bytes_of ws)) (sym (drop_of_length-le words {i = index} h)) ∙ p.whole
 
 pub loop-index-init : goal.loop-index-init
-loop-index-init c = (zero-le, starts _ _ _)
+loop-index-init c = starts _ _ _
 
 pub loop-index-preserved : goal.loop-index-preserved
 loop-index-preserved c =
     let l = c.loop-index in
-    let a = c.args in (
-      omega arith,
-      one_more a.words.now a.out.now a.from l.index l.out l.invariant.1 _ _ (omega arith) (omega arith) refl
-          c.put_number.ensures,
-    )
+    let a = c.args in
+    one_more a.words.now a.out.now a.from l.index l.out l.invariant _ _ (omega arith) (omega arith) refl c.put_number.ensures
 
 pub shape_of-out : goal.shape_of-out
-shape_of-out c = c.loop-index.invariant.1.same
+shape_of-out c = c.loop-index.invariant.same
 
 pub returns : goal.returns
 returns c =
     let l = c.loop-index in
     let a = c.args in
-    ends a.words.now a.out.now a.from l.index l.out l.invariant.1 (omega arith)
+    ends a.words.now a.out.now a.from l.index l.out l.invariant (omega arith)

@@ -1,7 +1,7 @@
--- The invariant and the measure of `put_numbers`; Answers.antt says why they hold.
+-- The invariant of `put_numbers`; Answers.antt says why it holds.
 use mathlib.Core.Path.{◌≡◌}
 use mathlib.Core.List.{List}
-use Prim.Native.Nat.{ℕ, ◌+◌, ◌*◌, ◌-◌, ◌≤◌}
+use Prim.Native.Nat.{ℕ, ◌+◌, ◌*◌}
 use lib.ListN.{length, drop}
 use lib.Seq.{sets}
 use Rattle.answers.specs.Output.{words_in}
@@ -15,7 +15,4 @@ pub record Puts (words : List ℕ) (out₀ : List ℕ) (from index : ℕ) (out :
   pub whole : sets out (4 * (from + index)) (words_in bytes_of (drop index words)) ≡ sets out₀ (4 * from) (words_in bytes_of words)
 
 abbrev pub invariant-loop-index : goal.invariant-loop-index
-invariant-loop-index l = (l.index ≤ length l.words) × Puts l.words l.initial.out l.from l.index l.out
-
-abbrev pub decreases-loop-index : goal.decreases-loop-index
-decreases-loop-index l = length l.words - l.index
+invariant-loop-index l = Puts l.words l.initial.out l.from l.index l.out

@@ -10,7 +10,10 @@ use Prim.Native.Nat.{ℕ, ◌+◌, ◌*◌, ◌/◌, ◌≤◌, ◌<◌}
 use native.Mathlib.Omega.{arith}
 use lib.ListN.{length, length-append}
 use lib.Seq.{sets}
+use Rattle.std.proofs.lemmas.Result.{err_from_is_err_and}
 use Rattle.answers.specs.Answer.{TAKEN, ROOM}
+use Rattle.answers.specs.Refusal.{verdict_of}
+use Rattle.answers.proofs.RefusalLaws.{never_taken}
 use Rattle.nodes.specs.Words.{nodes}
 use Rattle.answers.specs.Output.{words_in, written}
 use Rattle.nodes.proofs.WordLaws.{length_nodes, words_of_nodes}
@@ -90,38 +93,37 @@ module _ (entries list : List ℕ) (v : Verdict) (q : v ≡ check_wanted entries
         let w = write_taken entries list out was_taken (omega arith) in
         record { answer = c ∙ (λ k. counted taken (sym s k)) ∙ sym w.0; output = e ∙ sym w.1 }
 
-pub returns-then-verdict-ne-TAKEN : goal.returns-then-verdict-ne-TAKEN
-returns-then-verdict-ne-TAKEN c =
+pub returns-in_err-check_wanted : goal.returns-in_err-check_wanted
+returns-in_err-check_wanted c =
     let a = c.args in
-    refused a.entries.now a.list.now _ c.check_wanted-verdict.ensures _ c.if-verdict-ne-TAKEN.true
+    let p = err_from_is_err_and c.from_residual.result c.from_residual.ensures.1 in
+    rw (p.1, p.2) (refused a.entries.now a.list.now _ c.in_err-check_wanted.ensures _ (never_taken c.in_err-check_wanted.field-0.0.refusal))
 
 pub overflow_cast-lists : goal.overflow_cast-lists
 overflow_cast-lists c =
     let a = c.args in
-    let m = few a.entries.now a.list.now _ c.check_wanted-verdict.ensures c.if-verdict-ne-TAKEN.false in
+    let m = few a.entries.now a.list.now _ c.in_ok-check_wanted.ensures refl in
     search rules
 
 pub overflow_add-size : goal.overflow_add-size
 unfolding contents_end
 overflow_add-size c =
     let a = c.args in
-    let m = few a.entries.now a.list.now _ c.check_wanted-verdict.ensures c.if-verdict-ne-TAKEN.false in
+    let m = few a.entries.now a.list.now _ c.in_ok-check_wanted.ensures refl in
     search rules
 
 pub returns-then-out-size : goal.returns-then-out-size
 returns-then-out-size c =
     let a = c.args in
-    let q = c.check_wanted-verdict.ensures in
-    let t = c.if-verdict-ne-TAKEN.false in
-    let size = sized a.entries.now a.list.now _ q t _ _ _ c.wanted_count-lists.ensures c.contents_end.ensures refl in
-    no_room a.entries.now a.list.now _ q t _ _ _ size (omega arith) c.wrote_nothing.ensures
+    let q = c.in_ok-check_wanted.ensures in
+    let size = sized a.entries.now a.list.now _ q refl _ _ _ c.wanted_count-lists.ensures c.contents_end.ensures refl in
+    no_room a.entries.now a.list.now _ q refl _ _ _ size (omega arith) (ap (λ f. counted (verdict_of f) 0) c.into.ensures)
 
 pub put_contents-requires : goal.put_contents-requires
 unfolding contents_end
 put_contents-requires c =
     let a = c.args in
-    let q = c.check_wanted-verdict.ensures in
-    let good = faultless a.entries.now a.list.now _ q c.if-verdict-ne-TAKEN.false in
+    let good = faultless a.entries.now a.list.now _ c.in_ok-check_wanted.ensures refl in
     (wanted_few a.entries.now (nodes a.list.now) good, wanted_short (wanted a.entries.now) (nodes a.list.now) good, omega arith)
 
 pub put_numbers-requires : goal.put_numbers-requires
@@ -131,9 +133,8 @@ put_numbers-requires c = search rules
 pub returns : goal.returns
 returns c =
     let a = c.args in
-    let q = c.check_wanted-verdict.ensures in
-    let t = c.if-verdict-ne-TAKEN.false in
-    let size = sized a.entries.now a.list.now _ q t _ _ _ c.wanted_count-lists.ensures c.contents_end.ensures refl in
-    let made = book_made a.entries.now a.list.now _ q t a.out.now _ _ _ c.wanted_count-lists.ensures (omega arith)
+    let q = c.in_ok-check_wanted.ensures in
+    let size = sized a.entries.now a.list.now _ q refl _ _ _ c.wanted_count-lists.ensures c.contents_end.ensures refl in
+    let made = book_made a.entries.now a.list.now _ q refl a.out.now _ _ _ c.wanted_count-lists.ensures (omega arith)
     c.put_contents.ensures c.put_numbers.ensures in
-    done a.entries.now a.list.now _ q t a.out.now _ _ _ size (omega arith) c.wrote.ensures made
+    done a.entries.now a.list.now _ q refl a.out.now _ _ _ size (omega arith) refl made
