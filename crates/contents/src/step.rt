@@ -44,11 +44,13 @@ pub fn pass_entry(place: ContentsPlace, entry: Entry) -> Result<ContentsPlace, R
     })
 }
 
-// Checks that the last body ends with a book of `size` bytes, where a walk along its contents ended
-// at `place`. The refusal is Contents.
-pub fn check_end(place: ContentsPlace, size: usize) -> Result<(), Refusal>
-    ensures { answer_in result ≡ step_answer (Ok place) size }
+// Checks the end of a walk along the contents of a book of `size` bytes. `step` is its last step. A
+// refusal is returned as it is. At a place the last body has to end with the book, or else the
+// refusal is Contents.
+pub fn check_end(step: Result<ContentsPlace, Refusal>, size: usize) -> Result<(), Refusal>
+    ensures { answer_in result ≡ step_answer step size }
 {
+    let place = step?;
     if place.end != size {
         return Err(Refusal::Contents);
     }

@@ -8,7 +8,6 @@ use answers::verdict::Counted;
 use contents::entry::{MOST_LISTS, contents_end, entry_at, entry_count};
 use numbers::little::{NUMBER_BYTES, number_at};
 use numbers::part::{copy_numbers, part_of};
-use std::io;
 use std::io::Stdout;
 use writing::write::write_book;
 
@@ -51,53 +50,51 @@ fn is_painted(bytes: &[u8]) -> bool {
 }
 
 // Prints the answer `written`, and says if a byte of `out` beyond what was written has changed.
-fn say_written(stdout: Stdout, written: Result<usize, Fault>, out: &[u8]) -> io::Result<()> {
+fn say_written(stdout: Stdout, written: Result<usize, Fault>, out: &[u8]) {
     let Counted { verdict, count } = written.into();
     let verdict = Printed(verdict);
-    print!(stdout; "written {verdict} bytes {count}")?;
+    let _ = print!(stdout; "written {verdict} bytes {count}");
     if !is_painted(part_of(out, count, out.len())) {
-        print!(stdout; ", altered beyond")?;
+        let _ = print!(stdout; ", altered beyond");
     }
-    Ok(())
 }
 
 // Prints what writing into `out`, which is too short, answers, and says if a byte of it has
 // changed.
-fn say_short(stdout: Stdout, entries: &[u32], list: &[u32], out: &mut [u8]) -> io::Result<()> {
+fn say_short(stdout: Stdout, entries: &[u32], list: &[u32], out: &mut [u8]) {
     let written = Counted::from(write_book(entries, list, out));
     let answer = Named(written.verdict.answer);
-    print!(stdout; "; in one byte less {answer}")?;
+    let _ = print!(stdout; "; in one byte less {answer}");
     if !is_painted(out) {
-        print!(stdout; ", altered")?;
+        let _ = print!(stdout; ", altered");
     }
-    Ok(())
 }
 
 // Writes a book of `size` bytes into an output of one byte less, and prints what comes of it.
-fn write_short(stdout: Stdout, entries: &[u32], list: &[u32], size: usize) -> io::Result<()> {
+fn write_short(stdout: Stdout, entries: &[u32], list: &[u32], size: usize) {
     let mut out = [PAINT; OUTPUT_BYTES];
     if size == 0 || OUTPUT_BYTES < size {
-        return Ok(());
+        return;
     }
-    say_short(stdout, entries, list, &mut out[..size - 1])
+    say_short(stdout, entries, list, &mut out[..size - 1]);
 }
 
 // Writes the book of `entries` and `list`, and prints what comes of it and whether it is `book`
 // again.
-fn write_and_say(stdout: Stdout, book: &[u8], entries: &[u32], list: &[u32]) -> io::Result<()> {
+fn write_and_say(stdout: Stdout, book: &[u8], entries: &[u32], list: &[u32]) {
     let mut out = [PAINT; OUTPUT_BYTES];
     let written = write_book(entries, list, &mut out);
-    say_written(stdout, written, &out)?;
+    say_written(stdout, written, &out);
     if let Ok(size) = written {
         let again = book == part_of(&out, 0, size);
-        print!(stdout; "{}", if again { ", as read" } else { ", not as read" })?;
-        write_short(stdout, entries, list, size)?;
+        let _ = print!(stdout; "{}", if again { ", as read" } else { ", not as read" });
+        write_short(stdout, entries, list, size);
     }
-    println!(stdout; "")
+    let _ = println!(stdout; "");
 }
 
 // Writes the parts of `book` anew: the entries of its contents and the numbers after them.
-pub(crate) fn write_parts(stdout: Stdout, book: &[u8]) -> io::Result<()> {
+pub(crate) fn write_parts(stdout: Stdout, book: &[u8]) {
     let mut entries = [0u32; 2 * MOST_ENTRIES];
     let mut list = [0u32; MOST_WORDS];
     let count = taken_over(book);
@@ -106,13 +103,13 @@ pub(crate) fn write_parts(stdout: Stdout, book: &[u8]) -> io::Result<()> {
     copy_numbers(rest, &mut list);
     let words = rest.len() / NUMBER_BYTES;
     if MOST_WORDS < words {
-        return Ok(());
+        return;
     }
-    write_and_say(stdout, book, &entries[..2 * count], &list[..words])
+    write_and_say(stdout, book, &entries[..2 * count], &list[..words]);
 }
 
 // Writes a book of three words of entries, which make no whole entries.
-pub(crate) fn write_odd(stdout: Stdout) -> io::Result<()> {
-    println!(stdout; "== entries of three words")?;
-    write_and_say(stdout, b"", &[2, 0, 3], &[])
+pub(crate) fn write_odd(stdout: Stdout) {
+    let _ = println!(stdout; "== entries of three words");
+    write_and_say(stdout, b"", &[2, 0, 3], &[]);
 }

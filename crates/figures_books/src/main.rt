@@ -19,7 +19,7 @@ use readers::reader::body_in;
 use std::env::FillError;
 use std::io::{Read, Stdout};
 use std::rt::{Env, Files};
-use std::{fs, io, str};
+use std::{fs, str};
 
 // The number of bytes of a book that there is room for.
 const MOST_BYTES: usize = 65600;
@@ -33,35 +33,34 @@ fn is_agreed(book: &[u8], tag: u32, by_tag: Found, by_place: Found) -> bool {
 
 // Prints where the list at `position` lies when it is looked for by its tag. Says so if it lies
 // elsewhere by its place or in the reader.
-fn say_list(stdout: Stdout, book: &[u8], position: usize) -> io::Result<()> {
+fn say_list(stdout: Stdout, book: &[u8], position: usize) {
     let tag = entry_at(book, position).tag;
     let by_tag = Found::from(find_tag(book, tag));
     let by_place = Found::from(find_list(book, position));
-    print!(stdout; "tag {tag} from {} bytes {}", by_tag.from, by_tag.bytes)?;
+    let _ = print!(stdout; "tag {tag} from {} bytes {}", by_tag.from, by_tag.bytes);
     if !is_agreed(book, tag, by_tag, by_place) {
-        print!(stdout; ", elsewhere by its place")?;
+        let _ = print!(stdout; ", elsewhere by its place");
     }
-    println!(stdout; "")
+    let _ = println!(stdout; "");
 }
 
 // Prints where each of the `lists` of `book` lies.
-fn say_lists(stdout: Stdout, book: &[u8], lists: u32) -> io::Result<()> {
+fn say_lists(stdout: Stdout, book: &[u8], lists: u32) {
     for position in 0..lists as usize {
-        say_list(stdout, book, position)?;
+        say_list(stdout, book, position);
     }
-    Ok(())
 }
 
-// Runs the case of `book`, which the file `name` holds.
-fn run_case(stdout: Stdout, name: &str, book: &[u8]) -> io::Result<()> {
-    println!(stdout; "== {name}: {} bytes", book.len())?;
+// Runs the case of `book`, which the file `name` holds. Where standard output can't be written, the
+// rest of the run goes on all the same.
+fn run_case(stdout: Stdout, name: &str, book: &[u8]) {
+    let _ = println!(stdout; "== {name}: {} bytes", book.len());
     let Opened { verdict, lists } = check_book(book).into();
     let verdict = Printed(verdict);
-    println!(stdout; "read {verdict} lists {lists}")?;
-    say_lists(stdout, book, lists)?;
-    write_parts(stdout, book)?;
+    let _ = println!(stdout; "read {verdict} lists {lists}");
+    say_lists(stdout, book, lists);
+    write_parts(stdout, book);
     let _ = print_book(stdout, book);
-    Ok(())
 }
 
 // Reads until `buffer` is full, the input ends or a read fails, and returns how many bytes that
@@ -83,33 +82,35 @@ fn read_full(input: &mut impl Read, buffer: &mut [u8]) -> usize
 }
 
 // Runs the case of the book `name`, which `input` reads.
-fn read_case(stdout: Stdout, input: &mut impl Read, name: &str) -> io::Result<()> {
+fn read_case(stdout: Stdout, input: &mut impl Read, name: &str) {
     let mut book = [0u8; MOST_BYTES];
     let length = read_full(input, &mut book);
-    run_case(stdout, name, &book[..length])
+    run_case(stdout, name, &book[..length]);
 }
 
 // Runs the case of the book that the file `name` holds, or says on standard error why it can't be
 // opened.
-fn run_file(rt: &(impl Eprint + Files), stdout: Stdout, name: &str) -> io::Result<()> {
+fn run_file(rt: &(impl Eprint + Files), stdout: Stdout, name: &str) {
     match fs::open(rt, name) {
         Ok(mut file) => read_case(stdout, &mut file, name),
-        Err(error) => eprintln!(rt; "{name}: {error}"),
+        Err(error) => {
+            let _ = eprintln!(rt; "{name}: {error}");
+        }
     }
 }
 
 // Runs the case of the book that the argument at `index` names. Returns whether there is such an
-// argument. Where standard output can't be written, the next case is run all the same.
+// argument.
 // By hand: `env::args` makes a String of each argument, which wants a heap.
 fn run_argument(rt: &(impl Env + Eprint + Files), stdout: Stdout, index: usize) -> bool {
     let mut path = [0u8; 4096];
     match rt.arg(index, &mut path) {
         Ok(length) => {
-            let _ = run_file(rt, stdout, str::from_utf8(&path[..length]).unwrap_or(""));
+            run_file(rt, stdout, str::from_utf8(&path[..length]).unwrap_or(""));
             true
         }
         Err(FillError::TooLong) => {
-            let _ = run_file(rt, stdout, "");
+            run_file(rt, stdout, "");
             true
         }
         Err(FillError::NotPresent) => false,
@@ -123,5 +124,5 @@ fn main(rt: HostRuntime) {
             break;
         }
     }
-    let _ = write_odd(rt.stdout());
+    write_odd(rt.stdout());
 }

@@ -29,7 +29,7 @@ use Rattle.books.specs.Book.{body_of, list_at, book_verdict}
 use Rattle.books.specs.Find.{tag_at, has_tag, tag_entry, tag_body}
 use Rattle.books.proofs.FindLaws.{book_faultless, tag_body_at}
 use Rattle.joins.specs.declared.copy.Lengths.{Lengths}
-use Rattle.joins.specs.Join.{tag_words, lengths, refused, thereb, fitb, copy_answer, lengths_of, first_after, second_after, ancestors_in, descendants_in}
+use Rattle.joins.specs.Join.{tag_words, lengths, refused, thereb, fitb, copy_answer, lengths_of, first_after, second_after}
 
 module _ (book : List ℕ) (good : (book_verdict book).answer ≡ TAKEN) where
   -- Under a list's tag are its words, at most as many as the longest list has.
@@ -102,13 +102,6 @@ module _ (book : List ℕ) (good : (book_verdict book).answer ≡ TAKEN) where
           le-leb (length (under ancestors)) (length first) (omega arith),
           le-leb (length (under descendants)) (length second) (omega arith),
         ) (refl, refl, refl)
-
-    -- So the words copied are the lists'.
-    words_copied : (take (ancestors_in (copy_of (lists_in book) lengths_of)) (copy_of (lists_in book) first_after) ≡ under ancestors)
-        × (take (descendants_in (copy_of (lists_in book) lengths_of)) (copy_of (lists_in book) second_after) ≡ under descendants)
-    words_copied =
-        rw (lists_copied.0, lists_copied.1, lists_copied.2)
-        (written_begins (under ancestors) first, written_begins (under descendants) second)
 
     -- What a caller knows who was told `lists`, the number of lists, and was answered `l`.
     module _ (lists : ℕ) (own : lists ≡ lists_in book) (l : Lengths) (e : Ok l ≡ copy_of lists lengths_of) where

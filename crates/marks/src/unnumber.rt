@@ -3,7 +3,7 @@ ghost use Rattle.std.specs.Prelude.{◌≡◌, ◌||◌, ◌/◌, ◌≤◌, ◌
 ghost use Rattle.laws.specs.Choose.{All};
 ghost use Rattle.nodes.specs.Node.{MOST_LEVELS};
 ghost use Rattle.answers.specs.Output.{written};
-ghost use Rattle.marks.specs.Back.{numberedb, tagged};
+ghost use Rattle.marks.specs.Back.{same_rowb, numberedb, tagged};
 ghost use Rattle.marks.specs.Mark.{CLOSE, textb};
 ghost use Rattle.marks.specs.Outcome.{unnumbered_in, unnumber_outcome, unnumber_output};
 ghost use Rattle.marks.specs.Table.{ROW_WORDS, rows};
@@ -11,7 +11,7 @@ ghost use Rattle.marks.specs.Private.Walk.{mark_here, fitsb, SteppedBack, all_re
 
 use crate::back::{before_node, keep_close, open_before, row_here};
 use crate::mark::{CLOSE, MarkPlace, TEXT, check_mark};
-use crate::row::{check_rows, row_at, row_count};
+use crate::row::{Row, check_rows, row_at, row_count};
 use answers::answer::TAKEN;
 use answers::refusal::Refusal;
 use nodes::node::{MOST_LEVELS, MOST_NODES};
@@ -52,6 +52,13 @@ impl From<Result<Marked, Refusal>> for Unnumbered {
     }
 }
 
+// Returns whether two rows are identical in all five words.
+fn is_same_row(x: Row, y: Row) -> bool
+    ensures { result ≡ same_rowb x y }
+{
+    x == y
+}
+
 // Returns the mark at `position`, as the last of the first `count` rows tells: its tag where it
 // starts there, else a close.
 fn mark_here(table: &[u32], count: usize, position: u32) -> u32
@@ -90,7 +97,10 @@ fn is_fitting(
 {
     is_opened(place.depth, mark)
         && check_mark(position as usize, open_before(place.depth, mark), mark).is_ok()
-        && row_here(document, position, closes, place.depth, mark) == row_at(table, place.rows - 1)
+        && is_same_row(
+            row_here(document, position, closes, place.depth, mark),
+            row_at(table, place.rows - 1),
+        )
 }
 
 // Steps back over the mark at `position` and returns the place before it, or nothing where the mark

@@ -45,10 +45,18 @@ pub fn is_one_deeper(y: Node, x: Node) -> bool
 }
 
 // Returns whether `y` stands after `x`: in a later document, or later in the same one.
+// By hand: `<` of two tuples costs five instructions a pair more in a listing, and misses a bar.
+#[tactic(auto, unfolding(crate::specs::Node::afterb))]
 pub fn is_after(y: Node, x: Node) -> bool
     ensures { result ≡ afterb y x }
 {
-    (x.document, x.start) < (y.document, y.start)
+    if x.document < y.document {
+        return true;
+    }
+    if y.document != x.document {
+        return false;
+    }
+    x.start < y.start
 }
 
 // Returns whether `e` is open at `n`: it is of the document of `n` and doesn't end before `n`

@@ -47,6 +47,17 @@ after_later ws taken j m h l =
     let w = t.0 in
     (every_two_at Fine (nodes ws) (j / 4) (m / 4) (node 0 0 0 0) h (omega (arith, length_nodes ws)) t.3).after
 
+-- For a fresh place no leader is served, so a sweep begins with the first leader and all its
+-- followers.
+none_served : (ns : List Node) → 0 ≡ served_in Fresh ns
+unfolding served_in servedb first_at
+none_served [] = refl
+none_served (n ∷ ns) = refl
+
+pub started_fresh : (place : Place) (ws : List ℕ) → place ≡ Fresh → Started place ws 0 0
+unfolding past_from
+started_fresh place ws q = rw q (none_served (nodes ws), refl)
+
 module _ (place : Place) (ws : List ℕ) where
   pub started : (first past : ℕ) (x : Node) → first ≡ served_in place (nodes ws) → x ≡ node_at ws first → past ≡ past_from place x
       → Started place ws first past

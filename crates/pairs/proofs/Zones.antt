@@ -10,7 +10,7 @@ use Prim.Native.Nat.{ℕ, zero, suc, ◌+◌, ◌-◌, ◌/◌, ◌%◌, ◌≤�
 use native.Mathlib.Omega.{arith}
 use lib.Dec.{leb}
 use lib.ListN.{length, take, drop, take-append-drop}
-use lib.Seq.{drop-drop, drop-nil}
+use lib.Seq.{drop-drop}
 use borrow.Author.Tests.{le-leb, leb-true}
 use Rattle.nodes.specs.declared.node.Node.{Node}
 use Rattle.answers.specs.Answer.{TAKEN}
@@ -38,11 +38,11 @@ use Rattle.paging.specs.Page.{remains}
 use Rattle.laws.proofs.First.{first_in, first_failed, first_from, first_earlier}
 use Rattle.tickets.proofs.Places.{Past}
 use Rattle.tickets.proofs.Groups.{rest_of, group_past}
-use Rattle.pairs.specs.Private.Sweep.{Placed, Running, runningb, run_end, stretch, starts_from, from_start, served_group}
+use Rattle.pairs.specs.Private.Sweep.{Placed, Running, run_end, stretch, starts_from, from_start, served_group}
 use Rattle.pairs.proofs.Accepted.{accepted}
 use Rattle.pairs.proofs.Children.{node_pair, even_at}
 use Rattle.pairs.proofs.ListingGroups.{rising, matches_rise, rest_group}
-use Rattle.pairs.proofs.Running.{first_after_lem, match_append, match_after, running_run, running_from, run_stops, end_from, end_in, none_match}
+use Rattle.pairs.proofs.Running.{first_after_lem, match_append, match_after, running_run, running_from, end_from, end_in, none_match}
 use Rattle.pairs.proofs.Stretches.{stretch_ahead, ahead_in, served_as}
 
 every_two_take : (R : Node → Node → Type 0) (n : ℕ) (xs : List Node) → EveryTwo R xs → EveryTwo R (take n xs)

@@ -35,11 +35,15 @@ struct Lines {
     bytes: usize,
 }
 
-// Prints the line of `refusal`. Where standard output can't be written, nothing more is tried.
-pub(crate) fn print_refusal(stdout: Stdout, refusal: Refusal) {
+// Prints the line of `refusal`, and returns `refusal`. Where standard output can't be written,
+// nothing more is tried.
+pub(crate) fn print_refusal(stdout: Stdout, refusal: Refusal) -> Refusal
+    ensures { result ≡ refusal }
+{
     let mut text = [0u8; NOTE_BYTES];
     let bytes = put_refusal(refusal.into(), &mut text);
     let _ = stdout.write_all(&text[..bytes]);
+    refusal
 }
 
 // Prints the last line, with `count`, the number of all pairs.

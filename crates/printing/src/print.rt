@@ -58,9 +58,8 @@ fn print_lists(stdout: Stdout, book: &[u8]) -> Result<(), Refusal>
 pub fn print_book(stdout: Stdout, book: &[u8]) -> Result<(), Refusal>
     ensures { answer_in result ≡ printed_answer book.now }
 {
-    let printed = print_lists(stdout, book);
-    if let Err(refusal) = printed {
-        print_refusal(stdout, refusal);
+    if let Err(refusal) = print_lists(stdout, book) {
+        return Err(print_refusal(stdout, refusal));
     }
-    printed
+    Ok(())
 }

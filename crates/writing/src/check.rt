@@ -55,7 +55,7 @@ fn check_entries(entries: &[u32], list: &[u32]) -> Result<(), Refusal>
         return Err(Refusal::Contents);
     }
     let size = contents_end(lists as u32) + NUMBER_BYTES * list.len();
-    check_end(pass_wanted(entries)?, size)
+    check_end(pass_wanted(entries), size)
 }
 
 // Checks the bodies and returns the fault of the first one that isn't accepted. The counts add up

@@ -9,8 +9,7 @@ use mathlib.Core.List.{List}
 use Prim.Native.Nat.{ℕ, ◌≤◌, ◌<◌}
 use native.Mathlib.Omega.{arith}
 use lib.ListN.{length, take}
-use Rattle.std.specs.Prelude.{Result, Ok, Err}
-use Rattle.std.proofs.lemmas.Result.{err_from_is_err_and}
+use Rattle.std.specs.Prelude.{Result}
 use Rattle.answers.specs.declared.refusal.Refusal.{Refusal}
 use Rattle.answers.specs.Answer.{CONTENTS}
 use Rattle.numbers.specs.Little.{number_at}
@@ -45,12 +44,7 @@ returns-then-lists-gt-MOST_LISTS c =
           too_short _ _ c.number_at-lists.ensures _ w.contents_end.ensures (omega arith)
     ]
 
-pub returns-in_err-pass_contents : goal.returns-in_err-pass_contents
-returns-in_err-pass_contents c =
-    let p = err_from_is_err_and c.from_residual.result c.from_residual.ensures.1 in
-    rw (p.1, p.2) (walked _ _ c.number_at-lists.ensures (omega arith) (Err c.in_err-pass_contents.field-0.0) c.in_err-pass_contents.ensures)
-
 pub returns : goal.returns
 returns c =
     c.check_end.ensures
-    ∙ walked _ _ c.number_at-lists.ensures (omega arith) (Ok c.in_ok-pass_contents.field-0) c.in_ok-pass_contents.ensures
+    ∙ walked _ _ c.number_at-lists.ensures (omega arith) c.pass_contents.result c.pass_contents.ensures

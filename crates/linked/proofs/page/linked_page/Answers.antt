@@ -3,7 +3,7 @@
 -- are refused themselves, or the links are wrong.
 -- What would break it: A page handed out for wrong links, or LINKS for refused lists, would be
 -- caught at its return.
-use mathlib.Core.Path.{◌∙◌}
+use borrow.Author.Rules.{rules}
 use Rattle.linked.proofs.Lending.{page_told, page_untold}
 use Rattle.linked.proofs.page.linked_page.Goals as goal
 
@@ -14,4 +14,4 @@ returns-then-are_links c =
 
 pub returns : goal.returns
 returns c =
-    page_untold _ _ _ _ _ _ c.are_links.ensures c.if-are_links.false _ (c.into.ensures ∙ c.refusal.ensures)
+    page_untold _ _ _ _ _ _ c.are_links.ensures c.if-are_links.false _ (search rules)

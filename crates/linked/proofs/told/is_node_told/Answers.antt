@@ -126,34 +126,34 @@ pub returns-then-links-index : goal.returns-then-links-index
 returns-then-links-index c h t =
     let a = c.args in
     let p = c.requires in
-    by_last a.list.now a.links.now a.index p.0 p.1 h t c.if-list-before.true c.if-links-index.true _ c.is_last_told.ensures
+    by_last a.list.now a.links.now a.index p.0 p.1 h t (λ z. omega arith) c.if-links-index.true _ c.is_last_told.ensures
 
 pub returns-else-links-index : goal.returns-else-links-index
 returns-else-links-index c h t =
     let a = c.args in
     let p = c.requires in
-    parent_wrong a.list.now a.links.now a.index p.0 p.1 h t c.if-list-before.true c.if-links-index.false
+    parent_wrong a.list.now a.links.now a.index p.0 p.1 h t (λ z. omega arith) c.if-links-index.false
 
 pub returns-then-links-before : goal.returns-then-links-before
 returns-then-links-before c h t =
     let a = c.args in
     let p = c.requires in
-    by_parent a.list.now a.links.now a.index p.0 p.1 h t c.if-list-before.false c.if-list-index.true c.if-links-before.true
+    by_parent a.list.now a.links.now a.index p.0 p.1 h t (omega arith) (omega arith) c.if-links-before.true
 
 pub returns-else-links-before : goal.returns-else-links-before
 returns-else-links-before c h t =
     let a = c.args in
     let p = c.requires in
-    child_wrong a.list.now a.links.now a.index p.0 p.1 h t c.if-list-before.false c.if-list-index.true c.if-links-before.false
+    child_wrong a.list.now a.links.now a.index p.0 p.1 h t (omega arith) (omega arith) c.if-links-before.false
 
 pub returns-then-links-before-2 : goal.returns-then-links-before-2
 returns-then-links-before-2 c h t =
     let a = c.args in
     let p = c.requires in
-    by_elder a.list.now a.links.now a.index p.0 p.1 h t c.if-list-before.false c.if-list-index.false c.if-links-before-2.true _ c.is_elder_told.ensures
+    by_elder a.list.now a.links.now a.index p.0 p.1 h t (omega arith) (omega arith) c.if-links-before-2.true _ c.is_elder_told.ensures
 
 pub returns-else-links-before-2 : goal.returns-else-links-before-2
 returns-else-links-before-2 c h t =
     let a = c.args in
     let p = c.requires in
-    child_none_wrong a.list.now a.links.now a.index p.0 p.1 h t c.if-list-before.false c.if-list-index.false c.if-links-before-2.false
+    child_none_wrong a.list.now a.links.now a.index p.0 p.1 h t (omega arith) (omega arith) c.if-links-before-2.false

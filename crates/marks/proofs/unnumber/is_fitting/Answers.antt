@@ -4,10 +4,10 @@
 -- through, would be caught at its return.
 use mathlib.Core.Path.{◌≡◌, refl, sym, ◌∙◌}
 use mathlib.Core.Logic.{inl, inr}
-use mathlib.Core.Bool.{true, false, ◌&&◌, ◌||◌}
+use mathlib.Core.Bool.{true, false, ◌||◌}
 use mathlib.Core.List.{List}
 use Prim.Native.Nat.{ℕ, ◌-◌, ◌<◌}
-use lib.Dec.{ltb, eqb}
+use lib.Dec.{ltb}
 use borrow.Author.Tests.{ltb-true, eqb-true, ne_eqb}
 use Rattle.std.specs.Prelude.{Result, Ok, Err, is_ok}
 use Rattle.answers.specs.Answer.{TAKEN}
@@ -15,7 +15,6 @@ use Rattle.answers.specs.Refusal.{answer_in}
 use Rattle.answers.specs.declared.refusal.Refusal.{Refusal}
 use Rattle.answers.proofs.RefusalLaws.{never_taken}
 use Rattle.laws.proofs.Tests.{or_read}
-use Rattle.nodes.specs.Node.{sameb}
 use Rattle.marks.specs.declared.mark.MarkPlace.{MarkPlace}
 use Rattle.marks.specs.declared.row.Row.{Row}
 use Rattle.marks.specs.Back.{same_rowb}
@@ -46,13 +45,6 @@ module _ (rs : List Row) (document position : ℕ) (kept : List ℕ) (q : MarkPl
     compared (Ok _) f k x y ex ey = rw (ne_eqb mark CLOSE n, ← e, ← eb, ← f, ← ex, ← ey) refl
     compared (Err r) f k x y ex ey = cc
 
--- The rows are the same where their words are.
-same_words : (x y : Row)
-    → ((eqb x.node.document y.node.document && (eqb x.node.start y.node.start && (eqb x.node.end y.node.end && eqb x.node.level y.node.level)))
-    && eqb x.tag y.tag) ≡ same_rowb x y
-unfolding same_rowb sameb
-same_words x y = refl
-
 pub open_before-requires : goal.open_before-requires
 open_before-requires c = (c.requires.0, opened _ _ c.if-is_opened.ensures)
 
@@ -67,7 +59,7 @@ row_here-requires c =
 pub returns-then-is_ok : goal.returns-then-is_ok
 returns-then-is_ok c =
     elim c.if-is_opened.branch [
-      | then-is_opened w ↦ c.eq.ensures ∙ same_words _ _
+      | then-is_opened w ↦ c.is_same_row.ensures
           ∙ compared _ _ _ _ _ _ c.requires.0 w.if-is_opened.ensures _ w.open_before.ensures _ w.check_mark.ensures
           (sym w.is_ok.ensures.value ∙ sym w.value-is ∙ c.if-is_ok.true) _ _ c.row_here.ensures c.row_at.ensures
       | else-is_opened w ↦ cc

@@ -4,7 +4,7 @@
 -- anything.
 -- What would break it: A byte written one off would be caught at the last return, and an index too
 -- large at the part that is written.
-use mathlib.Core.Path.{◌≡◌, ◌∙◌}
+use mathlib.Core.Path.{◌≡◌}
 use mathlib.Core.List.{List}
 use Prim.Native.Nat.{ℕ, ◌≤◌}
 use native.Mathlib.Omega.{arith}
@@ -22,4 +22,4 @@ returns-then-number_count-index c = none _ _ _ (omega arith)
 
 pub returns : goal.returns
 unfolding bytes_of
-returns c = part_put _ _ _ _ _ (omega arith) (omega arith) (c.copy_from_slice.ensures.after ∙ c.to_le_bytes.ensures)
+returns c = part_put _ _ _ _ _ (omega arith) (omega arith) (rw (c.copy_from_slice.ensures.after, c.to_le_bytes.ensures))

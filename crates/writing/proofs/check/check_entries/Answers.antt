@@ -12,8 +12,7 @@ use lib.ListN.{length}
 use Rattle.answers.specs.Answer.{CONTENTS}
 use Rattle.nodes.specs.Words.{NODE_WORDS, nodes}
 use Rattle.nodes.proofs.WordLaws.{length_nodes}
-use Rattle.std.specs.Prelude.{Result, Ok, Err}
-use Rattle.std.proofs.lemmas.Result.{err_from_is_err_and}
+use Rattle.std.specs.Prelude.{Result}
 use Rattle.answers.specs.declared.refusal.Refusal.{Refusal}
 use Rattle.contents.specs.declared.step.ContentsPlace.{ContentsPlace}
 use Rattle.contents.specs.Contents.{MOST_LISTS, contents_end}
@@ -57,17 +56,9 @@ pub overflow_add-size : goal.overflow_add-size
 unfolding contents_end
 overflow_add-size c = search rules
 
-pub returns-in_err-pass_wanted : goal.returns-in_err-pass_wanted
-returns-in_err-pass_wanted c =
-    let q = sized c.args.entries.now c.args.list.now _ c.wanted_count-lists.ensures c.requires _ c.contents_end.ensures in
-    let p = err_from_is_err_and c.from_residual.result c.from_residual.ensures.1 in
-    rw (p.1, p.2)
-    (answers c.args.entries.now c.args.list.now _ c.wanted_count-lists.ensures (omega arith) (Err c.in_err-pass_wanted.field-0.0)
-    c.in_err-pass_wanted.ensures _ q)
-
 pub returns : goal.returns
 returns c =
     let q = sized c.args.entries.now c.args.list.now _ c.wanted_count-lists.ensures c.requires _ c.contents_end.ensures in
     c.check_end.ensures
-    ∙ answers c.args.entries.now c.args.list.now _ c.wanted_count-lists.ensures (omega arith) (Ok c.in_ok-pass_wanted.field-0)
-    c.in_ok-pass_wanted.ensures _ q
+    ∙ answers c.args.entries.now c.args.list.now _ c.wanted_count-lists.ensures (omega arith) c.pass_wanted.result
+    c.pass_wanted.ensures _ q
