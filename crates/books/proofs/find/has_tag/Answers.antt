@@ -2,6 +2,8 @@
 -- Why it holds: A tag has an index among the entries exactly where one of them has it.
 -- What would break it: A tag said to be there that no list has, or the other way round, would be
 -- caught at the return.
+use Rattle.std.proofs.Common.{arith}
+use Rattle.std.proofs.lemmas.Bool.Decides.{nat_tests}
 use mathlib.Core.Path.{◌≡◌, refl, ap, ◌∙◌}
 use mathlib.Core.Logic.{inl, inr}
 use mathlib.Core.List.{List}
@@ -26,4 +28,6 @@ there book lists tag =
     indexed tag (take lists (entries_in book)) ∙ first_there (λ e. eqb e.tag tag) (take lists (entries_in book))
 
 pub returns : goal.returns
-returns c = c.is_some.ensures ∙ ap is_some c.tag_at.ensures ∙ there _ _ _
+returns c =
+    let e = c.is_some.ensures ∙ ap is_some c.tag_at.ensures ∙ there c.args.book.now c.args.lists c.args.tag in
+    grind (arith, nat_tests, e)
