@@ -29,7 +29,7 @@ use Rattle.books.specs.Book.{body_of, list_at, book_verdict}
 use Rattle.books.specs.Find.{tag_at, has_tag, tag_entry, tag_body}
 use Rattle.books.proofs.FindLaws.{book_faultless, tag_body_at}
 use Rattle.joins.specs.declared.copy.Lengths.{Lengths}
-use Rattle.joins.specs.Join.{tag_words, lengths, refused, thereb, fitb, copy_answer, lengths_of, first_after, second_after}
+use Rattle.joins.specs.Join.{tag_words, lengths, refused, thereb, fitb, copy_answer, lengths_of, first_after, second_after, ancestors_in, descendants_in}
 
 module _ (book : List ℕ) (good : (book_verdict book).answer ≡ TAKEN) where
   -- Under a list's tag are its words, at most as many as the longest list has.
@@ -103,6 +103,13 @@ module _ (book : List ℕ) (good : (book_verdict book).answer ≡ TAKEN) where
           le-leb (length (under descendants)) (length second) (omega arith),
         ) (refl, refl, refl)
 
+    -- So the words copied are the lists'.
+    words_copied : (take (ancestors_in (copy_of (lists_in book) lengths_of)) (copy_of (lists_in book) first_after) ≡ under ancestors)
+        × (take (descendants_in (copy_of (lists_in book) lengths_of)) (copy_of (lists_in book) second_after) ≡ under descendants)
+    words_copied =
+        rw (lists_copied.0, lists_copied.1, lists_copied.2)
+        (written_begins (under ancestors) first, written_begins (under descendants) second)
+
     -- What a caller knows who was told `lists`, the number of lists, and was answered `l`.
     module _ (lists : ℕ) (own : lists ≡ lists_in book) (l : Lengths) (e : Ok l ≡ copy_of lists lengths_of) where
       own_lengths : l ≡ lengths (length (under ancestors)) (length (under descendants))
@@ -116,9 +123,7 @@ module _ (book : List ℕ) (good : (book_verdict book).answer ≡ TAKEN) where
       -- And the words copied are those that the caller takes.
       pub copies_taken : (f s : List ℕ) → f ≡ copy_of lists first_after → s ≡ copy_of lists second_after
           → (n m : ℕ) → n ≡ l.ancestors → m ≡ l.descendants → (take n f ≡ under ancestors) × (take m s ≡ under descendants)
-      copies_taken f s x y n m u v =
-          rw (u, v, x, y, own, own_lengths, lists_copied.1, lists_copied.2)
-          (written_begins (under ancestors) first, written_begins (under descendants) second)
+      copies_taken f s x y n m u v = rw (u, v, x, y, ap ancestors_in e, ap descendants_in e, own) words_copied
 
 -- If one of the tags isn't there, no word is copied, and the answer is ABSENT, which names no list
 -- and no node.
